@@ -10,7 +10,7 @@ use Rattle.triple_ord.specs.{Gap.Gap, Gap.before, Gap.after, Gap.first_of, Gap.l
 use Rattle.triple_ord.proofs.CallerLemmas.{IsInOrder-rest, IsInOrder-back, in_order-one, in_order-more, all_greater, all_less, recursion-map}
 use Rattle.triple_ord.proofs.CallerLemmas.{ends, stands, not_before, entry_at-here, link-read, no_last}
 use Rattle.chain_base.proofs.CallerLemmas.{entry_at-link}
-use Rattle.sorted_arena.specs.Sorted.{key_of, pointer_of, first_where, next_of, prev_from, prev_of, last_item, before_last, behind_first, first_item_until, entries_above, AreSorted}
+use Rattle.sorted_arena.specs.Sorted.{key_of, first_item, pointer_of, first_where, next_of, prev_from, prev_of, last_item, before_last, behind_first, first_item_until, entries_above, AreSorted}
 use Rattle.sorted_arena.specs.Layout.{item_key, pointer_among}
 
 module _ {X : Type 0} where
@@ -194,6 +194,12 @@ module _ {K V : Type 0} where
   without-behind : (front : List (Entry (K × V))) (e : Entry (K × V)) (back : List (Entry (K × V))) → times e.index front ≡ 0 → without e.index (front ++ e ∷ back) ≡ front ++ back
   without-behind [] e back none = grind (arith, common_steps)
   without-behind (f ∷ front) e back none = grind (arith, common_steps, without-behind front e back)
+
+  pub first-named : (es : List (Entry (K × V))) (p : ℕ × ℕ) → Some p ≡ first_pointer es → item_of es p ≡ first_item es
+  first-named [] p first = absurd (cc)
+  first-named (e ∷ es) p first =
+      let there : item_of (e ∷ es) (pointer_of e) ≡ Some e.item = grind (arith, common_steps) in
+      ap (item_of (e ∷ es)) (some-same first) ∙ there
 
   pub last-none : (es : List (Entry (K × V))) → last_pointer es ≡ None → length es ≡ 0
   last-none [] none = refl

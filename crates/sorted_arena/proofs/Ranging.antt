@@ -1,7 +1,11 @@
 -- The entries whose keys are in a range stand between two cuts of a sorted list.
-use Rattle.std.proofs.Common.{◌≡◌, ◌≢◌, ℕ, ◌&&◌, not, true, false, Bool, filter, List, [], ◌∷◌, ◌++◌, Option, Some, None, IfSome, refl, sym, ap, ◌∙◌, if◌then◌else◌}
+use Rattle.std.proofs.iter.runs.Sources.{from_front, from_back}
+use Rattle.std.proofs.lemmas.{Grind.common_steps, List.Sums.length-filter}
+use Rattle.std.specs.Iterator.{YieldsFirstBy, YieldsLastBy}
+use Rattle.sorted_arena.specs.Range.{GivesInOrder, GivesInReverse}
+use Rattle.std.proofs.Common.{◌≡◌, ◌≢◌, ◌≤◌, length, arith, Less, Equal, Greater, ℕ, ◌&&◌, not, true, false, Bool, filter, count_by, List, [], ◌∷◌, ◌++◌, Option, Some, None, IfSome, refl, sym, ap, ◌∙◌, if◌then◌else◌}
 use Rattle.std.proofs.lemmas.List.Elements.{recursion_from_All}
-use Rattle.std.specs.{List.AllByRecursion, Option.option_map, Option.option_and_then, Ordering.is_le, Ordering.is_lt, Cmp.IsTotalOrder}
+use Rattle.std.specs.{List.AllByRecursion, Option.option_map, Option.option_and_then, Ordering.is_eq, Ordering.is_le, Ordering.is_lt, Ordering.ordering_reverse, Cmp.IsTotalOrder}
 use Rattle.std.specs.declared.cmp.Ordering.{Ordering, TheVariants.Greater}
 use Rattle.std.specs.declared.ops.Bound.{Bound, TheVariants.Included, TheVariants.Excluded, TheVariants.Unbounded}
 use Rattle.std.specs.BTreeMap.Range.{is_from_start, is_past_end}
@@ -10,12 +14,41 @@ use Rattle.triple_ord.specs.Gap.{first_of}
 use Rattle.triple_ord.proofs.CallerLemmas.{in_order-one, in_order-more, all_greater, all_less, recursion-map}
 use Rattle.sorted_arena.specs.Layout.{item_key}
 use Rattle.sorted_arena.specs.{Range.entries_between, Stretch.stretch, Stretch.IsStretch, Stretch.is_forward}
-use Rattle.sorted_arena.specs.Sorted.{key_of, pointer_of, first_where, AreSorted}
+use Rattle.sorted_arena.specs.Sorted.{key_of, pointer_of, first_where, entries_until, AreSorted}
 use Rattle.sorted_arena.proofs.Cutting.{found-here, lt_is, not_le}
 use Rattle.sorted_arena.proofs.Stretching.{stretch-middle}
 
 some-same : {X : Type 0} {x y : X} → Some x ≡ Some y → x ≡ y
 some-same is = cc
+
+-- what runs of an iterator give
+module _ {A X : Type 0} (shows : A → X) where
+  pub gives_in_order : GivesInOrder shows
+  gives_in_order = from_front (YieldsFirstBy shows (λ left. left)) shows (λ left. left) (λ s t h. ap length h.0) (λ s x t h. h)
+
+  pub gives_in_reverse : GivesInReverse shows
+  gives_in_reverse = from_back (YieldsLastBy shows (λ left. left)) shows (λ left. left) (λ s t h. ap length h.0) (λ s x t h. h)
+
+length-filter_le : {X : Type 0} (p : X → Bool) (xs : List X) → length (filter p xs) ≤ length xs
+length-filter_le p [] = omega arith
+length-filter_le p (x ∷ xs) = grind (arith, common_steps, length-filter_le p xs)
+
+pub fewer-between : {K V : Type 0} (cmp : K → K → Ordering) (from until : Bound K) (es : List (Entry (K × V))) → length (entries_between cmp from until es) ≤ length es
+fewer-between cmp from until es = length-filter_le _ es
+
+-- between a key and itself are the entries with an equal key
+pub count-equal : {K V : Type 0} (cmp : K → K → Ordering) (k : K) (es : List (Entry (K × V)))
+    → length (entries_between cmp (Included k) (Included k) es) ≡ count_by (λ e. is_eq (cmp k (key_of e))) es
+count-equal {K = K} {V = V} cmp k es = length-filter _ es ∙ same es
+  where
+    test : (o : Ordering) → (is_le o && not (is_lt o)) ≡ is_eq o
+    test Less = refl
+    test Equal = refl
+    test Greater = refl
+
+    same : (es : List (Entry (K × V))) → count_by (λ e. is_le (cmp k (key_of e)) && not (is_lt (cmp k (key_of e)))) es ≡ count_by (λ e. is_eq (cmp k (key_of e))) es
+    same [] = refl
+    same (e ∷ es) = grind (arith, common_steps, test (cmp k (key_of e)), same es)
 
 module _ {K V : Type 0} where
   pub first_where-never : (es : List (Entry (K × V))) → first_where (λ e. false) es ≡ None
@@ -184,6 +217,33 @@ module _ {K V : Type 0} where
     past-stays (Included b) es sorted = stays (λ k. is_lt (cmp b k)) (lt-stays b) es sorted
     past-stays (Excluded b) es sorted = stays (λ k. is_le (cmp b k)) (le-stays b) es sorted
     past-stays Unbounded es sorted = stays (λ k. false) (λ e f most holds. holds) es sorted
+
+    -- up to a key in a sorted list are the entries before the first greater one
+    pub until-between : (k : K) (es : List (Entry (K × V))) → AreSorted cmp es → entries_between cmp Unbounded (Included k) es ≡ entries_until cmp k es
+    until-between k es sorted = go es (past-stays (Included k) es sorted)
+      where
+        turned : (o : Ordering) → is_le (ordering_reverse o) ≡ not (is_lt o)
+        turned Less = refl
+        turned Equal = refl
+        turned Greater = refl
+
+        at_most : (e : Entry (K × V)) → is_le (cmp (key_of e) k) ≡ not (is_lt (cmp k (key_of e)))
+        at_most e = ap is_le (total.antisymm (key_of e) k) ∙ turned (cmp k (key_of e))
+
+        go : (es : List (Entry (K × V))) → Stays (λ e. is_lt (cmp k (key_of e))) es → inside (λ e. true) (λ e. is_lt (cmp k (key_of e))) es ≡ entries_until cmp k es
+        go [] stays = refl
+        go (e ∷ es) stays = by (is_lt (cmp k (key_of e))) refl (go es stays.1)
+          where
+            by : (b : Bool) → is_lt (cmp k (key_of e)) ≡ b → inside (λ e. true) (λ e. is_lt (cmp k (key_of e))) es ≡ entries_until cmp k es
+                → inside (λ e. true) (λ e. is_lt (cmp k (key_of e))) (e ∷ es) ≡ entries_until cmp k (e ∷ es)
+            by true is rest =
+                let none : is_le (cmp (key_of e) k) ≡ false = at_most e ∙ ap not is in
+                let empty : entries_until cmp k (e ∷ es) ≡ [] = rw none refl in
+                inside-past (λ e. true) (λ e. is_lt (cmp k (key_of e))) e es is ∙ none-inside (λ e. true) (λ e. is_lt (cmp k (key_of e))) es (stays.0 is) ∙ sym empty
+            by false is rest =
+                let some : is_le (cmp (key_of e) k) ≡ true = at_most e ∙ ap not is in
+                let more : entries_until cmp k (e ∷ es) ≡ e ∷ entries_until cmp k es = rw some refl in
+                inside-in (λ e. true) (λ e. is_lt (cmp k (key_of e))) e es refl is ∙ ap (λ xs. e ∷ xs) rest ∙ sym more
 
     module _ (es : List (Entry (K × V))) (distinct : IsDistinct es) (sorted : AreSorted cmp es) (from until : Bound K) where
       abbrev begun : Entry (K × V) → Bool

@@ -1,5 +1,7 @@
--- The entries whose keys are in a range.
-use Rattle.std.specs.Prelude.{List, filter}
+-- The entries whose keys are in a range, and what iterators over entries give.
+use Rattle.std.specs.Prelude.{ℕ, List, filter}
+use Rattle.std.specs.Borrow.{Bor}
+use Rattle.std.specs.Iterator.{YieldsFirstBy, YieldsLastBy, Runs.EveryRun, Runs.ItemsMapTo, Runs.ItemsMapToReversed}
 use Rattle.std.specs.declared.{cmp.Ordering.Ordering, ops.Bound.Bound}
 use Rattle.std.specs.BTreeMap.Range.{range_contains}
 use Rattle.chain_base.specs.Chain.{Entry}
@@ -8,3 +10,23 @@ use Rattle.sorted_arena.specs.Sorted.{key_of}
 -- the entries whose keys are between two bounds, in order
 abbrev pub entries_between : {K V : Type 0} → (K → K → Ordering) → Bound K → Bound K → List (Entry (K × V)) → List (Entry (K × V))
 entries_between cmp from until es = filter (λ e. range_contains cmp from until (key_of e)) es
+
+-- an entry as an iterator gives it: its pointer, and references to its key and its value
+abbrev pub shown_entry : {P K V : Type 0} → (P → ℕ × ℕ) → P × Bor K × Bor V → Entry (K × V)
+shown_entry numbers x = record { index = (numbers x.0).0; generation = (numbers x.0).1; item = (x.1.now, x.2.now) }
+
+-- a key and a value as an iterator gives them
+abbrev pub shown_item : {K V : Type 0} → Bor K × Bor V → K × V
+shown_item x = (x.0.now, x.1.now)
+
+-- what a reference points to
+abbrev pub target_of : {T : Type 0} → Bor T → T
+target_of x = x.now
+
+module _ {A X : Type 0} (shows : A → X) where
+  -- each run of `next` shows what is left in order, and each run of `next_back` in reverse
+  abbrev pub GivesInOrder : Type 0
+  GivesInOrder = EveryRun (YieldsFirstBy shows (λ left. left)) (λ p. ItemsMapTo p shows p.from)
+
+  abbrev pub GivesInReverse : Type 0
+  GivesInReverse = EveryRun (YieldsLastBy shows (λ left. left)) (λ p. ItemsMapToReversed p shows p.from)

@@ -3,7 +3,7 @@ use Rattle.std.specs.Prelude.{◌≡◌, ◌≢◌, ℕ, ◌≤◌, ◌*◌, min
 use Rattle.std.specs.{List.All, Ordering.is_le, Ordering.is_eq, Option.option_map, declared.cmp.Ordering.Ordering}
 use Rattle.std.specs.declared.cmp.Ordering.TheVariants.{Less, Equal, Greater}
 use Rattle.arena_base.specs.Generation.{next_generation}
-use Rattle.chain_base.specs.Chain.{Entry, IsDistinct, item_of, without as without_index, with_item_among, first_pointer}
+use Rattle.chain_base.specs.Chain.{Entry, IsDistinct, item_of as item_at, without as without_index, with_item_among, first_pointer}
 
 -- A sorted arena: its entries in order, each with an index and a generation, which make its pointer, and an item, which is its key and
 -- its value; the generation of the next pointer; and how many entries it holds without growing.
@@ -13,16 +13,22 @@ pub record Sorted (K V : Type 0) : Type 0 where
   pub capacity : ℕ
 
 module _ {K V : Type 0} where
-  -- the key of an entry, and its pointer
+  -- the key of an entry, its value, both, and its pointer
   abbrev pub key_of : Entry (K × V) → K
   key_of e = e.item.0
+
+  abbrev pub value_of : Entry (K × V) → V
+  value_of e = e.item.1
+
+  abbrev pub item_of : Entry (K × V) → K × V
+  item_of e = e.item
 
   abbrev pub pointer_of : Entry (K × V) → ℕ × ℕ
   pointer_of e = (e.index, e.generation)
 
   -- the key and the value that a pointer names; None if it is stale
   abbrev pub pair_of : Sorted K V → ℕ × ℕ → Option (K × V)
-  pair_of a p = item_of a.entries p
+  pair_of a p = item_at a.entries p
 
   -- the number of entries
   abbrev pub count : Sorted K V → ℕ
@@ -112,7 +118,11 @@ module _ {K V : Type 0} where
     first_item_until k [] = None
     first_item_until k (e ∷ es) = if is_le (cmp (key_of e) k) then Some e.item else None
 
-    -- the entries from the first one on whose key is greater than this one
+    -- the entries before the first one whose key is greater than this one, and those from it on
+    abbrev pub entries_until : K → List (Entry (K × V)) → List (Entry (K × V))
+    entries_until k [] = []
+    entries_until k (e ∷ es) = if is_le (cmp (key_of e) k) then e ∷ entries_until k es else []
+
     abbrev pub entries_above : K → List (Entry (K × V)) → List (Entry (K × V))
     entries_above k [] = []
     entries_above k (e ∷ es) = if is_le (cmp (key_of e) k) then entries_above k es else e ∷ es

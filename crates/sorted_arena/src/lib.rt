@@ -7,10 +7,12 @@
 mod arena;
 mod error;
 mod pairs;
+mod parts;
 mod range;
 
 pub use arena::SortedArena;
 pub use error::{RekeyUniqueError, UniqueInsertionError};
+pub use parts::{Items, Keys, Values, ValuesDescending};
 pub use range::Range;
 pub use triple_ord::{
     BasePtr, BasePtrGen, BasePtrInx, P0, P8, PN, Ptr, PtrGen, PtrInx, Q0, ReallocationError,

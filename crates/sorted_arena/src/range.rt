@@ -1,10 +1,11 @@
 //! `Range`: entries in order, from both ends.
-ghost use Rattle.std.specs.Prelude.{◌≡◌, true, false};
+ghost use Rattle.std.specs.Prelude.{◌≡◌, ◌<◌, ◌^◌, true, false, length};
 ghost use Rattle.std.specs.Iterator.{YieldsFirstBy, YieldsLastBy, item_count};
 ghost use Rattle.std.specs.{Option.option_map, Option.option_and_then, Range.Bound.bound_map};
 ghost use Rattle.std.specs.BTreeMap.Range.{is_from_start, is_past_end};
-ghost use Rattle.sorted_arena.specs.Range.{entries_between};
-ghost use Rattle.sorted_arena.specs.Sorted.{pair_of, first_where, key_of};
+ghost use Rattle.std.specs.declared.ops.Bound.TheVariants.{Included, Unbounded};
+ghost use Rattle.sorted_arena.specs.Range.{entries_between, shown_entry, GivesInOrder, GivesInReverse};
+ghost use Rattle.sorted_arena.specs.Sorted.{pair_of, first_where, key_of, IsSound};
 ghost use Rattle.sorted_arena.specs.Stretch.{is_forward};
 
 use crate::arena::SortedArena;
@@ -43,11 +44,7 @@ impl<'a, K: Ord, V, P: BasePtr, A: Allocator> Model for Range<'a, K, V, P, A> {
 impl<'a, K: Ord, V, P: BasePtr, A: Allocator> Iterator for Range<'a, K, V, P, A> {
     type Item = (P, &'a K, &'a V);
 
-    ghost next_gives = { YieldsFirstBy (λ x. record {
-      index = (P.numbers x.0).0;
-      generation = (P.numbers x.0).1;
-      item = (x.1.now, x.2.now);
-    }) (λ left. left) };
+    ghost next_gives = { YieldsFirstBy (shown_entry P.numbers) (λ left. left) };
 
     ghost remaining = { item_count (λ left. left) };
 
@@ -65,11 +62,7 @@ impl<'a, K: Ord, V, P: BasePtr, A: Allocator> Iterator for Range<'a, K, V, P, A>
 }
 
 impl<'a, K: Ord, V, P: BasePtr, A: Allocator> DoubleEndedIterator for Range<'a, K, V, P, A> {
-    ghost next_back_gives = { YieldsLastBy (λ x. record {
-      index = (P.numbers x.0).0;
-      generation = (P.numbers x.0).1;
-      item = (x.1.now, x.2.now);
-    }) (λ left. left) };
+    ghost next_back_gives = { YieldsLastBy (shown_entry P.numbers) (λ left. left) };
 
     fn next_back(&mut self) -> Option<(P, &'a K, &'a V)> {
         if are_same::<P>(self.first, self.end) {
@@ -121,11 +114,16 @@ fn is_key_from<K: Ord>(from: Bound<&K>, k: &K) -> bool
 impl<K: Ord, V, P: BasePtr, A: Allocator> SortedArena<K, V, P, A> {
     /// Returns an iterator over all entries in order, from both ends.
     pub fn iter(&self) -> Range<'_, K, V, P, A>
-        ensures { result ≡ self.now.entries }
+        ensures entries { result ≡ self.now.entries }
+        ensures sound { IsSound K.cmp P.Inx.most self.now }
+        // for chains of iterators
+        ensures runs { GivesInOrder (shown_entry {K = K} {V = V} P.numbers) }
+        ensures runs_back { GivesInReverse (shown_entry {K = K} {V = V} P.numbers) }
+        ensures fits { length result < 2 ^ 64 }
     {
+        // with its length an arena tells what holds of it
+        let _ = self.len();
         let pairs = self.pairs();
-        // with its length an arena tells what holds of its list
-        let _ = pairs.len();
         Range {
             pairs,
             first: inx_of(pairs.first()),
@@ -137,16 +135,25 @@ impl<K: Ord, V, P: BasePtr, A: Allocator> SortedArena<K, V, P, A> {
     ///
     /// A range that runs backwards has no entries.
     pub fn range<R: RangeBounds<K> + Drop>(&self, range: R) -> Range<'_, K, V, P, A>
-        ensures { R.has_bounds range → result
+        ensures entries { R.has_bounds range → result
             ≡ entries_between K.cmp (R.start_bound range) (R.end_bound range) self.now.entries }
+        ensures sound { IsSound K.cmp P.Inx.most self.now }
+        // for chains of iterators
+        ensures runs { GivesInOrder (shown_entry {K = K} {V = V} P.numbers) }
+        ensures runs_back { GivesInReverse (shown_entry {K = K} {V = V} P.numbers) }
+        ensures fits { length result < 2 ^ 64 }
     {
         self.between(range.start_bound(), range.end_bound())
     }
 
     // The entries between two bounds.
     fn between(&self, from: Bound<&K>, until: Bound<&K>) -> Range<'_, K, V, P, A>
-        ensures { result ≡ entries_between K.cmp (bound_map (λ k. k.now) from.entry)
+        ensures entries { result ≡ entries_between K.cmp (bound_map (λ k. k.now) from.entry)
             (bound_map (λ k. k.now) until.entry) self.now.entries }
+        ensures sound { IsSound K.cmp P.Inx.most self.now }
+        ensures runs { GivesInOrder (shown_entry {K = K} {V = V} P.numbers) }
+        ensures runs_back { GivesInReverse (shown_entry {K = K} {V = V} P.numbers) }
+        ensures fits { length result < 2 ^ 64 }
     {
         // with its length an arena tells what holds of it
         let _ = self.len();
@@ -157,6 +164,23 @@ impl<K: Ord, V, P: BasePtr, A: Allocator> SortedArena<K, V, P, A> {
             first: inx_of(first),
             end: inx_of(end),
         }
+    }
+
+    /// How many entries are between two bounds.
+    pub(crate) fn count_between(&self, from: Bound<&K>, until: Bound<&K>) -> usize
+        ensures { result ≡ length (entries_between K.cmp (bound_map (λ k. k.now) from.entry)
+            (bound_map (λ k. k.now) until.entry) self.now.entries) }
+    {
+        self.between(from, until).count()
+    }
+
+    /// How many entries have a key that is at most `until`.
+    pub(crate) fn count_until<'k>(&self, until: &'k K) -> usize
+        ensures { result ≡ length (entries_between K.cmp Unbounded (Included until.now)
+            self.now.entries) }
+    {
+        let from: Bound<&'k K> = Bound::Unbounded;
+        self.count_between(from, Bound::Included(until))
     }
 
     // The pointer of the first entry that is not before the start of a range.

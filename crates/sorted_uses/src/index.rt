@@ -1,12 +1,16 @@
 //! An index: the ids of records by their names, in the order of the names.
 
-ghost use Rattle.std.specs.Prelude.{◌≡◌, ◌≢◌, Some, None, IfOk, IfSome, IfNone, OnErr, IsSomeAnd, is_some};
+ghost use Rattle.std.specs.Prelude.{◌≡◌, ◌≢◌, Some, None, IfOk, IfSome, IfNone, OnErr, IsSomeAnd, map, count_by};
+ghost use Rattle.std.specs.Ordering.{is_eq};
+ghost use Rattle.std.specs.declared.ops.Bound.TheVariants.{Included, Excluded};
+ghost use Rattle.sorted_arena.specs.Range.{entries_between};
 ghost use Rattle.std.specs.List.{All};
 ghost use Rattle.std.specs.Prelude.{string_cmp};
 ghost use Rattle.std.specs.declared.cmp.Ordering.TheVariants.{Equal, Greater};
-ghost use Rattle.sorted_arena.specs.Sorted.{pair_of, key_of, Updates};
+ghost use Rattle.sorted_arena.specs.Sorted.{pair_of, key_of, value_of, Updates};
 
 use sorted_arena::{P0, ReallocationError, SortedArena};
+use std::alloc::{AllocError, Global};
 
 /// Ids by names.
 pub type Index = SortedArena<String, u64>;
@@ -52,26 +56,22 @@ pub fn from_name(index: &Index, name: &String) -> Option<P0>
     index.lower_bound(name)
 }
 
-/// Adds the ids of all records from one name until before another to the list, in order. Refused where memory is refused to it.
+/// Returns the ids of all records from one name until before another, in order. O(log n + their number).
 pub fn ids_between(
+    alloc: Global,
     index: &Index,
     from: &String,
     until: &String,
-    ids: &mut Vec<u64>,
-) -> Result<(), std::alloc::AllocError> {
-    let mut at = index.lower_bound(from);
-    for _ in 0..index.len() {
-        let Some(p) = at else {
-            break;
-        };
-        let Some((name, id)) = index.get(p) else {
-            break;
-        };
-        if name >= until {
-            break;
-        }
-        ids.push(*id)?;
-        at = index.next(p);
-    }
-    Ok(())
+) -> Result<Vec<u64>, AllocError>
+    ensures { IfOk result (λ ids. ids.items ≡ map value_of
+        (entries_between string_cmp (Included from.now) (Excluded until.now) index.now.entries)) }
+{
+    index.range(from..until).values().copied().collect(alloc)
+}
+
+/// Returns how many records have this name.
+pub fn records_of(index: &Index, name: &String) -> usize
+    ensures { result ≡ count_by (λ e. is_eq (string_cmp name.now (key_of e))) index.now.entries }
+{
+    index.count_of(name)
 }

@@ -1,11 +1,11 @@
 //! Sessions: each is named by its token, and ends at its deadline.
 
-ghost use Rattle.std.specs.Prelude.{◌≡◌, ◌≢◌, ◌+◌, ◌≤◌, ◌<◌, ℕ, Some, None, IfOk, IfSome, OnErr, is_some};
+ghost use Rattle.std.specs.Prelude.{◌≡◌, ◌≢◌, ◌+◌, ◌≤◌, ◌<◌, ℕ, ◌++◌, Some, None, IfOk, IfSome, OnOk, OnErr, is_some, map};
 ghost use Rattle.std.specs.List.{All};
 ghost use Rattle.std.specs.Option.{option_map};
 ghost use Rattle.std.specs.Ordering.{nat_cmp};
 ghost use Rattle.std.specs.declared.cmp.Ordering.TheVariants.{Greater};
-ghost use Rattle.sorted_arena.specs.Sorted.{pair_of, count, key_of, Updates};
+ghost use Rattle.sorted_arena.specs.Sorted.{pair_of, count, key_of, item_of, entries_until, Updates};
 
 use sorted_arena::{P0, ReallocationError, SortedArena};
 use std::alloc::AllocError;
@@ -69,23 +69,30 @@ pub fn expire_one(sessions: &mut Sessions, now: u64) -> Option<u64>
     Some(user)
 }
 
-/// Ends all sessions whose deadline has come, and adds their users to a list: of those that are left none is due. Where memory is refused
-/// to the list the rest of the due ones end too.
-pub fn expire_all(sessions: &mut Sessions, now: u64, users: &mut Vec<u64>) -> Result<(), AllocError>
-    ensures { All (λ s. nat_cmp (key_of s) now ≡ Greater) sessions.new.entries }
+/// Lets a session go on until another deadline. Its token stays valid. Returns whether the token names a session.
+pub fn touch(sessions: &mut Sessions, token: P0, deadline: u64) -> bool
+    ensures named { result ≡ is_some (pair_of sessions.old token) }
+    ensures touched { Updates sessions.old sessions.new token
+        (option_map (λ s. (deadline, s.1)) (pair_of sessions.old token)) }
+    ensures count { count sessions.new ≡ count sessions.old }
 {
-    let mut full = false;
-    for _ in 0..sessions.len() {
-        let Some((_, user)) = sessions.pop_first_until(&now) else {
-            break;
-        };
-        if users.push(user).is_err() {
-            full = true;
-            break;
-        }
-    }
-    let _ = sessions.remove_until(&now);
-    if full { Err(AllocError) } else { Ok(()) }
+    sessions.rekey(token, deadline).is_ok()
+}
+
+/// Ends all sessions whose deadline has come, and adds them to a list in the order of their deadlines. If memory is refused to the list,
+/// nothing changes.
+pub fn expire_all(
+    sessions: &mut Sessions,
+    now: u64,
+    ended: &mut Vec<(u64, u64)>,
+) -> Result<(), AllocError>
+    ensures ended { OnOk result (ended.new.items
+        ≡ ended.old.items ++ map item_of (entries_until nat_cmp now sessions.old.entries)) }
+    ensures left { OnOk result
+        (All (λ s. nat_cmp (key_of s) now ≡ Greater) sessions.new.entries) }
+    ensures refused { OnErr result (sessions.new ≡ sessions.old) }
+{
+    sessions.pop_until(&now, ended)
 }
 
 /// Ends all sessions whose deadline has come, and tells how many there were.

@@ -1,6 +1,6 @@
 //! Entries by their keys.
 
-ghost use Rattle.std.specs.Prelude.{◌≡◌, ◌≢◌, IfSome, IfNone, IsSomeAnd, is_some};
+ghost use Rattle.std.specs.Prelude.{◌≡◌, ◌≢◌, IfSome, IfNone, IsSomeAnd, is_some, count_by};
 ghost use Rattle.std.specs.List.{All};
 ghost use Rattle.std.specs.{Option.option_map, Bool.OnFalse};
 ghost use Rattle.std.specs.Ordering.{is_eq, is_le, is_lt};
@@ -10,6 +10,7 @@ ghost use Rattle.sorted_arena.specs.Sorted.{pair_of, first_where, key_of, IsAbse
 use super::SortedArena;
 use crate::pairs::{lower_bound_in, upper_bound_in};
 use std::alloc::Allocator;
+use std::ops::Bound;
 use triple_ord::BasePtr;
 
 impl<K: Ord, V, P: BasePtr, A: Allocator> SortedArena<K, V, P, A> {
@@ -59,5 +60,12 @@ impl<K: Ord, V, P: BasePtr, A: Allocator> SortedArena<K, V, P, A> {
         // with its length an arena tells what holds of its list
         let _ = self.pairs.len();
         upper_bound_in(&self.pairs, k)
+    }
+
+    /// Returns how many entries have a key equal to `k`, in O(log n + their number).
+    pub fn count_of(&self, k: &K) -> usize
+        ensures { result ≡ count_by (λ e. is_eq (K.cmp k.now (key_of e))) self.now.entries }
+    {
+        self.count_between(Bound::Included(k), Bound::Included(k))
     }
 }

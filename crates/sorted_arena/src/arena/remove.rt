@@ -1,16 +1,17 @@
 //! Removals. None of them takes memory.
 
-ghost use Rattle.std.specs.Prelude.{◌≡◌, ◌≢◌, ◌+◌, None, IfSome, IfNone, OnSome};
+ghost use Rattle.std.specs.Prelude.{◌≡◌, ◌≢◌, ◌+◌, ◌++◌, map, is_some, Some, None, OnOk, OnErr, IfSome, IfNone, OnSome};
 ghost use Rattle.std.specs.List.{All};
 ghost use Rattle.std.specs.Option.{option_and_then};
 ghost use Rattle.std.specs.Ordering.{is_eq};
 ghost use Rattle.std.specs.declared.cmp.Ordering.TheVariants.{Greater};
 ghost use Rattle.sorted_arena.specs.Sorted.{pair_of, count, first_where, key_of, first_item, last_item};
-ghost use Rattle.sorted_arena.specs.Sorted.{behind_first, before_last, first_item_until, entries_above};
+ghost use Rattle.sorted_arena.specs.Sorted.{behind_first, before_last, item_of, first_item_until, entries_until, entries_above};
+ghost use Rattle.sorted_arena.specs.Answer.{AnswersAt};
 ghost use Rattle.sorted_arena.specs.Sorted.{with_left, without, IsAbsent, Updates};
 
 use super::SortedArena;
-use std::alloc::Allocator;
+use std::alloc::{AllocError, Allocator};
 use triple_ord::BasePtr;
 
 impl<K: Ord, V, P: BasePtr, A: Allocator> SortedArena<K, V, P, A> {
@@ -92,6 +93,61 @@ impl<K: Ord, V, P: BasePtr, A: Allocator> SortedArena<K, V, P, A> {
             return None;
         }
         self.remove(first)
+    }
+
+    /// Removes the first entry if `f` answers `true` for its key and its value, and returns these, in O(log n).
+    ///
+    /// If there is none, or `f` answers `false`, returns `None` and nothing changes.
+    pub fn pop_first_if<F: FnOnce(&K, &V) -> bool>(&mut self, f: F) -> Option<(K, V)>
+        requires { F.IsAlwaysCallable f }
+        ensures value { IfSome result (λ x. first_item self.old.entries ≡ Some x) }
+        ensures asked { IfSome (first_item self.old.entries)
+            (λ x. AnswersAt F.FnOnce f x.0 x.1 (is_some result)) }
+        ensures count { OnSome result (count self.old ≡ count self.new + 1) }
+        ensures gone { OnSome result
+            (self.new ≡ with_left P.Gen.greatest self.old (behind_first self.old.entries)) }
+        ensures none { IfNone result (self.new ≡ self.old) }
+    {
+        // with its length an arena tells what holds of its list
+        let _ = self.len();
+        let first = self.first()?;
+        let (k, v) = self.get(first)?;
+        if !f(k, v) {
+            return None;
+        }
+        self.remove(first)
+    }
+
+    /// Moves all entries whose key is at most `until` to the end of a vector, in order. O(log n) for each.
+    ///
+    /// # Errors
+    ///
+    /// If the vector is refused memory, nothing changes.
+    pub fn pop_until<B: Allocator>(
+        &mut self,
+        until: &K,
+        popped: &mut Vec<(K, V), B>,
+    ) -> Result<(), AllocError>
+    where
+        K: Drop,
+        V: Drop,
+        ensures popped { OnOk result (popped.new.items ≡ popped.old.items
+            ++ map item_of (entries_until K.cmp until.now self.old.entries)) }
+        ensures entries { OnOk result
+            (self.new.entries ≡ entries_above K.cmp until.now self.old.entries) }
+        ensures left { OnOk result
+            (All (λ e. K.cmp (key_of e) until.now ≡ Greater) self.new.entries) }
+        ensures kept { OnErr result (popped.new.items ≡ popped.old.items) }
+        ensures err { OnErr result (self.new ≡ self.old) }
+    {
+        // with its length an arena tells what holds of its list
+        let _ = self.len();
+        let due = self.count_until(until);
+        popped.reserve(due)?;
+        while let Some(item) = self.pop_first_until(until) {
+            let _ = popped.push(item);
+        }
+        Ok(())
     }
 
     /// Removes and drops all entries whose key is at most `until`, and returns how many there were. O(log n) for each.

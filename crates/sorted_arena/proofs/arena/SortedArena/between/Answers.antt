@@ -1,6 +1,7 @@
-use Rattle.std.proofs.Common.{◌≡◌, ap}
-use Rattle.sorted_arena.specs.Sorted.{Sorted}
-use Rattle.sorted_arena.proofs.Ranging.{ranges}
+use Rattle.std.proofs.Common.{◌≡◌, ap, length, arith}
+use Rattle.std.specs.Range.Bound.{bound_map}
+use Rattle.sorted_arena.specs.{Sorted.Sorted, Range.shown_entry}
+use Rattle.sorted_arena.proofs.Ranging.{ranges, gives_in_order, gives_in_reverse, fewer-between}
 use Rattle.sorted_arena.proofs.arena.SortedArena.between.Goals as goal
 
 pub invariant_of-result : goal.invariant_of-result
@@ -9,8 +10,17 @@ invariant_of-result g c =
     rw (c.inx_of.ensures, c.inx_of-2.ensures, ← listed) (ranges g.K.Ord.cmp g.met.K.Ord.total c.args.self.now.entries c.len.ensures.sound.distinct c.len.ensures.sound.sorted _ _
     g.P.BasePtr.numbers _ _ c.first_past-end.ensures c.first_before-first.ensures.forward c.first_before-first.ensures.backward).stands
 
-pub returns : goal.returns
-returns g c =
+pub returns-clause-entries : goal.returns-clause-entries
+returns-clause-entries g c =
     let listed : c.args.self.now.entries ≡ c.pairs.result.now.list.entries = ap (λ (a : Sorted g.row.K.Denot g.row.V.Denot). a.entries) c.pairs.ensures.view in
     rw (c.inx_of.ensures, c.inx_of-2.ensures, ← listed) (ranges g.K.Ord.cmp g.met.K.Ord.total c.args.self.now.entries c.len.ensures.sound.distinct c.len.ensures.sound.sorted _ _
     g.P.BasePtr.numbers _ _ c.first_past-end.ensures c.first_before-first.ensures.forward c.first_before-first.ensures.backward).gives
+
+pub returns-clause-runs : goal.returns-clause-runs
+returns-clause-runs g c = gives_in_order (shown_entry g.P.BasePtr.numbers)
+
+pub returns-clause-runs_back : goal.returns-clause-runs_back
+returns-clause-runs_back g c = gives_in_reverse (shown_entry g.P.BasePtr.numbers)
+
+pub returns-clause-fits : goal.returns-clause-fits
+returns-clause-fits g c = omega (arith, ap length (returns-clause-entries g c), fewer-between g.K.Ord.cmp (bound_map (λ k. k.now) c.args.from) (bound_map (λ k. k.now) c.args.until) c.args.self.now.entries, c.len.ensures.value)

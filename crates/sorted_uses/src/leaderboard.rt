@@ -1,0 +1,73 @@
+//! A leaderboard: players by their scores.
+
+ghost use Rattle.std.specs.Prelude.{◌≡◌, Some, IfOk, IfSome, OnErr, map, take, reverse, length, fold, min, ◌+◌, ◌-◌, ◌^◌};
+ghost use Rattle.std.specs.Option.{option_map};
+ghost use Rattle.std.specs.Ordering.{nat_cmp};
+ghost use Rattle.std.specs.declared.ops.Bound.TheVariants.{Included, Excluded, Unbounded};
+ghost use Rattle.sorted_arena.specs.Range.{entries_between};
+ghost use Rattle.sorted_arena.specs.Sorted.{pair_of, count, key_of, value_of, Updates};
+
+use sorted_arena::{P0, ReallocationError, SortedArena};
+use std::alloc::{AllocError, Global};
+use std::ops::Bound;
+
+/// Players by their scores.
+pub type Leaderboard = SortedArena<u64, u64>;
+
+/// Enters a player with a score, and returns the player's place.
+pub fn enter(board: &mut Leaderboard, score: u64, player: u64) -> Result<P0, ReallocationError>
+    ensures entered { IfOk result
+        (λ place. Updates board.old board.new place (Some (score, player))) }
+    ensures refused { OnErr result (board.new ≡ board.old) }
+{
+    match board.insert(score, player) {
+        Ok(place) => Ok(place),
+        Err((_, refusal)) => Err(refusal),
+    }
+}
+
+/// Gives a player another score. The place stays valid. Returns the old score.
+pub fn set_score(board: &mut Leaderboard, place: P0, score: u64) -> Option<u64>
+    ensures before { result ≡ option_map (λ e. e.0) (pair_of board.old place) }
+    ensures updates { Updates board.old board.new place
+        (option_map (λ e. (score, e.1)) (pair_of board.old place)) }
+    ensures count { count board.new ≡ count board.old }
+{
+    board.rekey(place, score).ok()
+}
+
+/// Returns how many players have a greater score, in O(log n + their number).
+pub fn ahead(board: &Leaderboard, place: P0) -> Option<usize>
+    ensures { result ≡ option_map (λ e. length (entries_between nat_cmp (Excluded e.0) Unbounded
+        board.now.entries)) (pair_of board.now place) }
+{
+    let score = board.key(place)?;
+    Some(
+        board
+            .range((Bound::Excluded(score), Bound::Unbounded))
+            .count(),
+    )
+}
+
+/// Returns the first `n` players by score, the best one first; of those with equal scores the one that came last is first.
+pub fn top(alloc: Global, board: &Leaderboard, n: usize) -> Result<Vec<u64>, AllocError>
+    ensures { IfOk result (λ best. best.items ≡ take n (reverse (map value_of board.now.entries))) }
+{
+    board
+        .iter()
+        .values_descending()
+        .take(n)
+        .copied()
+        .collect(alloc)
+}
+
+/// Returns the sum of all scores that are at least `from` and less than `until`, or the greatest number if it doesn't fit.
+pub fn total(board: &Leaderboard, from: u64, until: u64) -> u64
+    ensures { result ≡ fold (λ total score. min (2 ^ 64 - 1) (total + score)) 0
+        (map key_of (entries_between nat_cmp (Included from) (Excluded until) board.now.entries)) }
+{
+    board
+        .range(from..until)
+        .keys()
+        .fold(0, |total: u64, score| total.saturating_add(*score))
+}
