@@ -3,7 +3,7 @@ use Rattle.std.proofs.Common.{◌≡◌, ◌≢◌, ℕ, ◌<◌, ◌≤◌, ◌
 use Rattle.std.proofs.{lemmas.Bool.Decides.eqb_tells, lemmas.List.Elements.All-from_recursion, lemmas.List.Elements.recursion_from_All}
 use Rattle.std.specs.List.{AllByRecursion}
 use Rattle.agenda.specs.Agenda.{Scheduled, Agenda, is_named_by, job_of, without, with_left, generation_after, Schedules, Reschedules, MovesDeadline}
-use Rattle.agenda.specs.Tickets.{IsStep, stays, comes, leaves, moves, renews, IsRun, HasNoLaterTicket, HasEnded, KeepsEnded, EndedTicketLaw}
+use Rattle.agenda.specs.Tickets.{Step, IsStep, stays, comes, leaves, moves, renews, IsRun, HasNoLaterTicket, HasEnded, KeepsEnded, EndedTicketLaw}
 use Rattle.agenda.proofs.Naming.{one_or_other, job_of-first, job_of-behind, job_of-without_other, job_of-between_other, updates-scheduled}
 
 -- where the generations don't begin again, the next one is greater
@@ -116,13 +116,17 @@ module _ {J : Type 0} where
       goes-then old left new (goes-left old t (ap is_some h.named) (omega (arith, counted, h.put.generation))) (goes-put left u d h.left.1 new h.put)
 
   -- one call, and a run of them
-  goes-step : (old new : Agenda J) → old.generation ≤ new.generation → IsStep old new → Goes old new
-  goes-step old new counted (stays same) = subst (λ (a : Agenda J). Goes old a) (sym same) (goes-nowhere old)
-  goes-step old new counted (comes t d job h) = goes-put old t d job new h
-  goes-step old new counted (leaves t there after) =
+  goes-by : (old new : Agenda J) → old.generation ≤ new.generation → Step old new → Goes old new
+  goes-by old new counted (stays same) = subst (λ (a : Agenda J). Goes old a) (sym same) (goes-nowhere old)
+  goes-by old new counted (comes t d job h) = goes-put old t d job new h
+  goes-by old new counted (leaves t there after) =
       subst (λ (a : Agenda J). Goes old a) (sym after) (goes-left old t there (omega (arith, counted, ap (λ (a : Agenda J). a.generation) after)))
-  goes-step old new counted (moves t d h) = goes-moved old t d new h
-  goes-step old new counted (renews t u d h) = goes-renewed old t u d new counted h
+  goes-by old new counted (moves t d h) = goes-moved old t d new h
+  goes-by old new counted (renews t u d h) = goes-renewed old t u d new counted h
+
+  goes-step : (old new : Agenda J) → old.generation ≤ new.generation → IsStep old new → Goes old new
+  unfolding IsStep
+  goes-step old new counted step = goes-by old new counted step
 
   goes-run : (between : List (Agenda J)) (old new : Agenda J) → IsRun old between new → Goes old new
   goes-run [] old new run = subst (λ (a : Agenda J). Goes old a) (sym run) (goes-nowhere old)

@@ -1,16 +1,17 @@
 -- The jobs of an agenda and the entries of its arena: what a ticket names, and what a removal leaves.
-use Rattle.std.proofs.Common.{◌≡◌, ℕ, ◌≤◌, List, [], ◌∷◌, map, Option, Some, None, IsSome, IfNone, OnSome, is_some, refl, sym, ap, ◌+◌, subst, ◌∙◌, arith, inl, inr, true, false, leb, if◌then◌else◌}
-use Rattle.std.proofs.{lemmas.List.Elements.All-from_recursion, lemmas.List.Elements.recursion_from_All, lemmas.Bool.Decides.eqb_tells, lemmas.Bool.Decides.nat_tests}
+use Rattle.std.proofs.Common.{◌≡◌, ℕ, ◌≤◌, List, [], ◌∷◌, map, Option, Some, None, IsSome, IfNone, OnSome, is_some, refl, sym, ap, ◌+◌, subst, ◌∙◌, arith, inl, inr, true, false, if◌then◌else◌}
+use Rattle.std.proofs.{lemmas.List.Elements.All-from_recursion, lemmas.List.Elements.recursion_from_All, lemmas.Bool.Decides.eqb_tells}
 use Rattle.std.proofs.{lemmas.Grind.common_steps, lemmas.List.length-map}
 use Rattle.std.specs.List.{All, AllByRecursion}
 use Rattle.arena_base.specs.Arena.{limit_of}
-use Rattle.chain_base.specs.Chain.{Entry, removed, IsSound as IsSoundChain, IsDistinct as AreDistinct, entry_at, item_of, first_pointer, without as without_index}
+use Rattle.chain_base.specs.Chain.{Entry, removed, IsSound as IsSoundChain, IsDistinct as AreDistinct, entry_at, item_of, without as without_index}
 use Rattle.chain_base.proofs.CallerLemmas.{entry_at-absent}
 use Rattle.ord_tree.specs.Tree.{Tree}
-use Rattle.agenda.specs.Agenda.{Scheduled, Agenda, most_jobs, count, Updates, with_left, is_named_by, job_of, first_due, without, IsInOrder, IsDistinct, IsSound}
-use Rattle.agenda.specs.Tickets.{IsStep, stays, leaves}
+use Rattle.agenda.specs.Agenda.{Scheduled, Agenda, most_jobs, count, Updates, with_left, is_named_by, job_of, without, IsInOrder, IsDistinct, IsSound}
+use Rattle.agenda.specs.Tickets.{IsStep}
+use Rattle.agenda.proofs.Steps.{step-stays, step-leaves}
 use Rattle.agenda.specs.Layout.{greatest_generation, scheduled, agenda_of, IsArenaOfJobs}
-use Rattle.agenda.proofs.Naming.{job_of-first, length-without, updates-none, updates-left}
+use Rattle.agenda.proofs.Naming.{length-without, updates-none, updates-left}
 
 module _ {J : Type 0} where
   -- the entries behind the first have pairwise different indexes too, and none has the first's
@@ -30,16 +31,6 @@ module _ {J : Type 0} where
     ]
     | inr h ↦ rw (h.0, job_of-found es (distinct-rest e es distinct) t) refl
   ]
-
-  -- the first job, where it is due, is what its ticket names
-  pub job_of-due : (now : ℕ) (es : List (Entry (ℕ × J))) (p : ℕ × ℕ) (item : ℕ × J) → first_pointer es ≡ Some p → item_of es p ≡ Some item → item.0 ≤ now
-      → job_of (map scheduled es) p ≡ first_due now (map scheduled es)
-  job_of-due now [] p item first found due = absurd (cc)
-  job_of-due now (e ∷ es) p item first found due =
-      let same : (e.index, e.generation) ≡ p = cc in
-      let own : Some (e.item) ≡ Some item = grind (arith, common_steps, found, same) in
-      let on_time : leb e.item.0 now ≡ true = grind (arith, nat_tests, due, own) in
-      job_of-first (scheduled e) (map scheduled es) p same ∙ rw on_time refl
 
   -- without the job of a ticket, where it names one, the entries are those without its index
   pub without-found : (es : List (Entry (ℕ × J))) → AreDistinct es → (t : ℕ × ℕ) → IsSome (item_of es t) → without (map scheduled es) t ≡ map scheduled (without_index t.0 es)
@@ -116,7 +107,7 @@ module _ {J : Type 0} where
     -- one call has taken a job out, or left all as it was
     pub step-removed : (o : Option (ℕ × J)) → o ≡ item_of old.list.entries t → OnSome o IsTaken → IfNone o (new ≡ old)
         → IsStep (agenda_of old) (agenda_of new)
-    step-removed None value taken none = stays (ap agenda_of none)
+    step-removed None value taken none = step-stays (agenda_of old) (agenda_of new) (ap agenda_of none)
     step-removed (Some item) value taken none =
         let there : IsSome (item_of old.list.entries t) = ap is_some (sym value) in
-        leaves t (subst (λ (o : Option (ℕ × J)). IsSome o) (sym (job_of-found old.list.entries distinct t)) there) (agenda-removed there taken)
+        step-leaves (agenda_of old) (agenda_of new) t (subst (λ (o : Option (ℕ × J)). IsSome o) (sym (job_of-found old.list.entries distinct t)) there) (agenda-removed there taken)

@@ -7,7 +7,8 @@ use Rattle.chain_base.specs.Chain.{Chain, item_of, IsSound}
 use Rattle.ord_tree.specs.Tree.{Tree}
 use Rattle.triple_ord.specs.Rekey.{Rekeys}
 use Rattle.agenda.specs.Agenda.{Scheduled, MovesDeadline, Updates, IsInOrder, job_of, without, count, most_jobs}
-use Rattle.agenda.specs.Tickets.{IsStep, stays, moves}
+use Rattle.agenda.specs.Tickets.{IsStep}
+use Rattle.agenda.proofs.Steps.{step-stays, step-moves}
 use Rattle.agenda.specs.Layout.{greatest_generation, deadline_of, scheduled, agenda_of, IsArenaOfJobs}
 use Rattle.agenda.proofs.Deadlines.{in_order-between, in_order-back, none-later, all-later}
 use Rattle.agenda.proofs.Leaving.{job_of-found, distinct-found, without-found, in_order-without}
@@ -76,7 +77,7 @@ module _ {J : Type 0} (old new : Tree (ℕ × J)) (t : ℕ × ℕ) (d : ℕ)
         moved = goes;
         updates = updates-moves_deadline (agenda_of old) t d (agenda_of new) distinct goes;
         same_count = count-moves_deadline (agenda_of old) t d (agenda_of new) distinct goes;
-        step = moves t d goes;
+        step = step-moves (agenda_of old) (agenda_of new) t d goes;
         arena = arena-rekeyed old new t d job sound holds there r;
       }
 
@@ -88,7 +89,7 @@ module _ {J : Type 0} (old new : Tree (ℕ × J)) (t : ℕ × ℕ) (d : ℕ)
         moved = tt;
         updates = rw named (updates-none (agenda_of old) t named);
         same_count = refl;
-        step = stays refl;
+        step = step-stays (agenda_of old) (agenda_of old) refl;
         arena = holds;
       }
 

@@ -4,14 +4,18 @@ use Rattle.std.specs.List.{All}
 use Rattle.agenda.specs.Agenda.{Agenda, job_of, without, with_left, Schedules, Reschedules, MovesDeadline}
 
 -- What one call does to an agenda: nothing, or one job comes, leaves, or gets another deadline, under its ticket or under a new one.
-pub data IsStep {J : Type 0} (old new : Agenda J) : Type 0 where
-  stays : new ≡ old → IsStep old new
-  comes : (t : ℕ × ℕ) (deadline : ℕ) (job : J) → Schedules old t deadline job new → IsStep old new
-  leaves : (t : ℕ × ℕ) → IsSome (job_of old.jobs t) → new ≡ with_left old (without old.jobs t) → IsStep old new
-  moves : (t : ℕ × ℕ) (deadline : ℕ) → MovesDeadline old t deadline new → IsStep old new
-  renews : (t u : ℕ × ℕ) (deadline : ℕ) → Reschedules old t u deadline new → IsStep old new
+pub data Step {J : Type 0} (old new : Agenda J) : Type 0 where
+  stays : new ≡ old → Step old new
+  comes : (t : ℕ × ℕ) (deadline : ℕ) (job : J) → Schedules old t deadline job new → Step old new
+  leaves : (t : ℕ × ℕ) → IsSome (job_of old.jobs t) → new ≡ with_left old (without old.jobs t) → Step old new
+  moves : (t : ℕ × ℕ) (deadline : ℕ) → MovesDeadline old t deadline new → Step old new
+  renews : (t u : ℕ × ℕ) (deadline : ℕ) → Reschedules old t u deadline new → Step old new
 
 module _ {J : Type 0} where
+  -- the same as one word, so that a caller's proof hands it to the law and doesn't go through the cases
+  unfoldable pub IsStep : Agenda J → Agenda J → Type 0
+  IsStep old new = Step old new
+
   -- A run of calls: each agenda comes from the one before it by a call that doesn't make the generations begin again.
   abbrev pub IsRun : Agenda J → List (Agenda J) → Agenda J → Type 0
   IsRun old [] new = new ≡ old
@@ -26,8 +30,8 @@ module _ {J : Type 0} where
     pub nothing : job_of a.jobs t ≡ None
     pub passed : t.1 < a.generation
 
-  -- From old to new, each ticket that had ended stays so; and if `old` has no later ticket, `new` has none, and each ticket that named a job
-  -- and names none has ended.
+  -- From old to new, each ticket that had ended stays so; and if `old` has no later ticket, `new` has none, and each ticket that named a
+  -- job and names none has ended.
   pub record KeepsEnded (old new : Agenda J) : Type 0 where
     pub ended : (t : ℕ × ℕ) → HasEnded old t → HasEnded new t
     pub no_later : HasNoLaterTicket old → HasNoLaterTicket new

@@ -3,8 +3,10 @@
 ghost use Rattle.std.specs.Prelude.{◌≡◌, ◌≢◌, ◌+◌, ◌-◌, ◌≤◌, ℕ};
 ghost use Rattle.std.specs.Prelude.{Some, None, IfOk, OnOk, IfErr, OnErr, IfSome, IfNone, OnSome, is_some};
 ghost use Rattle.std.specs.{Option.option_map, Bool.OnFalse};
-ghost use Rattle.agenda.specs.Agenda.{job_of, count, first_deadline};
+ghost use Rattle.agenda.specs.Agenda.{job_of, count, first_deadline, first_due};
+ghost use Rattle.agenda.specs.Tickets.{HasNoLaterTicket, HasEnded};
 
+use agenda::laws::ended_ticket_law;
 use agenda::{Agenda, Ticket};
 
 /// Notes by time.
@@ -89,6 +91,35 @@ pub fn next_due(reminders: &mut Reminders, now: u64) -> Option<(u64, String)>
     ensures none { IfNone result (reminders.new ≡ reminders.old) }
 {
     reminders.pop_due(now)
+}
+
+/// Takes off the note that is to be shown now and puts down another one. Returns the first, and the ticket of the second. The ticket of
+/// the note that was taken off has ended, unless the generations of tickets begin again: it doesn't name the new note either.
+pub fn show_next(
+    reminders: &mut Reminders,
+    now: u64,
+    time: u64,
+    note: String,
+) -> Result<(String, Ticket), String>
+    ensures names { IfOk result
+        (λ shown. job_of reminders.new.jobs shown.1 ≡ Some (time, note)) }
+    ensures ended { HasNoLaterTicket reminders.old
+        → reminders.old.generation ≤ reminders.new.generation
+        → OnOk result ((ticket : ℕ × ℕ)
+        × (job_of reminders.old.jobs ticket ≡ first_due now reminders.old.jobs)
+        × HasEnded reminders.new ticket) }
+    ensures no_later { HasNoLaterTicket reminders.old
+        → reminders.old.generation ≤ reminders.new.generation
+        → HasNoLaterTicket reminders.new }
+{
+    ended_ticket_law::<String>();
+    let Some((_, shown)) = reminders.pop_due(now) else {
+        return Err(note);
+    };
+    match reminders.schedule(time, note) {
+        Ok(ticket) => Ok((shown, ticket)),
+        Err((note, _)) => Err(note),
+    }
 }
 
 /// How long no note is to be shown: 0 where one is due, and `None` where there is none.

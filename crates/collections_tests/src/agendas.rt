@@ -112,7 +112,10 @@ fn fill(letters: &mut Letters<&LocalHeap>) -> Option<usize> {
 }
 
 /// All memory that a heap has left.
-fn rest_of(alloc: Global, heap: &LocalHeap) -> Result<Vec<Vec<u8, &LocalHeap>>, AllocError> {
+pub(crate) fn rest_of(
+    alloc: Global,
+    heap: &LocalHeap,
+) -> Result<Vec<Vec<u8, &LocalHeap>>, AllocError> {
     let mut blocks = Vec::new(alloc);
     for size in (1..2048usize).rev() {
         if let Ok(block) = Vec::with_capacity(heap, size) {

@@ -1,6 +1,7 @@
 //! Timelines of small numbers, as a program sees them.
+use crate::agendas::rest_of;
 use linked_list_allocator::LocalHeap;
-use std::alloc::{AllocError, Global};
+use std::alloc::Global;
 use timeline::{ReallocationError, Span, Timeline};
 
 type Numbers<A = Global> = Timeline<u8, A>;
@@ -241,4 +242,30 @@ fn nothing_changes_where_memory_is_refused(rt: HostRuntime) {
     }
     // each growth was refused in turn: from nothing, from 4, from 8, from 16
     assert!(rt; met[0] && met[2] && met[4] && met[8] && met[9]);
+}
+
+/// Sets five times from this one on, and tells whether it was done; None where it was refused for want of memory.
+fn set_from(numbers: &mut Numbers<&LocalHeap>, from: u64) -> Option<bool> {
+    match numbers.set(from, from.wrapping_add(5), 1) {
+        Ok(()) => Some(true),
+        Err(ReallocationError::AllocError) => None,
+        Err(_) => Some(false),
+    }
+}
+
+#[test]
+fn a_setting_with_room_for_two_changes_asks_for_no_memory(rt: HostRuntime) {
+    let heap = LocalHeap::new(rt.alloc(), 2048).expect(&rt, "a heap");
+    let mut numbers: Numbers<&LocalHeap> = Timeline::new(&heap);
+    for from in [0u64, 10, 20].iter() {
+        assert!(rt; set_from(&mut numbers, *from) == Some(true));
+    }
+    assert!(rt; (numbers.len(), numbers.capacity()) == (6, 8));
+    let rest = rest_of(rt.alloc(), &heap).expect(&rt, "memory");
+    assert!(rt; set_from(&mut numbers, 30) == Some(true));
+    assert!(rt; set_from(&mut numbers, 40).is_none());
+    assert!(rt; (numbers.len(), numbers.capacity()) == (8, 8));
+    drop(rest);
+    assert!(rt; set_from(&mut numbers, 40) == Some(true));
+    assert!(rt; (numbers.len(), numbers.capacity()) == (10, 16));
 }

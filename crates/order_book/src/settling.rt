@@ -1,6 +1,7 @@
 //! What an order does to the two sides of a book.
 
-ghost use Rattle.std.specs.Prelude.{◌≡◌, ◌≢◌, ◌↔◌, ◌+◌, ◌-◌, ◌<◌, ◌++◌, ◌⊎◌, Err, Some, None, IfOk, OnOk, OnErr, IfSome, length, vec_capacity};
+ghost use Rattle.std.specs.Prelude.{◌≡◌, ◌≢◌, ◌↔◌, ◌+◌, ◌-◌, ◌<◌, ◌++◌, ◌⊎◌, Err, Some, None, length, vec_capacity};
+ghost use Rattle.std.specs.Prelude.{IfOk, OnOk, OnErr, IfSome};
 ghost use Rattle.order_queue.specs.Queue.{most_orders, order_of, traded, trades_of_first, taken, total, volume, with_left};
 ghost use Rattle.order_book.specs.Book.{IsFull, LacksRoom, RestsOrNot};
 

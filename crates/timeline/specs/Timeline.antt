@@ -49,10 +49,11 @@ module _ {V : Type 0} where
     pub within : length t.changes ≤ t.capacity
     pub limited : t.capacity ≤ most_changes
 
-  -- The capacity with room for two more changes: what it is, where there is room; otherwise twice that, at most as many as there can be, and
-  -- at least enough.
+  -- The capacity with room for two more changes: what it is, if there is room; otherwise twice that, at most as many as there can be, and at
+  -- least enough.
   abbrev pub roomy_capacity : Timeline V → ℕ
-  roomy_capacity t = let needed = length t.changes + 2 in if leb needed t.capacity then t.capacity else max needed (min most_changes (2 * t.capacity))
+  roomy_capacity t = let needed = length t.changes + 2 in
+      if leb needed t.capacity then t.capacity else max needed (min most_changes (2 * t.capacity))
 
   -- the capacity after a setting from one time until another; one over no time takes no room
   abbrev pub capacity_set : Timeline V → ℕ → ℕ → ℕ

@@ -159,7 +159,7 @@ fn rest(list: &mut Vec<Resting>, order: Placed, id: Option<OrderId>, left: u64) 
     list.push(resting).is_ok() && left > 0
 }
 
-/// Places an order on the book and in the list, and tells whether they do the same.
+/// Places an order on the book and in the list, and tells whether they do the same, and as much was offered as is traded.
 fn place(
     book: &mut OrderBook,
     list: &mut Vec<Resting>,
@@ -167,12 +167,16 @@ fn place(
     order: Placed,
 ) -> bool {
     trades.clear();
+    let offered = book.offered(order.0, order.1, order.2);
     let Ok(id) = book.place(order.0, order.1, order.2, trades) else {
         return false;
     };
     let Some(left) = trade(list, order, trades) else {
         return false;
     };
+    if offered.wrapping_add(left) != order.2 {
+        return false;
+    }
     rest(list, order, id, left) && are_alike(book, list) && is_uncrossed(book)
 }
 

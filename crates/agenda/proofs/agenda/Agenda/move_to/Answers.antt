@@ -1,5 +1,6 @@
 use Rattle.std.proofs.Common.{◌∙◌, sym, ap, is_some}
-use Rattle.agenda.specs.Tickets.{renews}
+use Rattle.agenda.proofs.Steps.{step-stays, step-renews}
+use Rattle.std.proofs.Common.{rules}
 use Rattle.agenda.proofs.{Moving.arena-moved, Moving.rescheduled, Moving.moves-moved, Moving.count-moved, Leaving.job_of-found}
 use Rattle.agenda.proofs.agenda.Agenda.move_to.Goals as goal
 
@@ -44,6 +45,9 @@ returns-clause-count g c =
 pub returns-clause-step : goal.returns-clause-step
 returns-clause-step g c =
     let some = sym c.allow.ensures ∙ c.in_ok-moved.was in
-    rw (← c.self.view_is) (renews _ _ _ (rescheduled c.self.inside.jobs c.remove.new.self c.put_within-pointer.new.jobs c.ticket.inside.pointer c.put_within-pointer.result c.args.deadline c.in_ok-moved.moved
+    rw (← c.self.view_is) (step-renews _ _ _ _ _ (rescheduled c.self.inside.jobs c.remove.new.self c.put_within-pointer.new.jobs c.ticket.inside.pointer c.put_within-pointer.result c.args.deadline c.in_ok-moved.moved
     c.len.ensures.sound c.self.invariant (sym c.remove.ensures.removal.value ∙ some) (rw some at c.remove.ensures.removal.removed) c.put_within-pointer.ensures.sound
     (rw c.into_k_v-job.ensures at c.put_within-pointer.ensures.inserted)))
+
+pub returns-in_err-moved-clause-step : goal.returns-in_err-moved-clause-step
+returns-in_err-moved-clause-step g c = step-stays _ _ (search rules)

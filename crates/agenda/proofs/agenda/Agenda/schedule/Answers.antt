@@ -1,5 +1,6 @@
 use Rattle.triple_ord.specs.Insertion.{reallocating}
-use Rattle.agenda.specs.Tickets.{comes}
+use Rattle.agenda.proofs.Steps.{step-stays, step-comes}
+use Rattle.std.proofs.Common.{rules}
 use Rattle.agenda.proofs.{Putting.schedules-inserted, Putting.arena-inserted, Naming.updates-scheduled, Naming.count-scheduled}
 use Rattle.agenda.proofs.agenda.Agenda.schedule.Goals as goal
 
@@ -23,4 +24,7 @@ returns-clause-count g c =
 
 pub returns-clause-step : goal.returns-clause-step
 returns-clause-step g c =
-    rw (← c.self.view_is) (comes _ _ _ (schedules-inserted reallocating c.self.inside.jobs c.put.new.jobs c.args.deadline c.args.job c.in_ok-pointer.pointer c.in_ok-pointer.ensures.ok c.put.ensures.sound c.self.invariant))
+    rw (← c.self.view_is) (step-comes _ _ _ _ _ (schedules-inserted reallocating c.self.inside.jobs c.put.new.jobs c.args.deadline c.args.job c.in_ok-pointer.pointer c.in_ok-pointer.ensures.ok c.put.ensures.sound c.self.invariant))
+
+pub returns-in_err-pointer-clause-step : goal.returns-in_err-pointer-clause-step
+returns-in_err-pointer-clause-step g c = step-stays _ _ (search rules)
