@@ -1,7 +1,8 @@
 -- For callers: what an index finds in the list, and how many entries there are, after each change.
-use Rattle.std.proofs.Common.{◌≡◌, ◌≢◌, ℕ, suc, ◌+◌, ◌<◌, ◌≤◌, List, [], ◌∷◌, ◌++◌, length, map, slice_get, slice_index_or, Option, Some, None, IsSome, append_assoc, refl, sym, ap, ◌∙◌, arith, inl, inr, option_map, length-append}
+use Rattle.std.proofs.Common.{◌≡◌, ◌≢◌, ℕ, suc, ◌+◌, ◌<◌, ◌≤◌, List, [], ◌∷◌, ◌++◌, length, map, slice_get, slice_index_or, Option, Some, None, IsSome, is_some, true, append_assoc, refl, sym, ap, ◌∙◌, arith, inl, inr, option_map, length-append}
 use Rattle.std.proofs.{lemmas.Option.slice_get_cases, lemmas.Option.slice_get_within, lemmas.Option.get_or_from_slice_get, lemmas.Bool.Decides.eqb_tells, lemmas.Grind.common_steps}
-use Rattle.chain_base.specs.Chain.{Entry, times, IsDistinct, entry_at, insert_after, insert_before, without, with_item_among, with_generation}
+use Rattle.std.specs.Prelude.{IsNone, ◌↔◌}
+use Rattle.chain_base.specs.Chain.{Entry, times, IsDistinct, last_pointer, entry_at, insert_after, insert_before, without, with_item_among, with_generation}
 use Rattle.chain_base.specs.Compression.{lesser, compressed_index, moved, at_compressed_index, numbered}
 use Rattle.chain_base.proofs.Lists.{Stands-occurs, with_item_among-changed_at, with_generation-changed_at, entry_at-changed_at_other, entry_at-changed_at, same-changed_at}
 use Rattle.chain_base.proofs.{Renumbering.times-source, Renumbering.entry_at-renumbered, Ranking.place-found, Ranking.place-injective, Canonical.entry-absent}
@@ -23,6 +24,17 @@ pub use Rattle.chain_base.proofs.CloneKept.{clone-kept, clone-same, refused-foun
 pub use Rattle.chain_base.proofs.Cloning.{clone-restated, refusal-restated, left-refused}
 
 module _ {T : Type 0} where
+  some-last : (e : Entry T) (es : List (Entry T)) → is_some (last_pointer (e ∷ es)) ≡ true
+  some-last e [] = refl
+  some-last e (f ∷ es) = some-last f es
+
+  -- a list without a last entry has none
+  pub last-empty : {P : Type 0} (numbers : P → ℕ × ℕ) (o : Option P) (es : List (Entry T)) → option_map numbers o ≡ last_pointer es → IsNone o ↔ (es ≡ [])
+  last-empty numbers None [] is = (λ none. refl, λ none. refl)
+  last-empty numbers None (e ∷ es) is = absurd (let some = some-last e es in cc)
+  last-empty numbers (Some p) [] is = absurd cc
+  last-empty numbers (Some p) (e ∷ es) is = (λ none. absurd (cc), λ none. absurd (cc))
+
   -- without the entry of an index, every other index finds what it found
   pub entry_at-without_other : (es : List (Entry T)) (i j : ℕ) → j ≢ i → entry_at (without i es) j ≡ entry_at es j
   entry_at-without_other [] i j other = refl

@@ -1,4 +1,5 @@
 -- A chain of nodes and the list of its items: each look-up in the one reads what the other has.
+use Rattle.std.specs.Prelude.{IsNone}
 use Rattle.chain_base.specs.Chain.{item_of}
 use Rattle.ord_tree.specs.{Node.bare_entry, Node.links_in, Node.slots_of, Node.indexes, Parents.HasParentUnder, Slots.Slots, Slots.Holds, Slots.Among, declared.tree_links.TreeLinks.TreeLinks}
 use Rattle.triple_ord.proofs.Words.{◌≡◌, ℕ, ◌↔◌, length, List, [], ◌∷◌, ◌++◌, Option, Some, None, IsSome, IfSome, is_some, refl, sym, ap, subst, ◌∙◌, inl, inr, ◌⊎◌, map, length-map, nil_from_length, option_map, Arena, slot, item_if, Link}
@@ -55,6 +56,9 @@ module _ {P T I G : Type 0} where
 
     pub last_pointer_under : last_pointer c.entries ≡ last_pointer t.list.entries
     last_pointer_under = sym (last_pointer-bare c.entries) ∙ ap (λ (l : Chain T). last_pointer l.entries) under.list
+
+    pub none_under : {X : Type 0} (o : Option X) → IsNone o ↔ (c.entries ≡ []) → IsNone o ↔ (length t.list.entries ≡ 0)
+    none_under o tells = (λ none. sym length-under ∙ ap length (tells.0 none), λ none. tells.1 (nil_from_length c.entries (length-under ∙ none)))
 
     pub capacity-under : c.capacity ≡ t.list.capacity
     capacity-under = ap (λ (l : Chain T). l.capacity) under.list

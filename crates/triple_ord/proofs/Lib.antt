@@ -8,6 +8,7 @@ pub mod RekeyOrder
 pub mod Descending
 pub mod OtherEntries
 pub mod Stepping
+pub mod NearEnds
 pub mod Bare
 pub mod Content
 pub mod CallerLemmas

@@ -126,14 +126,14 @@ module _ {T K : Type 0} (key : T → K) (cmp : K → K → Ordering) (es : List 
       }
 
   -- the order turned, if there is an entry on this side
-  abbrev HasTurned : Ordering → Ordering → Option ℕ → Type 0
+  abbrev pub HasTurned : Ordering → Ordering → Option ℕ → Type 0
   HasTurned came o beside = IfSome beside (λ j. o ≡ ordering_reverse came)
 
   module _ (start visits : ℕ) (front back : List (Entry T)) where
-    abbrev CameHere : Ordering → Type 0
+    abbrev pub CameHere : Ordering → Type 0
     CameHere came = CameFrom key cmp es k start visits front back came
 
-    abbrev IsAnswered : Ordering → Option (Entry T) → Type 0
+    abbrev pub IsAnswered : Ordering → Option (Entry T) → Type 0
     IsAnswered o beside = IfSome beside (λ e. order_to key cmp k e ≡ o) × (present beside ≤ visits)
 
     -- as long as the order stays, each step goes one place further
@@ -146,13 +146,13 @@ module _ {T K : Type 0} (key : T → K) (cmp : K → K → Ordering) (es : List 
     place-greater came from ahead = omega arith
 
     -- where the order turns, the steps came from the entry on the other side; else there is none
-    low-answered : (came : Ordering) → CameHere came → (o : Option (Entry T)) → last_of None front ≡ o
+    pub low-answered : (came : Ordering) → CameHere came → (o : Option (Entry T)) → last_of None front ≡ o
         → HasTurned came Less (option_map (λ e. e.index) o) → IsAnswered Greater o
     low-answered came from None is turned = (tt, omega arith)
     low-answered Greater from (Some f) is turned = let same : from.0 ≡ f = (let both = from.1 in cc) in (rw same at from.2, from.3)
     low-answered came from (Some f) is turned = absurd (cc)
 
-    high-answered : (came : Ordering) → CameHere came → (o : Option (Entry T)) → first_of back ≡ o
+    pub high-answered : (came : Ordering) → CameHere came → (o : Option (Entry T)) → first_of back ≡ o
         → HasTurned came Greater (option_map (λ e. e.index) o) → IsAnswered Less o
     high-answered came from None is turned = (tt, omega arith)
     high-answered Less from (Some f) is turned = let same : from.0 ≡ f = (let both = from.1 in cc) in (rw same at from.2, from.3)
@@ -163,7 +163,7 @@ module _ {T K : Type 0} (key : T → K) (cmp : K → K → Ordering) (es : List 
     stepping-occupied = rw (← s.here, entry_at-here es distinct s.front s.entry s.back s.cut) refl
 
     module _ (generation : ℕ) (l : Link T) (is : link_at es i ≡ Some (generation, l)) where
-      linked : IsLinked s.front s.entry s.back generation l
+      pub linked : IsLinked s.front s.entry s.back generation l
       linked = link-read es distinct s.front s.entry s.back s.cut generation l (ap (link_at es) s.here ∙ is)
 
       pub stepping-order : (o : Ordering) → o ≡ cmp k (key l.item) → order_to key cmp k s.entry ≡ o
@@ -203,7 +203,7 @@ module _ {T K : Type 0} (key : T → K) (cmp : K → K → Ordering) (es : List 
             few = omega (arith, place, ap length s.cut, length-append s.front (s.entry ∷ s.back), ap length begin.1);
           }
 
-      named : (pointer s.entry) ≡ (i, generation)
+      pub named : (pointer s.entry) ≡ (i, generation)
       named = let g = linked.generation in let h = s.here in cc
 
       -- the steps end with an answer

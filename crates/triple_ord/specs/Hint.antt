@@ -1,7 +1,7 @@
 -- How near a hint is: how many entries there are from the one that it names to the gap where a key belongs.
-use Rattle.std.specs.{Prelude.ℕ, Prelude.◌+◌, Prelude.◌-◌, Prelude.◌≤◌, Prelude.◌==◌, Prelude.nat_lt, Prelude.if◌then◌else◌, Prelude.List, Prelude.[], Prelude.◌∷◌, Prelude.length, Prelude.IsSome, declared.cmp.Ordering.Ordering}
+use Rattle.std.specs.{Prelude.◌≡◌, Prelude.Option, Option.option_map, Option.option_or, Prelude.ℕ, Prelude.◌+◌, Prelude.◌-◌, Prelude.◌≤◌, Prelude.◌==◌, Prelude.nat_lt, Prelude.if◌then◌else◌, Prelude.List, Prelude.[], Prelude.◌∷◌, Prelude.length, Prelude.IsSome, declared.cmp.Ordering.Ordering}
 use Rattle.chain_base.specs.Chain.{Entry, entry_at}
-use Rattle.triple_ord.specs.{Gap.Gap, Gap.before, Gap.after, Gap.present, Order.IsInOrder, Search.Fits}
+use Rattle.triple_ord.specs.{Gap.Gap, Gap.before, Gap.after, Gap.present, Order.IsInOrder, Search.Fits, Search.pointer, Search.order_to}
 
 module _ {T : Type 0} where
   -- how many entries stand before the one with this index
@@ -15,8 +15,19 @@ module _ {T : Type 0} where
   way_length gap at = if nat_lt at (length gap.front) then length gap.front + present (after gap) - at
       else at + 1 - (length gap.front - present (before gap))
 
+  -- the entry at which that way ends: the far neighbour, or the end of the list where there is none
+  abbrev pub way_end : {entries : List (Entry T)} → Gap entries → ℕ → Option (Entry T)
+  way_end gap at = if nat_lt at (length gap.front) then option_or (after gap) (before gap) else option_or (before gap) (after gap)
+
 -- On a list in the order of its keys, with a gap that fits k, a search from the entry with index i makes c visits: no more than there
 -- are entries from there to the far neighbour of the gap, where these are no more than num.
 abbrev pub IsNearHint : {T K : Type 0} → (T → K) → (K → K → Ordering) → List (Entry T) → K → ℕ → ℕ → ℕ → Type 0
 IsNearHint key cmp entries k i num c = IsInOrder key cmp entries → IsSome (entry_at entries i) → (gap : Gap entries) → Fits key cmp gap k
     → way_length gap (position_of entries i) ≤ num → c ≤ way_length gap (position_of entries i)
+
+-- On a list in the order of its keys, with a gap that fits k, a search from the entry with index i returns the entry at which the way to
+-- the gap ends, where the way has no more entries than num.
+abbrev pub AnswersNear : {T K : Type 0} → (T → K) → (K → K → Ordering) → List (Entry T) → K → ℕ → ℕ → Option ((ℕ × ℕ) × Ordering) → Type 0
+AnswersNear key cmp entries k i num found = IsInOrder key cmp entries → IsSome (entry_at entries i) → (gap : Gap entries) → Fits key cmp gap k
+    → way_length gap (position_of entries i) ≤ num
+    → found ≡ option_map (λ e. (pointer e, order_to key cmp k e)) (way_end gap (position_of entries i))

@@ -6,3 +6,7 @@ use Rattle.chain_base.specs.Chain.{Entry}
 abbrev pub IsInOrder : {T K : Type 0} → (T → K) → (K → K → Ordering) → List (Entry T) → Type 0
 IsInOrder {T} key cmp entries =
     (front back : List (Entry T)) (e f : Entry T) → entries ≡ front ++ e ∷ f ∷ back → cmp (key e.item) (key f.item) ≢ Greater
+
+-- each call leaves the key of the item as it is
+abbrev pub KeepsKeys : {P T K F : Type 0} → (T → K) → (F → P → T → P → T → F → Type 0) → Type 0
+KeepsKeys {P} {T} {K} {F} key step = (f g : F) (p q : P) (before after : T) → step f p before q after g → key after ≡ key before

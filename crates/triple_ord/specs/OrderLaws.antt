@@ -1,10 +1,10 @@
 -- What is true of searches and insertions on a list in order, and of rebuilt shapes: each a statement of its own.
-use Rattle.std.specs.{Prelude.◌≡◌, Prelude.◌≢◌, Prelude.◌↔◌, Prelude.ℕ, Prelude.◌⊎◌, Prelude.List, Prelude.[], Prelude.◌∷◌, Prelude.◌++◌, Prelude.Option, Prelude.Some, Prelude.None, Prelude.Result, Prelude.Contains, Prelude.map, List.All}
+use Rattle.std.specs.{Prelude.◌≡◌, Prelude.◌≢◌, Prelude.◌↔◌, Prelude.ℕ, Prelude.◌⊎◌, Prelude.List, Prelude.[], Prelude.◌∷◌, Prelude.◌++◌, Prelude.Option, Prelude.Some, Prelude.None, Prelude.Result, Prelude.Contains, List.All}
 use Rattle.std.specs.declared.cmp.Ordering.{Ordering, TheVariants.Less, TheVariants.Equal, TheVariants.Greater}
-use Rattle.chain_base.specs.{Chain.Entry, Chain.IsDistinct, Chain.IsSound, Compression.IsCompression}
+use Rattle.chain_base.specs.Chain.{Entry, IsDistinct}
 use Rattle.ord_tree.specs.{Half.IsRebuilt, Shape.Shape, Shape.missing, Shape.node, Shape.size_of, Tree.Tree}
 use Rattle.triple_ord.specs.{declared.entry_kind.OrdEntryKind.OrdEntryKind, declared.error.OrdInsertionError.OrdInsertionError, Search.pointer, Search.order_to, Search.FindsKey, Search.FindsSimilar, Insertion.Growth, Insertion.InsertsBy}
-use Rattle.triple_ord.specs.{ClosureSearch.Shown, ClosureSearch.FindsWith, Place.Aim, Place.at_key, Place.behind_key, Arena.items, Gap.Gap, Gap.before, Gap.after, Order.IsInOrder}
+use Rattle.triple_ord.specs.{ClosureSearch.Shown, ClosureSearch.FindsWith, Place.Aim, Place.at_key, Place.behind_key, Gap.Gap, Gap.before, Gap.after, Order.IsInOrder}
 
 module _ {T K : Type 0} (key : T → K) (cmp : K → K → Ordering) where
   -- no entry has an equal key
@@ -56,16 +56,6 @@ KeptOrderLaw {P} {T} {K} numbers key cmp =
     (most : ℕ) (growth : Growth) (aim : Aim K) (k : K) (old new : Tree T) (item : T) (answer : Result (OrdEntryKind P × Option T) OrdInsertionError)
     → GoesBy aim k → cmp k (key item) ≡ Equal → IsDistinct old.list.entries → IsInOrder key cmp old.list.entries
     → InsertsBy key cmp most growth aim numbers old item answer new → IsInOrder key cmp new.list.entries
-
--- each call leaves the key of the item as it is
-abbrev pub KeepsKeys : {P T K F : Type 0} → (T → K) → (F → P → T → P → T → F → Type 0) → Type 0
-KeepsKeys {P} {T} {K} {F} key step = (f g : F) (p q : P) (before after : T) → step f p before q after g → key after ≡ key before
-
--- A compression whose calls leave the key of each item as it is leaves the list of keys as it is.
-abbrev pub KeptKeysLaw : {P T K F : Type 0} → (P → ℕ × ℕ) → (T → K) → ℕ → Option ℕ → (F → P → T → P → T → F → Type 0) → Type 0
-KeptKeysLaw {P} {T} {K} {F} numbers key most greatest step = (g : ℕ) (f : F) (old new : Tree T)
-    → KeepsKeys key step → IsSound most greatest old.list → IsCompression numbers step g f old.list new.list
-    → map key (items new) ≡ map key (items old)
 
 -- the ranks of the nodes, in order
 abbrev pub ranks_of : Shape → List ℕ

@@ -2,7 +2,8 @@
 use Rattle.std.specs.Prelude.{◌≡◌, ℕ, ◌+◌, ◌<◌, ◌≤◌, List, ◌∷◌, ◌++◌, Option, Some, None, IfSome, MatchOption, length}
 use Rattle.std.specs.declared.cmp.Ordering.{Ordering, TheVariants.Less, TheVariants.Equal, TheVariants.Greater}
 use Rattle.chain_base.specs.{Chain.Entry, Link.Link}
-use Rattle.triple_ord.specs.{Search.order_to, Search.Fits, Search.FindsSimilar, Gap.Gap, Gap.first_of, Gap.last_of, Hint.position_of, Hint.way_length, Order.IsInOrder}
+use Rattle.std.specs.Option.{option_map}
+use Rattle.triple_ord.specs.{Hint.way_end, Search.pointer, Search.order_to, Search.Fits, Search.FindsSimilar, Gap.Gap, Gap.first_of, Gap.last_of, Hint.position_of, Hint.way_length, Order.IsInOrder}
 
 -- the neighbour on the side on which a key lies, none for an equal key
 abbrev pub neighbour_towards : {X : Type 0} → Link X → Ordering → Option ℕ
@@ -20,6 +21,11 @@ module _ {T K : Type 0} (key : T → K) (cmp : K → K → Ordering) (entries : 
   abbrev pub IsNear : {X : Type 0} → ℕ → ℕ → Option X → ℕ → Type 0
   IsNear i num found visits = IsInOrder key cmp entries → (gap : Gap entries) → Fits key cmp gap k
       → MatchOption found (num < way_length gap (position_of entries i)) (λ answer. visits ≤ way_length gap (position_of entries i))
+
+  -- from the index i, on a list in order with a gap that fits k: the steps return the entry at which the way to the gap ends, if anything
+  abbrev pub EndsNear : ℕ → Option ((ℕ × ℕ) × Ordering) → Type 0
+  EndsNear i found = IsInOrder key cmp entries → (gap : Gap entries) → Fits key cmp gap k
+      → IfSome found (λ answer. option_map (λ e. (pointer e, order_to key cmp k e)) (way_end gap (position_of entries i)) ≡ Some answer)
 
   -- the steps went so many entries from a place: to the one with `front` before it and `back` behind it; the entry that they came
   -- from was answered `came`, Equal where they begin

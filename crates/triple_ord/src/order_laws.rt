@@ -1,7 +1,7 @@
 //! Laws of lists in the order of their keys or of a closure's answers, and of rebuilt trees. The functions here do nothing, and the
 //! contract of each is the law.
 ghost use Rattle.triple_ord.specs.ClosureSearch.{Asks};
-ghost use Rattle.triple_ord.specs.OrderLaws.{AbsentKeyLaw, AnsweredInOrderLaw, BesidePlaceLaw, KeptKeysLaw, KeptOrderLaw, SameRanksLaw};
+ghost use Rattle.triple_ord.specs.OrderLaws.{AbsentKeyLaw, AnsweredInOrderLaw, BesidePlaceLaw, KeptOrderLaw, SameRanksLaw};
 ghost use Rattle.triple_ord.specs.Rekey.{RekeyOrderLaw};
 
 use crate::item::SimpleOrdItem;
@@ -34,12 +34,6 @@ pub fn kept_order_law<P: BasePtr, T: SimpleOrdItem>()
 /// After `rekey` or `reposition` all entries are in the order of their keys, if the other entries were, whatever key the entry had.
 pub fn rekey_order_law<T: SimpleOrdItem>()
     ensures { RekeyOrderLaw T.key_of T.Key.cmp }
-{}
-
-/// `compress_with` leaves the list of keys as it is, if each call of the closure leaves the key of its item as it is. The closure is
-/// named so that its type is known.
-pub fn kept_keys_law<P: BasePtr, T: SimpleOrdItem, F: FnMut(P, T, P) -> T>(_f: &F)
-    ensures { KeptKeysLaw P.numbers T.key_of P.Inx.most P.Gen.greatest F.step }
 {}
 
 /// Two arenas of one length that were just rebuilt have the same ranks, position by position.

@@ -2,7 +2,7 @@
 ghost use Rattle.std.specs.Prelude.{◌≡◌, ◌≤◌, IsSome, length};
 ghost use Rattle.std.specs.Option.{option_map};
 ghost use Rattle.chain_base.specs.Chain.{entry_at, IsDistinct};
-ghost use Rattle.triple_ord.specs.Steps.{neighbour_towards, Settles, IsNear};
+ghost use Rattle.triple_ord.specs.Steps.{neighbour_towards, Settles, IsNear, EndsNear};
 ghost use Rattle.triple_ord.specs.Ties.{taken};
 
 use crate::item::SimpleOrdItem;
@@ -37,6 +37,8 @@ pub(crate) fn step_along<P: BasePtr, T: SimpleOrdItem, A: Allocator>(
     ensures within { probe.new.visits ≤ length probe.old.tree.now.list.entries }
     ensures near { IsNear T.key_of T.Key.cmp probe.old.tree.now.list.entries k.now
         (P.Inx.number p_init) num result probe.new.visits }
+    ensures ends { EndsNear T.key_of T.Key.cmp probe.old.tree.now.list.entries k.now
+        (P.Inx.number p_init) (option_map (λ a. (P.numbers a.0, a.1)) result) }
     ensures tree { probe.new.tree.now ≡ probe.old.tree.now }
 {
     let mut at = p_init;

@@ -7,7 +7,7 @@ ghost use Rattle.triple_ord.specs.Arena.{item_of, items, count, Updates};
 ghost use Rattle.triple_ord.specs.Order.{IsInOrder};
 
 use std::alloc::Global;
-use triple_ord::order_laws::{kept_keys_law, rekey_order_law};
+use triple_ord::order_laws::rekey_order_law;
 use triple_ord::{OrdInsertKind, OrdInsertionError, OrdPair, P0, SimpleOrdArena};
 
 /// Users by the deadline of their session. Sessions may end at the same time.
@@ -96,9 +96,8 @@ pub fn forget_users(sessions: &mut Sessions)
     ensures deadlines { map (λ s. s.0) (items sessions.new) ≡ map (λ s. s.0) (items sessions.old) }
     ensures count { count sessions.new ≡ count sessions.old }
 {
-    // With its length an arena tells what holds of its list.
-    let _ = sessions.len();
-    let forget = |_old: P0, session: OrdPair<u64, u64>, _new: P0| OrdPair::new(*session.k(), 0);
-    kept_keys_law::<P0, OrdPair<u64, u64>, _>(&forget);
-    let _ = sessions.compress_with(false, forget);
+    let _ = sessions.compress_keeping_keys(
+        false,
+        |_old, session, _new| OrdPair::new(*session.k(), 0),
+    );
 }

@@ -84,7 +84,8 @@ impl<P: BasePtr, T, A: Allocator> ChainArena<P, T, A> {
 
     /// The pointer of the last entry of the list.
     pub fn last(&self) -> Option<P>
-        ensures { option_map P.numbers result ≡ last_pointer self.now.entries }
+        ensures pointer { option_map P.numbers result ≡ last_pointer self.now.entries }
+        ensures empty { IsNone result ↔ (self.now.entries ≡ []) }
     {
         self.ptr_at(self.last?)
     }

@@ -13,23 +13,34 @@ fn three(alloc: Global) -> Arena<P0, u32> {
     arena
 }
 
-/// A drain takes the first entry, and is then forgotten or dropped. Answers what is left.
-fn left_by_drain(mut arena: Arena<P0, u32>, is_forgotten: bool) -> Option<(usize, bool)> {
+/// How a drain ends.
+enum End {
+    Dropped,
+    Forgotten,
+    KeepsRest,
+}
+
+/// A drain takes the first entry, and ends. Answers what is left.
+fn left_by_drain(mut arena: Arena<P0, u32>, end: &End) -> Option<(usize, bool)> {
     let mut drain = arena.drain();
     let first = drain.next()?;
-    if is_forgotten {
-        mem::forget(drain);
-    } else {
-        drop(drain);
+    match end {
+        End::Dropped => drop(drain),
+        End::Forgotten => mem::forget(drain),
+        End::KeepsRest => drain.keep_rest(),
     }
     let is_right = first == InvalidationOption::Success((p0(1, 2), 1));
     Some((arena.len(), is_right))
 }
 
 #[test]
-fn drains_are_dropped_and_forgotten(rt: HostRuntime) {
-    for (is_forgotten, left) in &[(false, 0usize), (true, 2)] {
-        let found = left_by_drain(three(rt.alloc()), *is_forgotten);
+fn drains_are_dropped_and_forgotten_and_keep_the_rest(rt: HostRuntime) {
+    for (end, left) in &[
+        (End::Dropped, 0usize),
+        (End::Forgotten, 2),
+        (End::KeepsRest, 2),
+    ] {
+        let found = left_by_drain(three(rt.alloc()), end);
         assert!(rt; found == Some((*left, true)));
     }
 }

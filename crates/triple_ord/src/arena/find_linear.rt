@@ -2,7 +2,7 @@
 ghost use Rattle.std.specs.Prelude.{◌≡◌, ℕ, IfSome, length, IfNone};
 ghost use Rattle.std.specs.Option.{option_map};
 ghost use Rattle.chain_base.specs.Chain.{entry_at, item_of};
-ghost use Rattle.triple_ord.specs.Hint.{IsNearHint};
+ghost use Rattle.triple_ord.specs.Hint.{AnswersNear, IsNearHint};
 ghost use Rattle.std.specs.declared.cmp.Ordering.TheVariants.{Equal};
 ghost use Rattle.triple_ord.specs.Arena.{FindsBy};
 ghost use Rattle.triple_ord.specs.Search.{FindsKey, FindsSimilar};
@@ -27,7 +27,7 @@ impl<P: BasePtr, T: SimpleOrdItem, A: Allocator> SimpleOrdArena<P, T, A> {
     /// Each step compares `k` with an entry's key: Less leads to the previous entry, Greater to the next. They end at an equal key,
     /// where the order turns, at an end of the list, and after `num` comparisons. Then a whole search follows, since an equal entry
     /// that steps meet needn't be the first of its group; so it does at once where `p_init` names no entry. A hint saves such a search
-    /// nothing: where keys are near, `find_similar_key_linear` is the call that does.
+    /// nothing, and its result doesn't depend on the hint: where keys are near, `find_similar_key_linear` is the call that gains.
     pub fn find_key_linear(&self, p_init: P, num: usize, k: &T::Key) -> Option<P>
         ensures finds { IfSome result
             (λ p. FindsBy T.key_of T.Key.cmp self.now k.now (P.numbers p) Equal) }
@@ -62,6 +62,9 @@ impl<P: BasePtr, T: SimpleOrdItem, A: Allocator> SimpleOrdArena<P, T, A> {
     /// The steps are those of `find_key_linear`. The entry at which the order turns is the result, and so is the one at the end of the
     /// list that was met. After an equal key, and after `num` comparisons, a whole search follows; so it does at once where the index
     /// has no entry.
+    ///
+    /// So on a list in the order of its keys without an equal key, a near hint settles which neighbour of the gap is the result: the far
+    /// one as seen from the hint.
     pub fn find_similar_key_linear(
         &self,
         p_init: P::Inx,
@@ -72,6 +75,8 @@ impl<P: BasePtr, T: SimpleOrdItem, A: Allocator> SimpleOrdArena<P, T, A> {
             (λ a. FindsBy T.key_of T.Key.cmp self.now k.now (P.numbers a.0) a.1) }
         ensures found { (visits : ℕ) × FindsSimilar T.key_of T.Key.cmp
             self.now.list.entries k.now (option_map (λ a. (P.numbers a.0, a.1)) result) visits }
+        ensures answers { AnswersNear T.key_of T.Key.cmp self.now.list.entries k.now
+            (P.Inx.number p_init) num (option_map (λ a. (P.numbers a.0, a.1)) result) }
     {
         prove!(self.len() <= usize::MAX);
         self.find_similar_key_linear_counted(p_init, num, k).0
@@ -96,6 +101,8 @@ impl<P: BasePtr, T: SimpleOrdItem, A: Allocator> SimpleOrdArena<P, T, A> {
             (IsWithinBounds (length self.now.list.entries) self.now.shape result.1) }
         ensures near { IsNearHint T.key_of T.Key.cmp self.now.list.entries k.now
             (P.Inx.number p_init) num result.1 }
+        ensures answers { AnswersNear T.key_of T.Key.cmp self.now.list.entries k.now
+            (P.Inx.number p_init) num (option_map (λ a. (P.numbers a.0, a.1)) result.0) }
     {
         self.search_from(Ties::Sought, p_init, num, k)
     }
@@ -117,6 +124,8 @@ impl<P: BasePtr, T: SimpleOrdItem, A: Allocator> SimpleOrdArena<P, T, A> {
             (IsWithinBounds (length self.now.list.entries) self.now.shape result.1) }
         ensures near { IsNearHint T.key_of T.Key.cmp self.now.list.entries k.now
             (P.Inx.number p_init) num result.1 }
+        ensures answers { AnswersNear T.key_of T.Key.cmp self.now.list.entries k.now
+            (P.Inx.number p_init) num (option_map (λ a. (P.numbers a.0, a.1)) result.0) }
     {
         if !self.tree.contains_inx(p_init) {
             return self.search(ties, k);

@@ -1,7 +1,8 @@
 //! The ends of the list, and the neighbours of an entry in the list and in the tree.
-ghost use Rattle.std.specs.Prelude.{◌≡◌, IfSome};
+ghost use Rattle.std.specs.Prelude.{◌≡◌, ◌↔◌, IfSome, IsNone};
 ghost use Rattle.std.specs.Option.{option_map};
 ghost use Rattle.chain_base.specs.Chain.{link_at, first_pointer, last_pointer};
+ghost use Rattle.triple_ord.specs.Arena.{count};
 ghost use Rattle.triple_ord.specs.Node.{IsNodeIn};
 
 use super::SimpleOrdArena;
@@ -19,9 +20,10 @@ impl<P: BasePtr, T, A: Allocator> SimpleOrdArena<P, T, A> {
     }
 
     /// The pointer of the last entry of the list, in O(1).
-    #[tactic(auto, using(crate::proofs::Bare::last_pointer_under))]
+    #[tactic(auto, using(crate::proofs::Bare::last_pointer_under, crate::proofs::Bare::none_under))]
     pub fn last(&self) -> Option<P>
-        ensures { option_map P.numbers result ≡ last_pointer self.now.list.entries }
+        ensures pointer { option_map P.numbers result ≡ last_pointer self.now.list.entries }
+        ensures empty { IsNone result ↔ (count self.now ≡ 0) }
     {
         self.tree.chain().last()
     }

@@ -1,6 +1,6 @@
 //! Moving all entries: to the least indexes, or over from another arena. Afterwards the tree is the rebuilt one, in which no search
 //! visits more entries than their number has binary digits.
-ghost use Rattle.std.specs.Prelude.{◌≡◌, ◌<◌, ◌↔◌, OnOk, OnErr};
+ghost use Rattle.std.specs.Prelude.{◌≡◌, ◌<◌, ◌↔◌, OnOk, OnErr, map};
 ghost use Rattle.arena_base.specs.Compression.{compressed_generation, compression_overflows};
 ghost use Rattle.arena_base.specs.Generation.{IsLawfulGeneration};
 ghost use Rattle.arena_base.specs.Invalidation.{is_overflow};
@@ -9,8 +9,10 @@ ghost use Rattle.chain_base.specs.Compression.{canonical, relocated, IsCompressi
 ghost use Rattle.ord_tree.specs.Half.{IsRebuilt};
 ghost use Rattle.ord_tree.specs.Shape.{missing};
 ghost use Rattle.triple_ord.specs.Arena.{items, count, IsOfGeneration, IsNumbered, FindsNothing};
+ghost use Rattle.triple_ord.specs.Order.{KeepsKeys};
 
 use super::SimpleOrdArena;
+use crate::item::SimpleOrdItem;
 use arena_base::{BasePtr, InvalidationOption, ReallocationError};
 use std::alloc::Allocator;
 
@@ -119,5 +121,31 @@ impl<P: BasePtr, T, A: Allocator> SimpleOrdArena<P, T, A> {
         self.tree
             .transfer_canonical_reallocating(new_generation, &mut source.tree, f)?;
         Ok(())
+    }
+}
+
+impl<P: BasePtr, T: SimpleOrdItem, A: Allocator> SimpleOrdArena<P, T, A> {
+    /// `compress_with`, where each call of `f` leaves the key of its item as it is: so the keys stay, and their order.
+    pub fn compress_keeping_keys<F: FnMut(P, T, P) -> T + Drop>(
+        &mut self,
+        reset: bool,
+        f: F,
+    ) -> InvalidationOption<()>
+        requires callable { F.IsAlwaysCallable f }
+        requires keeps { KeepsKeys T.key_of F.step }
+        ensures keys { map T.key_of (items self.new) ≡ map T.key_of (items self.old) }
+        ensures count { count self.new ≡ count self.old }
+        ensures ended { IsOfGeneration self.new
+            (compressed_generation P.Gen.greatest reset self.old.list.generation) }
+        ensures after { IsCompression P.numbers F.step
+            (compressed_generation P.Gen.greatest reset self.old.list.generation)
+            f self.old.list self.new.list }
+        ensures shape { IsRebuilt self.new.shape }
+        ensures overflow { is_overflow result
+            ≡ compression_overflows P.Gen.greatest reset self.old.list.generation }
+    {
+        // With its length an arena tells what holds of its list.
+        let _ = self.len();
+        self.compress_with(reset, f)
     }
 }

@@ -1,5 +1,7 @@
 use Rattle.triple_ord.proofs.Stepping.{FindsSimilar-more, settled-similar, settled-near, open-near, unvisited, hinted-whole, named-unhinted}
-use Rattle.triple_ord.proofs.Words.{◌-◌, sym, subst, ◌∙◌, arith, Tree, IsNearHint, taken}
+use Rattle.triple_ord.proofs.NearEnds.{settled-answers, open-answers, missing-answers}
+use Rattle.triple_ord.specs.Hint.{AnswersNear}
+use Rattle.triple_ord.proofs.Words.{◌-◌, option_map, sym, subst, ◌∙◌, arith, Tree, IsNearHint, taken}
 use Rattle.triple_ord.proofs.arena.SimpleOrdArena.search_from.Goals as goal
 
 pub returns-then-is_some-clause-found : goal.returns-then-is_some-clause-found
@@ -46,3 +48,19 @@ returns-then-is_some-clause-unhinted g c = named-unhinted _ _ (rw c.self.view_is
 
 pub returns-clause-unhinted : goal.returns-clause-unhinted
 returns-clause-unhinted g c = named-unhinted _ _ (rw c.self.view_is at c.if-not-contains_inx.ensures)
+
+pub returns-then-is_some-clause-answers : goal.returns-then-is_some-clause-answers
+returns-then-is_some-clause-answers g c =
+    subst (λ (t : Tree g.row.T.Denot). AnswersNear g.T.SimpleOrdItem.key_of g.T.Key.Ord.cmp t.list.entries c.args.k.now (g.P.Inx.BasePtrInx.number c.args.p_init) c.args.num
+    (option_map (λ a. (g.P.BasePtr.numbers a.0, a.1)) c.step_along-near.result)) (c.new-probe.ensures.tree ∙ c.self.view_is)
+    (settled-answers g.T.SimpleOrdItem.key_of g.T.Key.Ord.cmp _ _ _ _ _ g.P.BasePtr.numbers _ c.step_along-near.ensures.ends (sym c.is_some.ensures ∙ c.if-is_some.true))
+
+pub returns-clause-answers : goal.returns-clause-answers
+returns-clause-answers g c =
+    subst (λ (t : Tree g.row.T.Denot). AnswersNear g.T.SimpleOrdItem.key_of g.T.Key.Ord.cmp t.list.entries c.args.k.now (g.P.Inx.BasePtrInx.number c.args.p_init) c.args.num
+    (option_map (λ a. (g.P.BasePtr.numbers a.0, a.1)) c.descend_by_key-found.result)) (c.new-probe.ensures.tree ∙ c.self.view_is)
+    (open-answers g.T.SimpleOrdItem.key_of g.T.Key.Ord.cmp _ _ _ _ _ g.P.BasePtr.numbers _ _ _ c.step_along-near.ensures.near (sym c.is_some.ensures ∙ c.if-is_some.false))
+
+pub returns-then-not-contains_inx-clause-answers : goal.returns-then-not-contains_inx-clause-answers
+returns-then-not-contains_inx-clause-answers g c =
+    missing-answers g.T.SimpleOrdItem.key_of g.T.Key.Ord.cmp _ _ _ _ _ g.P.BasePtr.numbers _ (sym (rw c.self.view_is at c.if-not-contains_inx.ensures))
