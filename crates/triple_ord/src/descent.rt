@@ -68,9 +68,9 @@ pub(crate) fn descend_by_key<P: BasePtr, T: SimpleOrdItem, A: Allocator>(
     let mut last = None;
     let mut at = probe.root();
     while let Some(i) = at {
-        let (p, order, next) = compare(probe, ties, k, i);
+        let (p, order, next, lesser) = compare(probe, ties, k, i);
         if order.is_eq() {
-            return descend_in_group(probe, ties, k, p, next);
+            return descend_in_group(probe, ties, k, p, lesser);
         }
         last = Some((p, order));
         at = next;
@@ -107,7 +107,7 @@ fn descend_in_group<P: BasePtr, T: SimpleOrdItem, A: Allocator>(
     let mut met = Some(p);
     let mut at = lesser;
     while let Some(i) = at {
-        let (p, order, next) = compare(probe, ties, k, i);
+        let (p, order, next, _) = compare(probe, ties, k, i);
         last = Some((p, order));
         met = met_behind(met, p, order);
         at = next;
@@ -118,26 +118,33 @@ fn descend_in_group<P: BasePtr, T: SimpleOrdItem, A: Allocator>(
     }
 }
 
-// Compares a key with that of the entry at an index: the entry's pointer, how the key lies to its key, and where the search goes on.
+// Compares a key with that of the entry at an index: the entry's pointer, how the key lies to its key, where the search goes on, and the
+// root of the lesser side.
+//
+// The last is where the search goes on at an equal key. That it is used for itself there keeps the reads of both sides before the choice:
+// otherwise the compiler chooses the address first, and the read waits for the key.
 #[inline(always)]
 fn compare<P: BasePtr, T: SimpleOrdItem, A: Allocator>(
     probe: &mut Probe<'_, P, T, A>,
     ties: Ties,
     k: &T::Key,
     i: P::Inx,
-) -> (P, Ordering, Option<P::Inx>)
+) -> (P, Ordering, Option<P::Inx>, Option<P::Inx>)
     requires occupied { IsSome (entry_at probe.old.tree.now.list.entries (P.Inx.number i)) }
     requires room { probe.old.visits + 1 < 2 ^ 128 }
     ensures compared { IsCompared T.key_of (taken ties T.Key.cmp) probe.old.tree.now
         (P.Inx.number i) k.now (P.numbers result.0) result.1
         (option_map P.Inx.number result.2) }
+    ensures equal { result.1 ≡ Ordering.Equal
+        → option_map P.Inx.number result.3 ≡ option_map P.Inx.number result.2 }
     ensures counted { probe.new.visits ≡ probe.old.visits + 1 }
     ensures tree { probe.new.tree.now ≡ probe.old.tree.now }
 {
     let (generation, node) = probe.show(i);
     let order = ties.order(k, node.t.key());
-    let next = towards::<P>(order, node.p_tree0.get(), node.p_tree1.get());
-    (P::_from_raw(i, generation), order, next)
+    let lesser = node.p_tree0.get();
+    let next = towards::<P>(order, lesser, node.p_tree1.get());
+    (P::_from_raw(i, generation), order, next, lesser)
 }
 
 // The side on which what is sought lies: the greater one behind an entry that was answered Greater, else the lesser one.
