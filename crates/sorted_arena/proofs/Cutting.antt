@@ -38,7 +38,7 @@ not_le Greater is = refl
 not_le Less is = absurd (cc)
 not_le Equal is = absurd (cc)
 
-gt_is : (o : Ordering) → is_gt o ≡ true → o ≡ Greater
+pub gt_is : (o : Ordering) → is_gt o ≡ true → o ≡ Greater
 gt_is Greater is = refl
 gt_is Less is = absurd (cc)
 gt_is Equal is = absurd (cc)

@@ -1,8 +1,9 @@
 -- What a sorted arena is: one list of entries in the order of their keys, each with its pointer, its key and its value.
-use Rattle.std.specs.Prelude.{◌≡◌, ◌≢◌, ℕ, ◌≤◌, ◌*◌, min, max, Bool, ◌==◌, ◌&&◌, nat_lt, if◌then◌else◌, List, [], ◌∷◌, ◌++◌, length, Option, Some, None}
+use Rattle.std.specs.Prelude.{◌≡◌, ◌≢◌, ℕ, ◌≤◌, ◌*◌, min, max, Bool, ◌==◌, ◌&&◌, nat_lt, if◌then◌else◌, List, [], ◌∷◌, ◌++◌, length, Option, Some, None, IsSomeAnd}
 use Rattle.std.specs.{List.All, Ordering.is_le, Ordering.is_eq, Option.option_map, declared.cmp.Ordering.Ordering}
 use Rattle.std.specs.declared.cmp.Ordering.TheVariants.{Less, Equal, Greater}
 use Rattle.arena_base.specs.Generation.{next_generation}
+use Rattle.triple_ord.specs.Gap.{last_of}
 use Rattle.chain_base.specs.Chain.{Entry, IsDistinct, item_of as item_at, without as without_index, with_item_among, first_pointer}
 
 -- A sorted arena: its entries in order, each with an index and a generation, which make its pointer, and an item, which is its key and
@@ -160,3 +161,12 @@ module _ {K V : Type 0} where
       pub greater_behind : All (λ e. cmp k (key_of e) ≡ Less) back
       pub generation : new.generation ≡ old.generation
       pub capacity : new.capacity ≡ old.capacity
+
+    -- the pair at an index is the first whose key is smaller than that of the pair before it, where these pairs come behind others
+    pub record IsOutOfOrder (others pairs : List (K × V)) (at : ℕ) : Type 0 where
+      pub front : List (K × V)
+      pub pair : K × V
+      pub back : List (K × V)
+      pub cut : pairs ≡ front ++ pair ∷ back
+      pub place : at ≡ length front
+      pub smaller : IsSomeAnd (last_of None (others ++ front)) (λ before. cmp before.0 pair.0 ≡ Greater)

@@ -6,6 +6,7 @@ ghost use Rattle.sorted_arena.specs.Layout.{sorted_of, IsSortedArena};
 ghost use Rattle.sorted_arena.specs.Sorted.{IsSound, count, with_left};
 
 mod access;
+mod extend;
 mod find;
 mod insert;
 mod neighbours;

@@ -1,4 +1,4 @@
-//! Why a call that keeps keys unique was refused.
+//! Why a call was refused.
 use thiserror::Error;
 
 /// Why [`insert_unique`](crate::SortedArena::insert_unique) inserted nothing.
@@ -21,7 +21,21 @@ pub enum RekeyUniqueError {
     /// The pointer is stale.
     #[error("the pointer names no entry")]
     Stale,
-    /// Another entry has an equal key.
-    #[error("another entry has an equal key")]
+    /// An entry has an equal key.
+    #[error("an entry has an equal key")]
     EqualKey,
+}
+
+/// Why pairs that were to be in order were not all inserted.
+#[derive(Debug, Clone, Copy, PartialEq, Eq, Drop, Error)]
+pub enum SortedError {
+    /// The pair at this index has a smaller key than the one before it.
+    #[error("the pair at index {0} is out of order")]
+    OutOfOrder(usize),
+    /// The arena is full, and its capacity is at the limit.
+    #[error("no room within the maximum capacity")]
+    BeyondMaxCapacity,
+    /// The arena is full, and growing failed.
+    #[error("out of memory")]
+    AllocError,
 }

@@ -11,7 +11,7 @@ mod parts;
 mod range;
 
 pub use arena::SortedArena;
-pub use error::{RekeyUniqueError, UniqueInsertionError};
+pub use error::{RekeyUniqueError, SortedError, UniqueInsertionError};
 pub use parts::{Items, Keys, Values, ValuesDescending};
 pub use range::Range;
 pub use triple_ord::{

@@ -1,10 +1,12 @@
 //! Entries that get another key. They keep their pointers.
 
-ghost use Rattle.std.specs.Prelude.{◌≡◌, Some, None, IfOk, OnOk, IfErr, OnErr};
+ghost use Rattle.std.specs.Prelude.{◌≡◌, Err, Some, None, IfOk, OnOk, IfErr, OnErr, is_some, true};
+ghost use Rattle.std.specs.Ordering.{is_eq};
 ghost use Rattle.std.specs.Option.{option_map};
-ghost use Rattle.sorted_arena.specs.Sorted.{pair_of, count, Rekeys, Updates};
+ghost use Rattle.sorted_arena.specs.Sorted.{pair_of, count, first_where, key_of, IsAbsent, Rekeys, Updates};
 
 use super::SortedArena;
+use crate::error::RekeyUniqueError;
 use std::alloc::Allocator;
 use triple_ord::BasePtr;
 
@@ -30,5 +32,37 @@ impl<K: Ord, V, P: BasePtr, A: Allocator> SortedArena<K, V, P, A> {
         // with its length an arena tells what holds of its list
         let _ = self.pairs.len();
         self.pairs.rekey_pair(p, k)
+    }
+
+    /// Gives the entry at `p` the key `k`, as [`rekey`](Self::rekey) does, unless an entry has an equal key. The entry's own key counts.
+    ///
+    /// # Errors
+    ///
+    /// `k` comes back, and nothing changes.
+    /// - `Stale`: `p` names no entry.
+    /// - `EqualKey`: an entry has an equal key.
+    pub fn rekey_unique(&mut self, p: P, k: K) -> Result<K, (K, RekeyUniqueError)>
+        ensures ok { OnOk result (Rekeys K.cmp self.old (P.numbers p) k self.new) }
+        ensures before { IfOk result (λ before.
+            option_map (λ e. e.0) (pair_of self.old (P.numbers p)) ≡ Some before) }
+        ensures updates { OnOk result (Updates self.old self.new (P.numbers p)
+            (option_map (λ e. (k, e.1)) (pair_of self.old (P.numbers p)))) }
+        ensures absent { OnOk result (IsAbsent K.cmp self.old k) }
+        ensures equal { result ≡ Err (k, RekeyUniqueError.EqualKey)
+            → is_some (first_where (λ e. is_eq (K.cmp k (key_of e))) self.old.entries) ≡ true }
+        ensures stale { result ≡ Err (k, RekeyUniqueError.Stale)
+            → pair_of self.old (P.numbers p) ≡ None }
+        ensures back { IfErr result (λ e. e.0 ≡ k) }
+        ensures count { count self.new ≡ count self.old }
+        ensures err { OnErr result (self.new ≡ self.old) }
+    {
+        let at = self.find(&k);
+        match at {
+            Some(_) => Err((k, RekeyUniqueError::EqualKey)),
+            None => match self.rekey(p, k) {
+                Ok(before) => Ok(before),
+                Err(k) => Err((k, RekeyUniqueError::Stale)),
+            },
+        }
     }
 }
