@@ -22,7 +22,7 @@ use triple_ord::{ReallocationError, SimpleOrdArena};
 ///
 /// A ticket names its job until the job leaves or [`move_to`](Self::move_to) moves it; [`reschedule`](Self::reschedule) keeps it. The
 /// generation of tickets rises each time that a ticket ends, so it names nothing from then on, until after some 2 to the 64th of them
-/// the generations begin again.
+/// the generations begin again: [`ended_ticket_law`](crate::laws::ended_ticket_law).
 ///
 /// Only `schedule` takes memory. n is the number of jobs in what is said of time.
 #[derive(Drop)]
