@@ -1,5 +1,5 @@
 -- What each call of a clone keeps of its item is found at the index of its entry.
-use Rattle.std.proofs.Common.{◌≡◌, ℕ, zero, suc, ◌+◌, ◌<◌, List, [], ◌∷◌, ◌++◌, length, length-append, map, slice_get, Option, Some, None, is_some, Result, refl, sym, ap, ◌∙◌, arith, option_map}
+use Rattle.std.proofs.Common.{◌≡◌, ℕ, zero, suc, ◌+◌, ◌<◌, List, [], ◌∷◌, ◌++◌, length, map, slice_get, Option, Some, None, is_some, Result, refl, sym, ap, ◌∙◌, arith, option_map}
 use Rattle.std.proofs.{lemmas.Option.slice_get-map, lemmas.Grind.common_steps, lemmas.Bool.eq-eqb, Common.cond}
 use Rattle.arena_base.specs.Arena.{item_if}
 use Rattle.std.specs.declared.alloc.AllocError.{AllocError}

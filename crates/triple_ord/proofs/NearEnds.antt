@@ -1,13 +1,12 @@
 -- Where the steps from a near hint end: at the far neighbour of the gap where the key belongs.
 use Rattle.std.proofs.Math.Seq.{drop-append_seam, take-append_seam}
-use Rattle.std.proofs.Common.{drop, take, nat_lt, cond, false}
+use Rattle.std.proofs.Common.{drop, take, false}
 use Rattle.std.proofs.lemmas.Bool.Decides.{nat_tests}
-use Rattle.std.specs.Option.{option_or}
-use Rattle.triple_ord.proofs.Words.{◌≡◌, ◌≢◌, ℕ, true, ◌+◌, ◌≤◌, ◌<◌, List, [], ◌∷◌, ◌++◌, Option, Some, None, IfSome, length, refl, sym, ap, ◌∙◌, arith, append_assoc, length-append, option_map, ordering_reverse, Ordering, Less, Equal, Greater}
+use Rattle.triple_ord.proofs.Words.{◌≡◌, ◌≢◌, ℕ, true, ◌+◌, ◌≤◌, List, [], ◌∷◌, ◌++◌, Option, Some, None, IfSome, length, refl, sym, ap, ◌∙◌, arith, append_assoc, length-append, option_map, ordering_reverse, Ordering, Less, Equal, Greater}
 use Rattle.triple_ord.proofs.Words.{IsTotalOrder, Gap, first_of, last_of, order_to, Fits, IsInOrder, Entry, common_steps, CameFrom}
 use Rattle.triple_ord.proofs.Inserting.{last_of-append, begins, ends, no_last}
 use Rattle.triple_ord.proofs.OrderLaws.{stands-before, stands-behind}
-use Rattle.triple_ord.proofs.Words.{IsDistinct, IsStepping, IsNear, Link, is_eq, IsSome, is_some, pointer, link_at, entry_at, neighbour_towards, ◌⊎◌}
+use Rattle.triple_ord.proofs.Words.{IsDistinct, IsStepping, IsNear, Link, is_eq, is_some, pointer, link_at, entry_at, neighbour_towards}
 use Rattle.triple_ord.proofs.Stepping.{HasTurned, low-answered, high-answered, linked, named, stepping-order, stepping-unequal}
 use Rattle.triple_ord.specs.{Hint.way_end, Hint.AnswersNear, Steps.EndsNear}
 
