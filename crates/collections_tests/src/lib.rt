@@ -1,5 +1,5 @@
-//! Tests of the collections that are built on the ordered arena, `agenda`, `timeline` and `order_book`, as a program that depends on them
-//! sees them: worked examples, every sequence of a few orders, refused memory, and what else no clause can say.
+//! Tests of the collections that are built on the ordered arena, `sorted_arena`, `agenda`, `timeline` and `order_book`, as a program that
+//! depends on them sees them: worked examples, every sequence of a few orders, refused memory, and what else no clause can say.
 #![tactic(auto)]
 
 #[cfg(test)]
@@ -7,6 +7,10 @@ mod agendas;
 #[cfg(test)]
 mod order_books;
 #[cfg(test)]
+<<<<<<< HEAD
 mod texts;
+=======
+mod sorted;
+>>>>>>> 1412e9400302e679c589e7dd19d9ee5c19de05e2
 #[cfg(test)]
 mod timelines;
