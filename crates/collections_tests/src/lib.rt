@@ -7,10 +7,8 @@ mod agendas;
 #[cfg(test)]
 mod order_books;
 #[cfg(test)]
-<<<<<<< HEAD
-mod texts;
-=======
 mod sorted;
->>>>>>> 1412e9400302e679c589e7dd19d9ee5c19de05e2
+#[cfg(test)]
+mod texts;
 #[cfg(test)]
 mod timelines;
