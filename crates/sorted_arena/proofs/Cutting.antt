@@ -113,24 +113,24 @@ module _ {K V : Type 0} where
         go true is others = absurd (let found : first_where test (e ∷ es) ≡ Some (pointer_of e) = rw is refl in cc)
         go false is others = (is, others (let same : first_where test (e ∷ es) ≡ first_where test es = rw is refl in sym same ∙ none))
 
-    -- the list is cut at the one that is found
-    pub cut-where : (es : List (Entry (K × V))) (p : ℕ × ℕ) → first_where test es ≡ Some p
-        → (front : List (Entry (K × V))) × (e : Entry (K × V)) × (back : List (Entry (K × V))) × (es ≡ front ++ e ∷ back) × (p ≡ pointer_of e) × (test e ≡ true)
+    -- a list is cut at the entry of a pointer, which passes the test
+    pub record CutWhere (es : List (Entry (K × V))) (p : ℕ × ℕ) : Type 0 where
+      pub front : List (Entry (K × V))
+      pub entry : Entry (K × V)
+      pub back : List (Entry (K × V))
+      pub cut : es ≡ front ++ entry ∷ back
+      pub named : p ≡ pointer_of entry
+      pub passes : test entry ≡ true
+
+    pub cut-where : (es : List (Entry (K × V))) (p : ℕ × ℕ) → first_where test es ≡ Some p → CutWhere es p
     cut-where [] p found = absurd (cc)
     cut-where (e ∷ es) p found = go (test e) refl (λ rest. cut-where es p rest)
       where
-        go : (b : Bool) → test e ≡ b
-            → (first_where test es ≡ Some p → (front : List (Entry (K × V))) × (f : Entry (K × V)) × (back : List (Entry (K × V))) × (es ≡ front ++ f ∷ back) × (p ≡ pointer_of f) × (test f ≡ true))
-            → (front : List (Entry (K × V))) × (f : Entry (K × V)) × (back : List (Entry (K × V))) × (e ∷ es ≡ front ++ f ∷ back) × (p ≡ pointer_of f) × (test f ≡ true)
-        go true is others = ([], e, es, refl, some-same (sym found ∙ rw is refl), is)
+        go : (b : Bool) → test e ≡ b → (first_where test es ≡ Some p → CutWhere es p) → CutWhere (e ∷ es) p
+        go true is others = record { front = []; entry = e; back = es; cut = refl; named = some-same (sym found ∙ rw is refl); passes = is }
         go false is others =
             let rest = others (let same : first_where test (e ∷ es) ≡ first_where test es = rw is refl in sym same ∙ found) in
-            (e ∷ rest.0, rest.1, rest.2, ap (λ ys. e ∷ ys) rest.3, rest.4, rest.5)
-
-    pub none-all : (P : Entry (K × V) → Type 0) → ((e : Entry (K × V)) → test e ≡ false → P e) → {Q : Type 0} (o : Option Q) (f : Q → ℕ × ℕ) (es : List (Entry (K × V)))
-        → o ≡ None → option_map f o ≡ first_where test es → All P es
-    none-all P follows o f es none is =
-        All-from_recursion P es (recursion-map (λ e. test e ≡ false) P follows es (none-where es (sym is ∙ ap (option_map f) none)))
+            record { front = e ∷ rest.front; entry = rest.entry; back = rest.back; cut = ap (λ ys. e ∷ ys) rest.cut; named = rest.named; passes = rest.passes }
 
   -- neighbours
   next-behind : (front : List (Entry (K × V))) (e : Entry (K × V)) (back : List (Entry (K × V))) → times e.index front ≡ 0
@@ -279,8 +279,8 @@ module _ {K V : Type 0} where
     found-where test Q follows numbers None is = tt
     found-where test Q follows numbers (Some p) is =
         let cut = cut-where (λ e. test (key_of e)) es (numbers p) (sym is) in
-        let found : item_of es (numbers p) ≡ Some cut.1.item = ap (item_of es) cut.4 ∙ found-here cut.0 cut.1 cut.2 cut.3 in
-        rw found (follows (key_of cut.1) cut.5)
+        let found : item_of es (numbers p) ≡ Some cut.entry.item = ap (item_of es) cut.named ∙ found-here cut.front cut.entry cut.back cut.cut in
+        rw found (follows (key_of cut.entry) cut.passes)
 
     -- the last entry
     pub last-named : (p : ℕ × ℕ) → last_pointer es ≡ Some p → (item_of es p ≡ last_item es) × (without p.0 es ≡ before_last es)

@@ -280,11 +280,18 @@ module _ {K V : Type 0} where
           let stands : IsStretch es (index_of end) (index_of end) = record { distinct = distinct; front = front; middle = []; back = f ∷ back; cut = cut; begins = at; ends = at } in
           record { stands = stands; gives = stretch-middle es (index_of end) (index_of end) stands ∙ sym none }
 
-      pub ranges : {P : Type 0} (numbers : P → ℕ × ℕ) (first end : Option P) → option_map numbers end ≡ first_where passed es
-          → (is_forward cmp from (option_and_then (item_of es) (option_map numbers end)) ≡ true → option_map numbers first ≡ first_where begun es)
-          → (is_forward cmp from (option_and_then (item_of es) (option_map numbers end)) ≡ false → first ≡ end)
-          → Ranges (option_map numbers first) (option_map numbers end)
-      ranges numbers first end end_is forward backward = go (first_passing passed es) refl
+      -- whether the first entry past the end, if any, is not before the start
+      abbrev ahead : Option (ℕ × ℕ) → Bool
+      ahead end = is_forward cmp from (option_and_then (item_of es) end)
+
+      -- the pointers that an iterator over a range begins and ends with
+      pub record Bounds {P : Type 0} (numbers : P → ℕ × ℕ) (first end : Option P) : Type 0 where
+        pub past : option_map numbers end ≡ first_where passed es
+        pub forward : ahead (option_map numbers end) ≡ true → option_map numbers first ≡ first_where begun es
+        pub backward : ahead (option_map numbers end) ≡ false → first ≡ end
+
+      pub ranges : {P : Type 0} (numbers : P → ℕ × ℕ) (first end : Option P) → Bounds numbers first end → Ranges (option_map numbers first) (option_map numbers end)
+      ranges numbers first end bounds = go (first_passing passed es) refl
         where
           ss : Stays begun es
           ss = from-stays from es sorted
@@ -294,22 +301,22 @@ module _ {K V : Type 0} where
 
           go : (o : Option (Entry (K × V))) → first_passing passed es ≡ o → Ranges (option_map numbers first) (option_map numbers end)
           go None none =
-              let at : option_map numbers end ≡ None = end_is ∙ first_where-passing passed es ∙ ap (option_map pointer_of) none in
-              let ahead : is_forward cmp from (option_and_then (item_of es) (option_map numbers end)) ≡ true = rw at refl in
-              ranges-split (option_map numbers first) (option_map numbers end) (forward ahead) end_is (split begun passed es ss ts (rw none tt))
+              let at : option_map numbers end ≡ None = bounds.past ∙ first_where-passing passed es ∙ ap (option_map pointer_of) none in
+              let some_ahead : ahead (option_map numbers end) ≡ true = rw at refl in
+              ranges-split (option_map numbers first) (option_map numbers end) (bounds.forward some_ahead) bounds.past (split begun passed es ss ts (rw none tt))
           go (Some f) some = by (begun f) refl
             where
               cut : (front : List (Entry (K × V))) × (back : List (Entry (K × V))) × (es ≡ front ++ f ∷ back)
               cut = passing-cut passed es f some
 
               at : option_map numbers end ≡ Some (pointer_of f)
-              at = end_is ∙ first_where-passing passed es ∙ ap (option_map pointer_of) some
+              at = bounds.past ∙ first_where-passing passed es ∙ ap (option_map pointer_of) some
 
-              shown : is_forward cmp from (option_and_then (item_of es) (option_map numbers end)) ≡ begun f
-              shown = ap (λ (o : Option (ℕ × ℕ)). is_forward cmp from (option_and_then (item_of es) o)) at ∙ ap (is_forward cmp from) (found-here es distinct cut.0 f cut.1 cut.2)
+              shown : ahead (option_map numbers end) ≡ begun f
+              shown = ap ahead at ∙ ap (is_forward cmp from) (found-here es distinct cut.0 f cut.1 cut.2)
 
               by : (b : Bool) → begun f ≡ b → Ranges (option_map numbers first) (option_map numbers end)
-              by true is = ranges-split (option_map numbers first) (option_map numbers end) (forward (shown ∙ is)) end_is (split begun passed es ss ts (rw some is))
+              by true is = ranges-split (option_map numbers first) (option_map numbers end) (bounds.forward (shown ∙ is)) bounds.past (split begun passed es ss ts (rw some is))
               by false is =
-                  let same : option_map numbers first ≡ option_map numbers end = ap (option_map numbers) (backward (shown ∙ is)) in
+                  let same : option_map numbers first ≡ option_map numbers end = ap (option_map numbers) (bounds.backward (shown ∙ is)) in
                   rw same (ranges-none (option_map numbers end) f at cut.0 cut.1 cut.2 (backwards begun passed es ss ts f some is))

@@ -44,7 +44,8 @@ impl<K: Ord, V, P: BasePtr, A: Allocator> SortedArena<K, V, P, A> {
             ≡ first_where (λ e. is_le (K.cmp k.now (key_of e))) self.now.entries }
         ensures finds { IfSome result
             (λ p. IsSomeAnd (pair_of self.now (P.numbers p)) (λ e. K.cmp k.now e.0 ≢ Greater)) }
-        ensures none { IfNone result (All (λ e. K.cmp k.now (key_of e) ≡ Greater) self.now.entries) }
+        ensures none { IfNone result
+            (All (λ e. K.cmp k.now (key_of e) ≡ Greater) self.now.entries) }
         ensures sound { IsSound K.cmp P.Inx.most self.now }
     {
         // with its length an arena tells what holds of it, and of its list

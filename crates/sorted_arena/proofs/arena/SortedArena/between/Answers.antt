@@ -8,13 +8,13 @@ pub invariant_of-result : goal.invariant_of-result
 invariant_of-result g c =
     let listed : c.args.self.now.entries ≡ c.pairs.result.now.list.entries = ap (λ (a : Sorted g.row.K.Denot g.row.V.Denot). a.entries) c.pairs.ensures.view in
     rw (c.inx_of.ensures, c.inx_of-2.ensures, ← listed) (ranges g.K.Ord.cmp g.met.K.Ord.total c.args.self.now.entries c.len.ensures.sound.distinct c.len.ensures.sound.sorted _ _
-    g.P.BasePtr.numbers _ _ c.first_past-end.ensures c.first_before-first.ensures.forward c.first_before-first.ensures.backward).stands
+    g.P.BasePtr.numbers _ _ (record { past = c.first_past-end.ensures; forward = c.first_before-first.ensures.forward; backward = c.first_before-first.ensures.backward })).stands
 
 pub returns-clause-entries : goal.returns-clause-entries
 returns-clause-entries g c =
     let listed : c.args.self.now.entries ≡ c.pairs.result.now.list.entries = ap (λ (a : Sorted g.row.K.Denot g.row.V.Denot). a.entries) c.pairs.ensures.view in
     rw (c.inx_of.ensures, c.inx_of-2.ensures, ← listed) (ranges g.K.Ord.cmp g.met.K.Ord.total c.args.self.now.entries c.len.ensures.sound.distinct c.len.ensures.sound.sorted _ _
-    g.P.BasePtr.numbers _ _ c.first_past-end.ensures c.first_before-first.ensures.forward c.first_before-first.ensures.backward).gives
+    g.P.BasePtr.numbers _ _ (record { past = c.first_past-end.ensures; forward = c.first_before-first.ensures.forward; backward = c.first_before-first.ensures.backward })).gives
 
 pub returns-clause-runs : goal.returns-clause-runs
 returns-clause-runs g c = gives_in_order (shown_entry g.P.BasePtr.numbers)
