@@ -23,7 +23,7 @@ use triple_ord::{BasePtr, P0, ReallocationError, SimpleOrdArena};
 /// An insertion returns a pointer, which names the entry until it is removed; [`rekey`](Self::rekey) keeps it. Values can be written,
 /// keys can't. In contracts a sorted arena is the list of its entries, each with pointer, key and value, the generation of the next
 /// pointer, and the capacity. [`len`](Self::len) promises what holds of every sorted arena (`IsSound`): the keys are in order, no two
-/// entries share an index, and all entries fit in the capacity.
+/// entries share an index, and all entries fit in the capacity. The searches, the iterators and the changes promise it too.
 ///
 /// Only the insertions and `reserve` take memory. In the docs n is the number of entries.
 #[derive(Drop)]

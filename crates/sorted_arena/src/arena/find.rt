@@ -5,7 +5,7 @@ ghost use Rattle.std.specs.List.{All};
 ghost use Rattle.std.specs.{Option.option_map, Bool.OnFalse};
 ghost use Rattle.std.specs.Ordering.{is_eq, is_le, is_lt};
 ghost use Rattle.std.specs.declared.cmp.Ordering.TheVariants.{Equal, Less, Greater};
-ghost use Rattle.sorted_arena.specs.Sorted.{pair_of, first_where, key_of, IsAbsent};
+ghost use Rattle.sorted_arena.specs.Sorted.{pair_of, first_where, key_of, IsAbsent, IsSound};
 
 use super::SortedArena;
 use crate::pairs::{lower_bound_in, upper_bound_in};
@@ -21,9 +21,11 @@ impl<K: Ord, V, P: BasePtr, A: Allocator> SortedArena<K, V, P, A> {
         ensures finds { IfSome result
             (λ p. IsSomeAnd (pair_of self.now (P.numbers p)) (λ e. K.cmp k.now e.0 ≡ Equal)) }
         ensures none { IfNone result (IsAbsent K.cmp self.now k.now) }
+        ensures sound { IsSound K.cmp P.Inx.most self.now }
     {
-        // with its length an arena tells what holds of its list
+        // with its length an arena tells what holds of it, and of its list
         let _ = self.pairs.len();
+        let _ = self.len();
         self.pairs.find_key(k)
     }
 
@@ -43,9 +45,11 @@ impl<K: Ord, V, P: BasePtr, A: Allocator> SortedArena<K, V, P, A> {
         ensures finds { IfSome result
             (λ p. IsSomeAnd (pair_of self.now (P.numbers p)) (λ e. K.cmp k.now e.0 ≢ Greater)) }
         ensures none { IfNone result (All (λ e. K.cmp k.now (key_of e) ≡ Greater) self.now.entries) }
+        ensures sound { IsSound K.cmp P.Inx.most self.now }
     {
-        // with its length an arena tells what holds of its list
+        // with its length an arena tells what holds of it, and of its list
         let _ = self.pairs.len();
+        let _ = self.len();
         lower_bound_in(&self.pairs, k)
     }
 
@@ -56,9 +60,11 @@ impl<K: Ord, V, P: BasePtr, A: Allocator> SortedArena<K, V, P, A> {
         ensures finds { IfSome result
             (λ p. IsSomeAnd (pair_of self.now (P.numbers p)) (λ e. K.cmp k.now e.0 ≡ Less)) }
         ensures none { IfNone result (All (λ e. K.cmp k.now (key_of e) ≢ Less) self.now.entries) }
+        ensures sound { IsSound K.cmp P.Inx.most self.now }
     {
-        // with its length an arena tells what holds of its list
+        // with its length an arena tells what holds of it, and of its list
         let _ = self.pairs.len();
+        let _ = self.len();
         upper_bound_in(&self.pairs, k)
     }
 

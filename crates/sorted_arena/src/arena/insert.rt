@@ -3,7 +3,7 @@
 ghost use Rattle.std.specs.Prelude.{◌≡◌, ◌↔◌, ◌+◌, Err, Some, None, IfOk, OnOk, IfErr, OnErr, is_some, true};
 ghost use Rattle.std.specs.Ordering.{is_eq};
 ghost use Rattle.sorted_arena.specs.Sorted.{count, first_where, key_of};
-ghost use Rattle.sorted_arena.specs.Sorted.{IsAbsent, Inserts, InsertsOrReplaces, Updates};
+ghost use Rattle.sorted_arena.specs.Sorted.{IsAbsent, Inserts, InsertsOrReplaces, IsSound, Updates};
 
 use super::SortedArena;
 use crate::error::UniqueInsertionError;
@@ -35,8 +35,11 @@ impl<K: Ord + Drop, V: Drop, P: BasePtr, A: Allocator> SortedArena<K, V, P, A> {
         ensures memory { result ≡ Err ((k, v), ReallocationError.AllocError)
             → count self.old ≡ self.old.capacity }
         ensures err { OnErr result (self.new ≡ self.old) }
+        ensures sound { OnOk result (IsSound K.cmp P.Inx.most self.new) }
     {
         let p = put(&mut self.pairs, k, v)?;
+        // with its length an arena tells what holds of it
+        let _ = self.len();
         Ok(p)
     }
 
@@ -92,6 +95,7 @@ impl<K: Ord + Drop, V: Drop, P: BasePtr, A: Allocator> SortedArena<K, V, P, A> {
         ensures memory { result ≡ Err ((k, v), UniqueInsertionError.AllocError)
             → count self.old ≡ self.old.capacity }
         ensures err { OnErr result (self.new ≡ self.old) }
+        ensures sound { OnOk result (IsSound K.cmp P.Inx.most self.new) }
     {
         let at = self.find(&k);
         match at {

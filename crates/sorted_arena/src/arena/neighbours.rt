@@ -5,7 +5,7 @@ ghost use Rattle.std.specs.List.{All};
 ghost use Rattle.std.specs.Option.{option_map};
 ghost use Rattle.std.specs.declared.cmp.Ordering.TheVariants.{Greater};
 ghost use Rattle.chain_base.specs.Chain.{first_pointer, last_pointer};
-ghost use Rattle.sorted_arena.specs.Sorted.{pair_of, count, key_of, next_of, prev_of};
+ghost use Rattle.sorted_arena.specs.Sorted.{pair_of, count, key_of, next_of, prev_of, IsSound};
 
 use super::SortedArena;
 use crate::pairs::{next_in, prev_in};
@@ -19,7 +19,10 @@ impl<K: Ord, V, P: BasePtr, A: Allocator> SortedArena<K, V, P, A> {
         ensures least { IfSome result (λ p. IsSomeAnd (pair_of self.now (P.numbers p))
             (λ least. All (λ e. K.cmp least.0 (key_of e) ≢ Greater) self.now.entries)) }
         ensures none { IfNone result (count self.now ≡ 0) }
+        ensures sound { IsSound K.cmp P.Inx.most self.now }
     {
+        // with its length an arena tells what holds of it
+        let _ = self.len();
         self.pairs.first()
     }
 
@@ -29,9 +32,11 @@ impl<K: Ord, V, P: BasePtr, A: Allocator> SortedArena<K, V, P, A> {
         ensures greatest { IfSome result (λ p. IsSomeAnd (pair_of self.now (P.numbers p))
             (λ greatest. All (λ e. K.cmp (key_of e) greatest.0 ≢ Greater) self.now.entries)) }
         ensures none { IfNone result (count self.now ≡ 0) }
+        ensures sound { IsSound K.cmp P.Inx.most self.now }
     {
-        // with its length an arena tells what holds of its list
+        // with its length an arena tells what holds of it, and of its list
         let _ = self.pairs.len();
+        let _ = self.len();
         self.pairs.last()
     }
 

@@ -3,7 +3,7 @@
 ghost use Rattle.std.specs.Prelude.{◌≡◌, Err, Some, None, IfOk, OnOk, IfErr, OnErr, is_some, true};
 ghost use Rattle.std.specs.Ordering.{is_eq};
 ghost use Rattle.std.specs.Option.{option_map};
-ghost use Rattle.sorted_arena.specs.Sorted.{pair_of, count, first_where, key_of, IsAbsent, Rekeys, Updates};
+ghost use Rattle.sorted_arena.specs.Sorted.{pair_of, count, first_where, key_of, IsAbsent, IsSound, Rekeys, Updates};
 
 use super::SortedArena;
 use crate::error::RekeyUniqueError;
@@ -28,10 +28,13 @@ impl<K: Ord, V, P: BasePtr, A: Allocator> SortedArena<K, V, P, A> {
         ensures stale { OnErr result (pair_of self.old (P.numbers p) ≡ None) }
         ensures back { IfErr result (λ back. back ≡ k) }
         ensures err { OnErr result (self.new ≡ self.old) }
+        ensures sound { IsSound K.cmp P.Inx.most self.new }
     {
         // with its length an arena tells what holds of its list
         let _ = self.pairs.len();
-        self.pairs.rekey_pair(p, k)
+        let rekeyed = self.pairs.rekey_pair(p, k);
+        let _ = self.len();
+        rekeyed
     }
 
     /// Gives the entry at `p` the key `k`, as [`rekey`](Self::rekey) does, unless an entry has an equal key. The entry's own key counts.

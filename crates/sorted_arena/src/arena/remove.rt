@@ -8,7 +8,7 @@ ghost use Rattle.std.specs.declared.cmp.Ordering.TheVariants.{Greater};
 ghost use Rattle.sorted_arena.specs.Sorted.{pair_of, count, first_where, key_of, first_item, last_item};
 ghost use Rattle.sorted_arena.specs.Sorted.{behind_first, before_last, item_of, first_item_until, entries_until, entries_above};
 ghost use Rattle.sorted_arena.specs.Answer.{AnswersAt};
-ghost use Rattle.sorted_arena.specs.Sorted.{with_left, without, IsAbsent, Updates};
+ghost use Rattle.sorted_arena.specs.Sorted.{with_left, without, IsAbsent, IsSound, Updates};
 
 use super::SortedArena;
 use std::alloc::{AllocError, Allocator};
@@ -23,10 +23,12 @@ impl<K: Ord, V, P: BasePtr, A: Allocator> SortedArena<K, V, P, A> {
         ensures gone { OnSome result
             (self.new ≡ without P.Gen.greatest self.old (P.numbers p)) }
         ensures none { IfNone result (self.new ≡ self.old) }
+        ensures sound { OnSome result (IsSound K.cmp P.Inx.most self.new) }
     {
         // with its length an arena tells what holds of its list
         let _ = self.pairs.len();
         let pair = self.pairs.remove(p).allow()?;
+        let _ = self.len();
         Some(pair.into_k_v())
     }
 
@@ -53,6 +55,7 @@ impl<K: Ord, V, P: BasePtr, A: Allocator> SortedArena<K, V, P, A> {
         ensures gone { OnSome result
             (self.new ≡ with_left P.Gen.greatest self.old (behind_first self.old.entries)) }
         ensures none { IfNone result (self.new ≡ self.old) }
+        ensures sound { OnSome result (IsSound K.cmp P.Inx.most self.new) }
     {
         let first = self.first()?;
         self.remove(first)
@@ -65,6 +68,7 @@ impl<K: Ord, V, P: BasePtr, A: Allocator> SortedArena<K, V, P, A> {
         ensures gone { OnSome result
             (self.new ≡ with_left P.Gen.greatest self.old (before_last self.old.entries)) }
         ensures none { IfNone result (self.new ≡ self.old) }
+        ensures sound { OnSome result (IsSound K.cmp P.Inx.most self.new) }
     {
         // with its length an arena tells what holds of its list
         let _ = self.len();
