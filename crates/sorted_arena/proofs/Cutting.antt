@@ -1,5 +1,5 @@
 -- Lists of entries that are cut at a place: what the words of a sorted arena say there.
-use Rattle.std.proofs.Common.{◌≡◌, ◌≢◌, ℕ, ◌==◌, true, false, Bool, List, [], ◌∷◌, ◌++◌, length, length-append, append_assoc, Option, Some, None, IsSome, IfSome, IfNone, IsSomeAnd, OnSome, is_some, refl, sym, ap, subst, ◌∙◌, arith, inl, inr, if◌then◌else◌}
+use Rattle.std.proofs.Common.{◌≡◌, ◌≢◌, ℕ, ◌==◌, true, false, Bool, List, [], ◌∷◌, ◌++◌, map, length, length-append, append_assoc, Option, Some, None, IsSome, IfSome, IfNone, IsSomeAnd, OnSome, is_some, refl, sym, ap, subst, ◌∙◌, arith, inl, inr, if◌then◌else◌}
 use Rattle.std.proofs.{lemmas.Grind.common_steps, lemmas.List.Elements.All-from_recursion, lemmas.List.Elements.recursion_from_All}
 use Rattle.std.proofs.lemmas.Bool.Decides.{eqb_tells}
 use Rattle.std.specs.{List.AllByRecursion, List.All, Option.option_map, Ordering.is_eq, Ordering.is_le, Ordering.is_lt, Ordering.is_gt, Ordering.ordering_reverse, Ordering.ordering_then, Cmp.IsTotalOrder}
@@ -321,6 +321,25 @@ module _ {K V : Type 0} (cmp : K → K → Ordering) where
     | true ↦ sorted.1
     | false ↦ (All-from_recursion _ (without i es) (recursion-without (λ x. cmp (key_of e) (key_of x) ≢ Greater) i es (recursion_from_All _ es sorted.0)), sorted-without i es sorted.1)
   ]
+
+  -- lists of the same items are in order together
+  recursion-items : (P : K × V → Type 0) (es fs : List (Entry (K × V))) → map (λ e. e.item) es ≡ map (λ e. e.item) fs → AllByRecursion (λ e. P e.item) fs → AllByRecursion (λ e. P e.item) es
+  recursion-items P [] fs same all = tt
+  recursion-items P (e ∷ es) [] same all = absurd (cc)
+  recursion-items P (e ∷ es) (f ∷ fs) same all =
+      let head : e.item ≡ f.item = cc in
+      let tail : map (λ (x : Entry (K × V)). x.item) es ≡ map (λ (x : Entry (K × V)). x.item) fs = cc in
+      (rw head all.0, recursion-items P es fs tail all.1)
+
+  pub sorted-items : (es fs : List (Entry (K × V))) → map (λ e. e.item) es ≡ map (λ e. e.item) fs → AreSorted cmp fs → AreSorted cmp es
+  sorted-items [] fs same sorted = tt
+  sorted-items (e ∷ es) [] same sorted = absurd (cc)
+  sorted-items (e ∷ es) (f ∷ fs) same sorted =
+      let head : e.item ≡ f.item = cc in
+      let tail : map (λ (x : Entry (K × V)). x.item) es ≡ map (λ (x : Entry (K × V)). x.item) fs = cc in
+      let all : AllByRecursion (λ x. cmp (key_of e) (key_of x) ≢ Greater) es =
+      rw head (recursion-items (λ x. cmp f.item.0 x.0 ≢ Greater) es fs tail (recursion_from_All (λ x. cmp (key_of f) (key_of x) ≢ Greater) fs sorted.0)) in
+      (All-from_recursion _ es all, sorted-items es fs tail sorted.1)
 
   -- another value at an index
   module _ (i : ℕ) (k : K) (v w : V) (g : ℕ) where

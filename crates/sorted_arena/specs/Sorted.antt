@@ -1,5 +1,5 @@
 -- What a sorted arena is: one list of entries in the order of their keys, each with its pointer, its key and its value.
-use Rattle.std.specs.Prelude.{◌≡◌, ◌≢◌, ℕ, ◌≤◌, ◌*◌, min, max, Bool, ◌==◌, ◌&&◌, nat_lt, if◌then◌else◌, List, [], ◌∷◌, ◌++◌, length, Option, Some, None, IsSomeAnd}
+use Rattle.std.specs.Prelude.{◌≡◌, ◌≢◌, ℕ, ◌≤◌, ◌*◌, min, max, Bool, ◌==◌, ◌&&◌, nat_lt, if◌then◌else◌, List, [], ◌∷◌, ◌++◌, map, length, Option, Some, None, IsSomeAnd}
 use Rattle.std.specs.{List.All, Ordering.is_le, Ordering.is_eq, Option.option_map, declared.cmp.Ordering.Ordering}
 use Rattle.std.specs.declared.cmp.Ordering.TheVariants.{Less, Equal, Greater}
 use Rattle.arena_base.specs.Generation.{next_generation}
@@ -162,6 +162,10 @@ module _ {K V : Type 0} where
       pub generation : new.generation ≡ old.generation
       pub capacity : new.capacity ≡ old.capacity
 
+    -- keys and values are in order if they are those of entries that are
+    abbrev pub AreInOrder : List (K × V) → Type 0
+    AreInOrder items = (es : List (Entry (K × V))) × (map item_of es ≡ items) × AreSorted es
+
     -- the pair at an index is the first whose key is smaller than that of the pair before it, where these pairs come behind others
     pub record IsOutOfOrder (others pairs : List (K × V)) (at : ℕ) : Type 0 where
       pub front : List (K × V)
@@ -169,4 +173,5 @@ module _ {K V : Type 0} where
       pub back : List (K × V)
       pub cut : pairs ≡ front ++ pair ∷ back
       pub place : at ≡ length front
+      pub in_order : AreInOrder (others ++ front)
       pub smaller : IsSomeAnd (last_of None (others ++ front)) (λ before. cmp before.0 pair.0 ≡ Greater)

@@ -1,11 +1,13 @@
 //! `SortedArena`: entries in the order of their keys.
 
-ghost use Rattle.std.specs.Prelude.{◌≡◌, ◌==◌, ◌↔◌, ◌+◌, ◌≤◌, ◌<◌, [], Err, OnOk, OnErr};
-ghost use Rattle.arena_base.specs.Generation.{first_generation};
+ghost use Rattle.std.specs.Prelude.{◌≡◌, ◌==◌, ◌↔◌, ◌+◌, ◌≤◌, ◌<◌, ℕ, [], map, slice_get, Err, OnOk, OnErr};
+ghost use Rattle.arena_base.specs.Generation.{first_generation, next_generation};
+ghost use Rattle.chain_base.specs.Chain.{greatest_index};
 ghost use Rattle.sorted_arena.specs.Layout.{sorted_of, IsSortedArena};
-ghost use Rattle.sorted_arena.specs.Sorted.{IsSound, count, with_left};
+ghost use Rattle.sorted_arena.specs.Sorted.{IsSound, count, pair_of, item_of, with_left};
 
 mod access;
+mod debug;
 mod extend;
 mod find;
 mod insert;
@@ -112,6 +114,32 @@ impl<K: Ord, V, P: BasePtr, A: Allocator> SortedArena<K, V, P, A> {
             return Ok(());
         }
         self.pairs.reallocate_min_capacity(needed)
+    }
+
+    /// Gives back the memory that no entry needs: the capacity becomes the greatest index of an entry. O(capacity).
+    pub fn shrink(&mut self)
+        ensures entries { self.new.entries ≡ self.old.entries }
+        ensures generation { self.new.generation ≡ self.old.generation }
+        ensures capacity { self.new.capacity ≡ greatest_index self.old.entries }
+    {
+        // with its length an arena tells what holds of its list
+        let _ = self.pairs.len();
+        let _ = self.pairs.reallocate_min_capacity(0);
+    }
+
+    /// Gives the entries the indexes from 1 on in their order, under the next generation. All old pointers are stale then. O(capacity).
+    ///
+    /// Before a [`shrink`](Self::shrink), this leaves just as much capacity as there are entries.
+    pub fn compact(&mut self)
+        ensures items { map item_of self.new.entries ≡ map item_of self.old.entries }
+        ensures found { (i : ℕ) → pair_of self.new (i + 1, self.new.generation)
+            ≡ slice_get (map item_of self.old.entries) i }
+        ensures generation { self.new.generation
+            ≡ next_generation P.Gen.greatest self.old.generation }
+        ensures capacity { self.new.capacity ≡ self.old.capacity }
+        ensures count { count self.new ≡ count self.old }
+    {
+        let _ = self.pairs.compress_canonical(false);
     }
 }
 

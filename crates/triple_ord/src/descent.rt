@@ -68,9 +68,9 @@ pub(crate) fn descend_by_key<P: BasePtr, T: SimpleOrdItem, A: Allocator>(
     let mut last = None;
     let mut at = probe.root();
     while let Some(i) = at {
-        let (p, order, next, lesser) = compare(probe, ties, k, i);
+        let (p, order, next) = compare(probe, ties, k, i);
         if order.is_eq() {
-            return descend_in_group(probe, ties, k, p, lesser);
+            return descend_in_group(probe, ties, k, p, next);
         }
         last = Some((p, order));
         at = next;
@@ -107,7 +107,7 @@ fn descend_in_group<P: BasePtr, T: SimpleOrdItem, A: Allocator>(
     let mut met = Some(p);
     let mut at = lesser;
     while let Some(i) = at {
-        let (p, order, next, _) = compare(probe, ties, k, i);
+        let (p, order, next) = compare(probe, ties, k, i);
         last = Some((p, order));
         met = met_behind(met, p, order);
         at = next;
@@ -118,38 +118,32 @@ fn descend_in_group<P: BasePtr, T: SimpleOrdItem, A: Allocator>(
     }
 }
 
-// Compares a key with that of the entry at an index: the entry's pointer, how the key lies to its key, where the search goes on, and the
-// root of the lesser side.
-//
-// The last is where the search goes on at an equal key. That it is used for itself there keeps the reads of both sides before the choice:
-// otherwise the compiler chooses the address first, and the read waits for the key.
+// Compares a key with that of the entry at an index: the entry's pointer, how the key lies to its key, and where the search goes on.
 #[inline(always)]
 fn compare<P: BasePtr, T: SimpleOrdItem, A: Allocator>(
     probe: &mut Probe<'_, P, T, A>,
     ties: Ties,
     k: &T::Key,
     i: P::Inx,
-) -> (P, Ordering, Option<P::Inx>, Option<P::Inx>)
+) -> (P, Ordering, Option<P::Inx>)
     requires occupied { IsSome (entry_at probe.old.tree.now.list.entries (P.Inx.number i)) }
     requires room { probe.old.visits + 1 < 2 ^ 128 }
     ensures compared { IsCompared T.key_of (taken ties T.Key.cmp) probe.old.tree.now
         (P.Inx.number i) k.now (P.numbers result.0) result.1
         (option_map P.Inx.number result.2) }
-    ensures equal { result.1 ≡ Ordering.Equal
-        → option_map P.Inx.number result.3 ≡ option_map P.Inx.number result.2 }
     ensures counted { probe.new.visits ≡ probe.old.visits + 1 }
     ensures tree { probe.new.tree.now ≡ probe.old.tree.now }
 {
     let (generation, node) = probe.show(i);
     let order = ties.order(k, node.t.key());
-    let lesser = node.p_tree0.get();
-    let next = towards::<P>(order, lesser, node.p_tree1.get());
-    (P::_from_raw(i, generation), order, next, lesser)
+    let next = towards::<P>(order, node.p_tree0.get(), node.p_tree1.get());
+    (P::_from_raw(i, generation), order, next)
 }
 
 // The side on which what is sought lies: the greater one behind an entry that was answered Greater, else the lesser one.
 //
-// Both sides of a node are read before one is chosen: so the choice is a selection, and no branch.
+// Both sides of a node are read before one is chosen: so the choice is a selection, and no branch. A leaf is told by both of them; if each
+// were used for the choice alone, the compiler would choose first and read then, and the read would wait for the comparison of the keys.
 #[inline(always)]
 pub(crate) fn towards<P: BasePtr>(
     order: Ordering,
@@ -159,6 +153,9 @@ pub(crate) fn towards<P: BasePtr>(
     ensures { option_map P.Inx.number result
         ≡ side_of order (option_map P.Inx.number lesser) (option_map P.Inx.number greater) }
 {
+    if lesser.is_none() && greater.is_none() {
+        return None;
+    }
     if order.is_gt() { greater } else { lesser }
 }
 

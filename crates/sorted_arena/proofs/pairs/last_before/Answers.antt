@@ -10,7 +10,7 @@ returns-in_err-link-in-Some g c front back cut ends =
 
 pub returns-in_err-last-in-None : goal.returns-in_err-last-in-None
 returns-in_err-last-in-None g c front back cut ends =
-    before-end c.args.pairs.now.list.entries c.len.ensures.sound.distinct front back cut None (ends ∙ ap (option_map g.P.Inx.BasePtrInx.number) c.in-None.is) c.in_err-last-in-None.ensures
+    before-end c.args.pairs.now.list.entries c.len.ensures.sound.distinct front back cut None (ends ∙ ap (option_map g.P.Inx.BasePtrInx.number) c.in-None.is) c.in_err-last-in-None.ensures.pointer
     ∙ sym (ap (option_map g.P.Inx.BasePtrInx.number) c.from_residual-in_err-last-in-None.ensures)
 
 pub returns-in_ok-link-in-Some : goal.returns-in_ok-link-in-Some
@@ -21,5 +21,5 @@ returns-in_ok-link-in-Some g c front back cut ends =
 pub returns-in_ok-last-in-None : goal.returns-in_ok-last-in-None
 returns-in_ok-last-in-None g c front back cut ends =
     before-end c.args.pairs.now.list.entries c.len.ensures.sound.distinct front back cut (Some (g.P.BasePtr.numbers c.in_ok-last-in-None.last))
-    (ends ∙ ap (option_map g.P.Inx.BasePtrInx.number) c.in-None.is) c.in_ok-last-in-None.ensures
+    (ends ∙ ap (option_map g.P.Inx.BasePtrInx.number) c.in-None.is) c.in_ok-last-in-None.ensures.pointer
     ∙ ap (λ i. Some i) (sym c.inx.ensures)

@@ -19,7 +19,7 @@ descend_in_group-requires-clause-descended g c =
     let seen = rw c.loop-at.invariant.tree at c.compare-p.ensures.compared in
     let next = by_key-step _ _ c.args.probe.now.tree.now c.root-at.ensures.distinct _ _ _ _ _ _ d _ _ _ seen in
     let equal = equal_by c.compare-p.result.1 (sym c.is_eq.ensures ∙ c.if-is_eq.true) in
-    (c.args.probe.now.visits, rw (c.compare-p.ensures.tree ∙ c.loop-at.invariant.tree, c.compare-p.ensures.counted, c.compare-p.ensures.equal equal) (rw equal at next))
+    (c.args.probe.now.visits, rw (c.compare-p.ensures.tree ∙ c.loop-at.invariant.tree, c.compare-p.ensures.counted) (rw equal at next))
 
 pub returns-then-is_eq : goal.returns-then-is_eq
 returns-then-is_eq g c =
@@ -28,7 +28,7 @@ returns-then-is_eq g c =
     let next = by_key-step _ _ c.args.probe.now.tree.now c.root-at.ensures.distinct _ _ _ _ _ _ d _ _ _ seen in
     let equal = equal_by c.compare-p.result.1 (sym c.is_eq.ensures ∙ c.if-is_eq.true) in
     let tree = c.compare-p.ensures.tree ∙ c.loop-at.invariant.tree in
-    let ended = rw tree at (c.descend_in_group.ensures.ended c.args.probe.now.visits (rw (tree, c.compare-p.ensures.counted, c.compare-p.ensures.equal equal) (rw equal at next))) in
+    let ended = rw tree at (c.descend_in_group.ensures.ended c.args.probe.now.visits (rw (tree, c.compare-p.ensures.counted) (rw equal at next))) in
     record {
       found = ended.similar;
       visits = within_bounds _ c.root-at.ensures.sound c.visits_law.ensures _ (omega (arith, ended.few));

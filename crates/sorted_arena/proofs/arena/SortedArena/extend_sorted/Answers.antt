@@ -21,6 +21,7 @@ returns-then-is_last_greater-clause-unsorted g c at is =
       back = into_iter_items c.next.new.self;
       cut = c.loop-k.invariant.cut ∙ ap (λ xs. c.loop-k.yielded ++ xs) c.in-Some.ensures.steps.0;
       place = omega (arith, place, counted c.len.result c.len-before.result c.loop-k.self.entries c.args.self.now.entries c.loop-k.yielded c.len.ensures.value c.len-before.ensures.value c.loop-k.invariant.held);
+      in_order = (c.loop-k.self.entries, c.loop-k.invariant.held, c.len.ensures.sound.sorted);
       smaller = subst (λ (xs : List (g.row.K.Denot × g.row.V.Denot)). IsSomeAnd (last_of None xs) (λ x. g.K.Ord.cmp x.0 c.in-Some.k ≡ Greater)) c.loop-k.invariant.held last;
     }
 
