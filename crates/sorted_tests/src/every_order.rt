@@ -1,0 +1,94 @@
+//! Every order of up to five keys, equal ones among them, and each change of such an arena, beside a plain vector.
+use crate::beside::{ORDERS, are_alike, are_found, beside_of};
+use crate::changes::{Change, is_made};
+use std::alloc::Global;
+
+/// The changes that take neither an entry nor a key, those that take a key, those that take an entry, and those that take both.
+const PLAIN: [Change; 3] = [Change::PopFirst, Change::PopLast, Change::Clear];
+
+const BY_KEY: [Change; 8] = [
+    Change::Insert,
+    Change::Replace,
+    Change::InsertUnique,
+    Change::RemoveKey,
+    Change::PopFirstUntil,
+    Change::PopFirstIf,
+    Change::PopUntil,
+    Change::RemoveUntil,
+];
+
+const BY_PLACE: [Change; 2] = [Change::SetValue, Change::Remove];
+
+const BY_BOTH: [Change; 2] = [Change::Rekey, Change::RekeyUnique];
+
+/// Whether an arena of n keys in this order has the entries of the vector, and finds them.
+fn is_right(alloc: Global, n: usize, number: usize) -> bool {
+    match beside_of(alloc, n, number) {
+        Some(beside) => {
+            are_alike(&beside.arena, &beside.entries) && are_found(&beside.arena, &beside.entries)
+        }
+        None => false,
+    }
+}
+
+/// A change, the place of its entry, and its key.
+type Step = (Change, usize, u64);
+
+/// Whether arena and vector answer alike, and are alike afterwards.
+fn is_right_after(alloc: Global, n: usize, number: usize, step: Step) -> bool {
+    let Some(mut beside) = beside_of(alloc, n, number) else {
+        return false;
+    };
+    let is_made = is_made(&mut beside, step, alloc);
+    is_made
+        && are_alike(&beside.arena, &beside.entries)
+        && are_found(&beside.arena, &beside.entries)
+}
+
+/// The first of some changes that goes wrong, at places below one number and with keys below another.
+fn wrong_step(
+    alloc: Global,
+    order: (usize, usize),
+    changes: &[Change],
+    places: usize,
+    keys: u64,
+) -> Option<Step> {
+    for change in changes {
+        for place in 0..places {
+            for k in 0..keys {
+                let step = (*change, place, k);
+                if !is_right_after(alloc, order.0, order.1, step) {
+                    return Some(step);
+                }
+            }
+        }
+    }
+    None
+}
+
+/// The first change of n keys in this order that goes wrong.
+fn wrong_change(alloc: Global, n: usize, number: usize) -> Option<Step> {
+    let order = (n, number);
+    wrong_step(alloc, order, &PLAIN, 1, 1)
+        .or(wrong_step(alloc, order, &BY_KEY, 1, 7))
+        .or(wrong_step(alloc, order, &BY_PLACE, n, 1))
+        .or(wrong_step(alloc, order, &BY_BOTH, n, 7))
+}
+
+#[test]
+fn entries_stand_in_order_and_are_found(rt: HostRuntime) {
+    for (n, orders) in &ORDERS {
+        for number in 0..*orders {
+            assert!(rt; is_right(rt.alloc(), *n, number));
+        }
+    }
+}
+
+#[test]
+fn each_change_does_what_a_vector_does(rt: HostRuntime) {
+    for (n, orders) in &ORDERS {
+        for number in 0..*orders {
+            assert_eq!(rt; wrong_change(rt.alloc(), *n, number), None);
+        }
+    }
+}
