@@ -14,13 +14,23 @@ use std::cmp::Ordering;
 use triple_ord::SimpleOrdItem;
 
 /// An insertion where there is no entry, and then `ranks`: the ranks are 1 and nothing else, unless something is refused.
-pub fn first_rank_law<P: BasePtr, T: SimpleOrdItem + Clone, F: FnMut(P, &T) -> Ordering, A: Allocator>()
+pub fn first_rank_law<
+    P: BasePtr,
+    T: SimpleOrdItem + Clone,
+    F: FnMut(P, &T) -> Ordering,
+    A: Allocator,
+>()
     ensures { FirstRankLaw P T P.Inx P.Gen A T.Key (calls_by (Asks P.numbers F.step) T.is_infallible) }
 {}
 
 /// A pointer names the same item through every insertion, replacement, move, removal and renewal of other entries, and through all that
 /// only asks or changes the capacity or the generation: only a call to its own entry, or to all entries, ends or renews it.
-pub fn kept_pointer_law<P: BasePtr, T: SimpleOrdItem + Clone, F: FnMut(P, &T) -> Ordering, A: Allocator>()
+pub fn kept_pointer_law<
+    P: BasePtr,
+    T: SimpleOrdItem + Clone,
+    F: FnMut(P, &T) -> Ordering,
+    A: Allocator,
+>()
     ensures { KeptPointerLaw P T P.Inx P.Gen A T.Key (calls_by (Asks P.numbers F.step) T.is_infallible) }
 {}
 
@@ -37,13 +47,23 @@ pub fn rekeyed_pointer_law<
 
 /// A pointer that ceased to name an entry names none ever again, as long as no entry's generation is above the arena's at the
 /// beginning, the generations are counted, they are never set back, and they don't begin again after the greatest.
-pub fn ended_pointer_law<P: BasePtr, T: SimpleOrdItem + Clone, F: FnMut(P, &T) -> Ordering, A: Allocator>()
+pub fn ended_pointer_law<
+    P: BasePtr,
+    T: SimpleOrdItem + Clone,
+    F: FnMut(P, &T) -> Ordering,
+    A: Allocator,
+>()
     ensures { EndedPointerLaw P T P.Inx P.Gen A T.Key (calls_by (Asks P.numbers F.step) T.is_infallible) }
 {}
 
 /// Keys are strictly ascending after any run from an arena without entries, as long as an entry's item is replaced only by an insertion,
 /// and each insertion is by the item's key, or of the kind `Normal` or `Linear` with a key that the item's is equal to.
-pub fn ascending_keys_law<P: BasePtr, T: SimpleOrdItem + Clone, F: FnMut(P, &T) -> Ordering, A: Allocator>()
+pub fn ascending_keys_law<
+    P: BasePtr,
+    T: SimpleOrdItem + Clone,
+    F: FnMut(P, &T) -> Ordering,
+    A: Allocator,
+>()
     ensures { AscendingKeysLaw P T P.Inx P.Gen A T.Key (calls_by (Asks P.numbers F.step) T.is_infallible) }
 {}
 
@@ -51,7 +71,12 @@ pub fn ascending_keys_law<P: BasePtr, T: SimpleOrdItem + Clone, F: FnMut(P, &T) 
 /// insertion is by the item's key, or of a kind that goes by a key that the item's is equal to.
 ///
 /// `Rekey` leaves them in order, whatever the keys: its entry goes to the place of the new key.
-pub fn ordered_keys_law<P: BasePtr, T: SimpleOrdItem + Clone, F: FnMut(P, &T) -> Ordering, A: Allocator>()
+pub fn ordered_keys_law<
+    P: BasePtr,
+    T: SimpleOrdItem + Clone,
+    F: FnMut(P, &T) -> Ordering,
+    A: Allocator,
+>()
     ensures { OrderedKeysLaw P T P.Inx P.Gen A T.Key (calls_by (Asks P.numbers F.step) T.is_infallible) }
 {}
 
@@ -61,6 +86,11 @@ pub fn ordered_keys_law<P: BasePtr, T: SimpleOrdItem + Clone, F: FnMut(P, &T) ->
 ///
 /// A run that begins without entries has n = 0, and a run after a rebuild begins with the entries that were rebuilt. An insertion that
 /// replaces an item changes no rank, and neither does a command that only asks.
-pub fn rank_changes_law<P: BasePtr, T: SimpleOrdItem + Clone, F: FnMut(P, &T) -> Ordering, A: Allocator>()
+pub fn rank_changes_law<
+    P: BasePtr,
+    T: SimpleOrdItem + Clone,
+    F: FnMut(P, &T) -> Ordering,
+    A: Allocator,
+>()
     ensures { RankChangesLaw P T P.Inx P.Gen A T.Key (calls_by (Asks P.numbers F.step) T.is_infallible) }
 {}
