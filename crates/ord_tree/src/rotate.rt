@@ -34,7 +34,7 @@ pub fn rotate<N: Nodes>(
     ensures kept { N.list nodes.new ≡ N.list nodes.old }
 {
     let other = side.other();
-    // with its links a node tells what its side is
+    // for the proof alone: what `child` returns is a link of this node
     let _ = nodes.links(y);
     let high = nodes.links(z);
     let inner = nodes.child(y, other);

@@ -142,8 +142,8 @@ fn compare<P: BasePtr, T: SimpleOrdItem, A: Allocator>(
 
 // The side on which what is sought lies: the greater one behind an entry that was answered Greater, else the lesser one.
 //
-// Both sides of a node are read before one is chosen: so the choice is a selection, and no branch. A leaf is told by both of them; if each
-// were used for the choice alone, the compiler would choose first and read then, and the read would wait for the comparison of the keys.
+// Both links of a node are read before one is chosen, so the choice is a conditional move and not a branch. The test for a leaf uses both
+// links. Without it the compiler selects the address first, and the read waits for the comparison of the keys.
 #[inline(always)]
 pub(crate) fn towards<P: BasePtr>(
     order: Ordering,
