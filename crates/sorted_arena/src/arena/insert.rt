@@ -87,8 +87,8 @@ impl<K: Ord + Drop, V: Drop, P: BasePtr, A: Allocator> SortedArena<K, V, P, A> {
             (λ p. Updates self.old self.new (P.numbers p) (Some (k, v))) }
         ensures count { OnOk result (count self.new ≡ count self.old + 1) }
         ensures absent { OnOk result (IsAbsent K.cmp self.old k) }
-        ensures equal { result ≡ Err ((k, v), UniqueInsertionError.EqualKey)
-            → is_some (first_where (λ e. is_eq (K.cmp k (key_of e))) self.old.entries) ≡ true }
+        ensures equal { (result ≡ Err ((k, v), UniqueInsertionError.EqualKey))
+            ↔ (is_some (first_where (λ e. is_eq (K.cmp k (key_of e))) self.old.entries) ≡ true) }
         ensures back { IfErr result (λ e. e.0 ≡ (k, v)) }
         ensures full { result ≡ Err ((k, v), UniqueInsertionError.BeyondMaxCapacity)
             → count self.old ≡ P.Inx.most }
