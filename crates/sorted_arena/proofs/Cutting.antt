@@ -6,7 +6,7 @@ use Rattle.std.specs.{List.AllByRecursion, List.All, Option.option_map, Ordering
 use Rattle.std.specs.declared.cmp.Ordering.{Ordering, TheVariants.Less, TheVariants.Equal, TheVariants.Greater}
 use Rattle.chain_base.specs.Chain.{Entry, times, entry_at, item_of, IsDistinct, link_at, first_pointer, last_pointer, without, with_item_among, pointed}
 use Rattle.chain_base.specs.Link.{Link}
-use Rattle.triple_ord.specs.{Gap.Gap, Gap.before, Gap.after, Gap.first_of, Gap.last_of, Search.order_to, Search.FindsKey, Search.FindsSimilar, Order.IsInOrder, Passing.passing}
+use Rattle.triple_ord.specs.{Gap.Gap, Gap.before, Gap.after, Gap.first_of, Gap.last_of, Search.order_to, Search.FindsKey, Search.FindsSimilar, Order.IsInOrder, PastEquals.order_past_equals}
 use Rattle.triple_ord.proofs.CallerLemmas.{IsInOrder-rest, IsInOrder-back, in_order-one, in_order-more, all_greater, all_less, recursion-map}
 use Rattle.triple_ord.proofs.CallerLemmas.{ends, stands, not_before, entry_at-here, link-read, no_last}
 use Rattle.chain_base.proofs.CallerLemmas.{entry_at-link}
@@ -530,15 +530,15 @@ module _ {K V : Type 0} (cmp : K → K → Ordering) where
             (all_at_most gap.front gap.back (ordered gap) last) in
             ap (first_where is_greater) gap.cut ∙ first_where-skip is_greater gap.front gap.back low ∙ first_where-first is_greater gap.back first
 
-        at_most_all : (o : Option (Entry (K × V))) → IfSome o (λ e. order_to item_key (passing cmp) k e ≡ Greater) → IfSome o (λ e. order_to item_key cmp k e ≢ Less)
+        at_most_all : (o : Option (Entry (K × V))) → IfSome o (λ e. order_to item_key (order_past_equals cmp) k e ≡ Greater) → IfSome o (λ e. order_to item_key cmp k e ≢ Less)
         at_most_all None more = tt
         at_most_all (Some e) more = passed-greater (cmp k (key_of e)) more
 
-        greater_all : (o : Option (Entry (K × V))) → IfSome o (λ e. order_to item_key (passing cmp) k e ≡ Less) → IfSome o (λ e. is_greater e ≡ true)
+        greater_all : (o : Option (Entry (K × V))) → IfSome o (λ e. order_to item_key (order_past_equals cmp) k e ≡ Less) → IfSome o (λ e. is_greater e ≡ true)
         greater_all None less = tt
         greater_all (Some e) less = passed-less (cmp k (key_of e)) less
 
-        module _ (p : ℕ × ℕ) (o : Ordering) (c : ℕ) (h : FindsSimilar item_key (passing cmp) es k (Some (p, o)) c) where
+        module _ (p : ℕ × ℕ) (o : Ordering) (c : ℕ) (h : FindsSimilar item_key (order_past_equals cmp) es k (Some (p, o)) c) where
           named_behind : p ≡ pointer_of h.0
           named_behind = ap (λ (a : (ℕ × ℕ) × Ordering). a.0) h.1
 

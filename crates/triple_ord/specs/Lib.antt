@@ -12,7 +12,7 @@ pub mod Recasting
 pub mod Refusal
 pub mod Rekey
 pub mod Ties
-pub mod Passing
+pub mod PastEquals
 pub mod Place
 pub mod Insertion
 pub mod EntryVisits

@@ -4,7 +4,7 @@ ghost use Rattle.std.specs.Option.{option_map};
 ghost use Rattle.triple_ord.specs.ClosureSearch.{where_equal};
 ghost use Rattle.std.specs.declared.cmp.Ordering.TheVariants.{Equal};
 ghost use Rattle.triple_ord.specs.Arena.{FindsBy};
-ghost use Rattle.triple_ord.specs.Passing.{passing};
+ghost use Rattle.triple_ord.specs.PastEquals.{order_past_equals};
 ghost use Rattle.triple_ord.specs.Search.{FindsKey, FindsSimilar};
 ghost use Rattle.triple_ord.specs.Ties.{taken};
 ghost use Rattle.triple_ord.specs.VisitBounds.{IsWithinBounds};
@@ -82,12 +82,23 @@ impl<P: BasePtr, T: SimpleOrdItem, A: Allocator> SimpleOrdArena<P, T, A> {
     #[inline(always)]
     pub fn find_behind_key(&self, k: &T::Key) -> Option<(P, Ordering)>
         ensures finds { IfSome result
-            (λ a. FindsBy T.key_of (passing T.Key.cmp) self.now k.now (P.numbers a.0) a.1) }
-        ensures found { (visits : ℕ) × FindsSimilar T.key_of (passing T.Key.cmp)
+            (λ a. FindsBy T.key_of (order_past_equals T.Key.cmp) self.now k.now
+            (P.numbers a.0) a.1) }
+        ensures found { (visits : ℕ) × FindsSimilar T.key_of (order_past_equals T.Key.cmp)
             self.now.list.entries k.now (option_map (λ a. (P.numbers a.0, a.1)) result) visits }
     {
         prove!(self.len() <= usize::MAX);
-        self.search(Ties::Passed, k).0
+        self.find_behind_key_counted(k).0
+    }
+
+    /// `find_behind_key`, and how many entries it visited, within the bounds of `find_key_counted`.
+    #[inline(always)]
+    pub fn find_behind_key_counted(&self, k: &T::Key) -> (Option<(P, Ordering)>, Visits)
+        ensures found { FindsSimilar T.key_of (order_past_equals T.Key.cmp)
+            self.now.list.entries k.now (option_map (λ a. (P.numbers a.0, a.1)) result.0) result.1 }
+        ensures visits { IsWithinBounds (length self.now.list.entries) self.now.shape result.1 }
+    {
+        self.search(Ties::Passed, k)
     }
 
     // A search from the root, by what it makes of equal keys.

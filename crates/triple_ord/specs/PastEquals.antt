@@ -2,5 +2,5 @@
 use Rattle.std.specs.{Ordering.ordering_then, declared.cmp.Ordering.Ordering, declared.cmp.Ordering.TheVariants.Greater}
 
 -- how a key lies to another, where an equal one counts as smaller
-abbrev pub passing : {K : Type 0} → (K → K → Ordering) → K → K → Ordering
-passing cmp k other = ordering_then (cmp k other) Greater
+abbrev pub order_past_equals : {K : Type 0} → (K → K → Ordering) → K → K → Ordering
+order_past_equals cmp k other = ordering_then (cmp k other) Greater
