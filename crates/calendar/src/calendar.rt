@@ -3,7 +3,7 @@
 use std::alloc::{AllocError, Global};
 use timeline::Timeline;
 
-/// Which word holds at which time. A timeline copies its values, so a word is told by its place among all that were ever set.
+/// Which word holds at which time. A timeline copies its values, so it holds the place of a word among all that were ever set.
 #[derive(Drop)]
 pub struct Calendar {
     pub times: Timeline<u64>,

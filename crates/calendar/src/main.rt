@@ -6,8 +6,25 @@ mod command;
 
 use calendar::Calendar;
 use command::{Command, Fault};
+use command_line::{Request, WRONG_USAGE};
 use std::io;
 use std::io::{BufRead, BufReader, ErrorKind};
+use std::process::ExitCode;
+
+/// What `--help` prints.
+const HELP: &str = "\
+usage: calendar < COMMANDS
+
+Reads one command per line and answers each:
+
+  set FROM UNTIL WORD   the word holds from FROM until before UNTIL
+  clear FROM UNTIL      no word holds there
+  get TIME              the word at a time
+  spans FROM UNTIL      a line for each span in that time
+
+A bad line is answered by `line N: REASON` and changes nothing. The last line has totals.
+Exit status: 0; 1 if reading or writing failed; 64 on wrong usage.
+";
 
 /// How many lines there were, how many of them were obeyed, and how many weren't.
 #[derive(Default, Drop)]
@@ -52,7 +69,7 @@ fn obey(rt: &(impl Print + AllocGlobal), calendar: &mut Calendar, line: &str) ->
     Ok(())
 }
 
-/// Obeys each line of standard input in turn. A bad line, and one that is refused memory, is told by its number and changes nothing.
+/// Obeys each line of standard input in turn. A line that can't be obeyed is reported by its number and changes nothing.
 fn serve(
     rt: &(impl Input + Print + AllocGlobal),
     calendar: &mut Calendar,
@@ -78,12 +95,30 @@ fn serve(
     Ok(())
 }
 
-fn main(rt: HostRuntime) -> io::Result<()> {
+/// Serves standard input, and writes the figures as the last line.
+fn run(rt: &(impl Input + Print + AllocGlobal)) -> io::Result<()> {
     let mut calendar = Calendar::new(rt.alloc());
     let mut figures = Figures::default();
-    let end = serve(&rt, &mut calendar, &mut figures);
+    let end = serve(rt, &mut calendar, &mut figures);
     let (changes, words) = (calendar.times.len(), calendar.words.len());
     let (lines, done, bad) = (figures.lines, figures.done, figures.bad);
     println!(rt; "lines {lines}, done {done}, bad {bad}, changes {changes}, words {words}")?;
     end
+}
+
+fn main(rt: HostRuntime) -> io::Result<ExitCode> {
+    match Request::read(&rt)? {
+        Request::Serve => {
+            run(&rt)?;
+            Ok(ExitCode::SUCCESS)
+        }
+        Request::Help => {
+            print!(rt; "{HELP}")?;
+            Ok(ExitCode::SUCCESS)
+        }
+        Request::Unknown(argument) => {
+            eprintln!(rt; "calendar: unknown argument {argument}; try calendar --help")?;
+            Ok(ExitCode::from(WRONG_USAGE))
+        }
+    }
 }

@@ -5,10 +5,28 @@ mod command;
 mod exchange;
 
 use command::{Command, Fault};
+use command_line::{Request, WRONG_USAGE};
 use exchange::Exchange;
 use order_book::{Order, Side};
 use std::io;
 use std::io::{BufRead, BufReader, ErrorKind};
+use std::process::ExitCode;
+
+/// What `--help` prints.
+const HELP: &str = "\
+usage: exchange < COMMANDS
+
+Reads one command per line and answers each:
+
+  buy PRICE QUANTITY             trades, and what rests, by number
+  sell PRICE QUANTITY
+  replace ORDER PRICE QUANTITY   counts as a new order
+  cancel ORDER
+  best                           the best bid and ask
+
+A bad line is answered by `line N: REASON` and changes nothing. The last line has totals.
+Exit status: 0; 1 if reading or writing failed; 64 on wrong usage.
+";
 
 /// How many lines there were, how many of them were obeyed, and how many weren't; and how much was traded.
 #[derive(Default, Drop)]
@@ -88,7 +106,7 @@ fn obey(
     Ok(())
 }
 
-/// Obeys each line of standard input in turn. A bad line, and one that is refused memory, is told by its number and changes nothing.
+/// Obeys each line of standard input in turn. A line that can't be obeyed is reported by its number and changes nothing.
 fn serve(
     rt: &(impl Input + Print + AllocGlobal),
     exchange: &mut Exchange,
@@ -114,10 +132,11 @@ fn serve(
     Ok(())
 }
 
-fn main(rt: HostRuntime) -> io::Result<()> {
+/// Serves standard input, and writes the figures as the last line.
+fn run(rt: &(impl Input + Print + AllocGlobal)) -> io::Result<()> {
     let mut exchange = Exchange::new(rt.alloc());
     let mut figures = Figures::default();
-    let end = serve(&rt, &mut exchange, &mut figures);
+    let end = serve(rt, &mut exchange, &mut figures);
     let (lines, done, bad) = (figures.lines, figures.done, figures.bad);
     let (bids, asks) = (
         exchange.book.count(Side::Buy),
@@ -128,4 +147,21 @@ fn main(rt: HostRuntime) -> io::Result<()> {
         figures.traded
     )?;
     end
+}
+
+fn main(rt: HostRuntime) -> io::Result<ExitCode> {
+    match Request::read(&rt)? {
+        Request::Serve => {
+            run(&rt)?;
+            Ok(ExitCode::SUCCESS)
+        }
+        Request::Help => {
+            print!(rt; "{HELP}")?;
+            Ok(ExitCode::SUCCESS)
+        }
+        Request::Unknown(argument) => {
+            eprintln!(rt; "exchange: unknown argument {argument}; try exchange --help")?;
+            Ok(ExitCode::from(WRONG_USAGE))
+        }
+    }
 }

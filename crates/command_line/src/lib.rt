@@ -1,0 +1,6 @@
+//! What the arguments of a program ask for that reads commands from standard input.
+#![tactic(auto)]
+
+mod request;
+
+pub use request::{Request, WRONG_USAGE};
