@@ -14,17 +14,18 @@ use std::alloc::{Allocator, Global};
 use std::marker::Model;
 use triple_ord::{ReallocationError, SimpleOrdArena};
 
-/// Jobs with their deadlines, in the order in which they leave: by deadline, and where deadlines are equal in the order of scheduling.
+/// Jobs by deadline. Jobs with equal deadlines leave in the order of scheduling.
 ///
-/// A deadline is a number in whatever unit the program counts its time. A job is named by the ticket that scheduling it gave. In
-/// contracts an agenda is one list of jobs, each with its ticket and its deadline, the generation of the next ticket, and the capacity.
-/// `len` tells what is true of every agenda: the list is in order, no ticket names two jobs, and there is room for all.
+/// A deadline is a number in whatever unit the program counts its time. [`schedule`](Self::schedule) returns a ticket, which names the job
+/// until the job leaves or [`move_to`](Self::move_to) moves it; [`reschedule`](Self::reschedule) keeps it. Each ended ticket raises the
+/// generation of tickets, so it names nothing from then on, until the generations overflow after some 2^64 of them
+/// ([`ended_ticket_law`](crate::laws::ended_ticket_law)).
 ///
-/// A ticket names its job until the job leaves or [`move_to`](Self::move_to) moves it; [`reschedule`](Self::reschedule) keeps it. The
-/// generation of tickets rises each time that a ticket ends, so it names nothing from then on, until after some 2 to the 64th of them
-/// the generations begin again: [`ended_ticket_law`](crate::laws::ended_ticket_law).
+/// In contracts an agenda is the list of its jobs, each with ticket and deadline, the generation of the next ticket, and the capacity.
+/// [`len`](Self::len) promises what holds of every agenda: the list is in order, no ticket names two jobs, and all jobs fit in the
+/// capacity.
 ///
-/// Only `schedule` takes memory. n is the number of jobs in what is said of time.
+/// Only `schedule` takes memory. In the docs n is the number of jobs.
 #[derive(Drop)]
 pub struct Agenda<J, A: Allocator = Global> {
     jobs: Jobs<J, A>,
@@ -43,7 +44,7 @@ impl<J, A: Allocator> Model for Agenda<J, A> {
 }
 
 impl<J, A: Allocator> Agenda<J, A> {
-    /// An agenda without jobs. It takes no memory until a job is scheduled.
+    /// Creates an agenda without jobs. It takes no memory until a job is scheduled.
     pub fn new(alloc: A) -> Self
     where
         A: Copy,
@@ -57,14 +58,14 @@ impl<J, A: Allocator> Agenda<J, A> {
         }
     }
 
-    /// How many jobs there is room for before the agenda has to grow.
+    /// Returns how many jobs the agenda holds without growing.
     pub fn capacity(&self) -> usize
         ensures { result ≡ self.now.capacity }
     {
         self.jobs.capacity()
     }
 
-    /// How many jobs there are.
+    /// Returns the number of jobs.
     pub fn len(&self) -> usize
         ensures value { result ≡ count self.now }
         ensures sound { IsSound self.now }
@@ -72,14 +73,14 @@ impl<J, A: Allocator> Agenda<J, A> {
         self.jobs.len()
     }
 
-    /// Whether there is no job.
+    /// Returns whether there are no jobs.
     pub fn is_empty(&self) -> bool
         ensures { result ≡ (count self.now == 0) }
     {
         self.jobs.is_empty()
     }
 
-    /// The deadline of the job that leaves first, in O(1).
+    /// Returns the deadline of the first job, in O(1). `None` if there are no jobs.
     pub fn next_deadline(&self) -> Option<u64>
         ensures value { result ≡ first_deadline self.now.jobs }
         ensures none { IfNone result (count self.now ≡ 0) }
@@ -89,9 +90,9 @@ impl<J, A: Allocator> Agenda<J, A> {
         Some(*pair.k())
     }
 
-    /// Takes the job that the ticket names off the agenda, and returns it with its deadline, in O(log n).
+    /// Removes the job of `ticket` and returns its deadline and the job, in O(log n).
     ///
-    /// For a ticket that names no job it returns `None`, and nothing changes.
+    /// If the ticket names no job, returns `None` and nothing changes.
     pub fn cancel(&mut self, ticket: Ticket) -> Option<(u64, J)>
         ensures value { result ≡ job_of self.old.jobs ticket }
         ensures updates { Updates self.old self.new ticket None }
@@ -107,9 +108,9 @@ impl<J, A: Allocator> Agenda<J, A> {
         Some(pair.into_k_v())
     }
 
-    /// Takes the first job off the agenda and returns it with its deadline, where that is at most `now`, in O(log n).
+    /// Removes the first job if its deadline is at most `now`, and returns its deadline and the job, in O(log n).
     ///
-    /// Where no job is due it returns `None`, and nothing changes.
+    /// If no job is due, returns `None` and nothing changes.
     pub fn pop_due(&mut self, now: u64) -> Option<(u64, J)>
         ensures value { result ≡ first_due now self.old.jobs }
         ensures due { IfSome result (λ due. due.0 ≤ now) }
@@ -130,11 +131,17 @@ impl<J, A: Allocator> Agenda<J, A> {
 }
 
 impl<J: Drop, A: Allocator> Agenda<J, A> {
-    /// Puts a job on the agenda, behind all whose deadline is at most its own, and returns its ticket, in O(log n), and O(n) where the
-    /// agenda grows.
+    /// Inserts a job behind all whose deadline is at most its own, and returns its ticket. If it is full, the agenda grows.
     ///
-    /// It is refused with `BeyondMaxCapacity` where there are as many jobs as tickets have indexes, 4,294,967,294, and with `AllocError`
-    /// where there is no room for one more and memory is refused to the growth. The job comes back then, and nothing else has changed.
+    /// # Errors
+    ///
+    /// The job comes back, and the agenda is unchanged.
+    /// - `BeyondMaxCapacity`: there are 4,294,967,294 jobs, as many as tickets have indexes.
+    /// - `AllocError`: growing failed.
+    ///
+    /// # Complexity
+    ///
+    /// O(log n), and one comparison if no deadline is later; plus O(n) when the agenda grows (amortized O(1)).
     pub fn schedule(&mut self, deadline: u64, job: J) -> Result<Ticket, (J, ReallocationError)>
         ensures ok { IfOk result (λ ticket. Schedules self.old ticket deadline job self.new) }
         ensures updates { IfOk result
@@ -153,12 +160,11 @@ impl<J: Drop, A: Allocator> Agenda<J, A> {
         Ok(Ticket { pointer })
     }
 
-    /// Gives the job of the ticket another deadline, in O(log n). The ticket stays valid. Returns whether the ticket names a job.
+    /// Gives the job of `ticket` another deadline and returns whether there is such a job, in O(log n). The ticket stays valid.
     ///
-    /// The job counts as newly scheduled: it goes behind all other jobs whose deadline is at most its own, also if its deadline is what
-    /// it was. [`move_to`](Self::move_to) does the same and issues a new ticket.
-    ///
-    /// No memory is taken. If the ticket names no job, nothing changes.
+    /// The job counts as newly scheduled: it goes behind all other jobs whose deadline is at most its own, also if its deadline doesn't
+    /// change. [`move_to`](Self::move_to) does the same and issues a new ticket. No memory is taken. If the ticket names no job, nothing
+    /// changes.
     pub fn reschedule(&mut self, ticket: Ticket, deadline: u64) -> bool
         ensures value { result ≡ is_some (job_of self.old.jobs ticket) }
         ensures moved { OnTrue result (MovesDeadline self.old ticket deadline self.new) }
@@ -174,10 +180,10 @@ impl<J: Drop, A: Allocator> Agenda<J, A> {
         self.jobs.rekey_pair(ticket.pointer, deadline).is_ok()
     }
 
-    /// Gives the job that the ticket names another deadline, and a new ticket, which is returned, in O(log n). It counts as newly
-    /// scheduled: it stands behind all jobs whose deadline is at most its own, also where its deadline is what it was.
+    /// Gives the job of `ticket` another deadline and a new ticket, and returns that, in O(log n). The old ticket ends.
     ///
-    /// It takes no memory. For a ticket that names no job it returns `None`, and nothing changes.
+    /// The job counts as newly scheduled, as by [`reschedule`](Self::reschedule). No memory is taken. If the ticket names no job, returns
+    /// `None` and nothing changes.
     pub fn move_to(&mut self, ticket: Ticket, deadline: u64) -> Option<Ticket>
         ensures value { is_some result ≡ is_some (job_of self.old.jobs ticket) }
         ensures moved { IfSome result (λ new. Reschedules self.old ticket new deadline self.new) }

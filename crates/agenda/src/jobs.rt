@@ -35,7 +35,7 @@ fn kind_behind<'k, J, A: Allocator>(
     }
 }
 
-/// Puts a job into the arena, which grows where it has no slot. A job that is refused comes back.
+/// Inserts a job. The arena grows if it has no vacant slot. On `Err` the job comes back.
 pub(crate) fn put<J: Drop, A: Allocator>(
     jobs: &mut Jobs<J, A>,
     deadline: u64,
@@ -70,7 +70,7 @@ pub(crate) fn put<J: Drop, A: Allocator>(
     }
 }
 
-/// Puts a job into the arena, which has a vacant slot.
+/// Inserts a job into an arena with a vacant slot.
 pub(crate) fn put_within<J: Drop, A: Allocator>(jobs: &mut Jobs<J, A>, deadline: u64, job: J) -> P0
     requires { length jobs.old.list.entries < jobs.old.list.capacity }
     ensures inserted { InsertsNew deadline_of nat_cmp most_jobs within

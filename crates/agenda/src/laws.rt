@@ -2,11 +2,11 @@
 
 ghost use Rattle.agenda.specs.Tickets.{EndedTicketLaw};
 
-/// A ticket that has ended names no job again, however many calls follow, unless the generations begin again.
+/// A ticket that has ended names no job again, however many calls follow, until the generations overflow.
 ///
-/// A ticket has ended if it names no job and its generation is below the agenda's. A ticket that names a job before a call and none after
-/// it has ended, if no ticket has a generation above the agenda's. That is so of a new agenda, and stays so under the same condition.
-/// Every call that changes an agenda has a clause `step`, by which the law applies to it.
+/// A ticket has ended if it names no job and its generation is below the agenda's. If no ticket has a generation above the agenda's, a
+/// ticket that names a job before a call and none after it has ended. That is so of a new agenda, and stays so until an overflow. Every
+/// call that changes an agenda has a clause `step`, to which the law applies.
 pub fn ended_ticket_law<J>()
     ensures { EndedTicketLaw J }
 {}

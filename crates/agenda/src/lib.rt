@@ -1,5 +1,5 @@
-//! An agenda: jobs that leave by deadline, and by the order of scheduling among equal ones. Each is named by a ticket, by which it
-//! can be cancelled, rescheduled or moved.
+//! An agenda: jobs that leave by deadline, equal deadlines in the order of scheduling. Each job has a ticket, which cancels,
+//! reschedules or moves it.
 #![tactic(auto)]
 
 mod agenda;

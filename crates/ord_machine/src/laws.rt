@@ -23,8 +23,8 @@ pub fn first_rank_law<
     ensures { FirstRankLaw P T P.Inx P.Gen A T.Key (calls_by (Asks P.numbers F.step) T.is_infallible) }
 {}
 
-/// A pointer names the same item through every insertion, replacement, move, removal and renewal of other entries, and through all that
-/// only asks or changes the capacity or the generation: only a call to its own entry, or to all entries, ends or renews it.
+/// A pointer names the same item through any commands to other entries: insertions, replacements, moves, removals and renewals of others,
+/// and everything that only reads or changes the capacity or the generation.
 pub fn kept_pointer_law<
     P: BasePtr,
     T: SimpleOrdItem + Clone,
@@ -34,8 +34,7 @@ pub fn kept_pointer_law<
     ensures { KeptPointerLaw P T P.Inx P.Gen A T.Key (calls_by (Asks P.numbers F.step) T.is_infallible) }
 {}
 
-/// An entry that is rekeyed keeps its pointer: directly afterwards, and after any commands to other entries, the pointer names the new
-/// item.
+/// A rekeyed entry keeps its pointer: directly afterwards, and after any commands to other entries, the pointer names the new item.
 pub fn rekeyed_pointer_law<
     P: BasePtr,
     T: SimpleOrdItem + Clone,
@@ -45,8 +44,8 @@ pub fn rekeyed_pointer_law<
     ensures { RekeyedPointerLaw P T P.Inx P.Gen A T.Key (calls_by (Asks P.numbers F.step) T.is_infallible) }
 {}
 
-/// A pointer that ceased to name an entry names none ever again, as long as no entry's generation is above the arena's at the
-/// beginning, the generations are counted, they are never set back, and they don't begin again after the greatest.
+/// A pointer that ceased to name an entry never names one again, if no entry's generation is above the arena's at the beginning and the
+/// generations are neither set back nor overflow.
 pub fn ended_pointer_law<
     P: BasePtr,
     T: SimpleOrdItem + Clone,
@@ -56,8 +55,8 @@ pub fn ended_pointer_law<
     ensures { EndedPointerLaw P T P.Inx P.Gen A T.Key (calls_by (Asks P.numbers F.step) T.is_infallible) }
 {}
 
-/// Keys are strictly ascending after any run from an arena without entries, as long as an entry's item is replaced only by an insertion,
-/// and each insertion is by the item's key, or of the kind `Normal` or `Linear` with a key that the item's is equal to.
+/// Keys are strictly ascending after any run from an arena without entries in which only insertions replace items, and each insertion is
+/// by the item's key, or of the kind `Normal` or `Linear` with a key that equals the item's.
 pub fn ascending_keys_law<
     P: BasePtr,
     T: SimpleOrdItem + Clone,
@@ -67,10 +66,10 @@ pub fn ascending_keys_law<
     ensures { AscendingKeysLaw P T P.Inx P.Gen A T.Key (calls_by (Asks P.numbers F.step) T.is_infallible) }
 {}
 
-/// Keys are in order after any run from an arena whose keys are in order, equal keys included, as long as no command is `Set`, and each
-/// insertion is by the item's key, or of a kind that goes by a key that the item's is equal to.
+/// Keys are in order, equal keys included, after any run from an arena in order in which no command is `Set`, and each insertion is by
+/// the item's key, or of a kind that goes by a key that equals the item's.
 ///
-/// `Rekey` leaves them in order, whatever the keys: its entry goes to the place of the new key.
+/// `Rekey` keeps them in order, whatever the keys: its entry goes to the place of the new key.
 pub fn ordered_keys_law<
     P: BasePtr,
     T: SimpleOrdItem + Clone,
@@ -80,12 +79,11 @@ pub fn ordered_keys_law<
     ensures { OrderedKeysLaw P T P.Inx P.Gen A T.Key (calls_by (Asks P.numbers F.step) T.is_infallible) }
 {}
 
-/// The ranks of old entries change at most 4m + 9d + 14k + 3n times in a run of m insertions of new entries, d removals and k entries that
-/// are rekeyed, if it begins with n entries and has no compression: the amortized bound of rank-balanced trees (Haeupler, Sen and Tarjan,
-/// 2015).
+/// The ranks of old entries change at most 4m + 9d + 14k + 3n times in a run without a compression that begins with n entries, inserts m,
+/// removes d and rekeys k: the amortized bound of rank-balanced trees (Haeupler, Sen and Tarjan, 2015).
 ///
-/// A run that begins without entries has n = 0, and a run after a rebuild begins with the entries that were rebuilt. An insertion that
-/// replaces an item changes no rank, and neither does a command that only asks.
+/// A run from an empty arena has n = 0, and a run after a rebuild begins with the entries that were rebuilt. An insertion that replaces
+/// an item changes no rank, and neither does a command that only reads.
 pub fn rank_changes_law<
     P: BasePtr,
     T: SimpleOrdItem + Clone,

@@ -13,12 +13,15 @@ use std::alloc::{AllocError, Allocator};
 use std::cmp::Ordering;
 use triple_ord::{SimpleOrdArena, SimpleOrdItem};
 
-/// Runs the commands in order, and answers one reply to each.
+/// Runs the commands in order and returns one reply for each.
 ///
-/// Memory for the replies is asked for first, on `alloc`: where that is refused, nothing has changed; no commands need none. What the
-/// replies hold stands on `alloc` too. A command that is refused, also memory, says so in its reply, changes nothing, and the others go
-/// on. A clone of an item has to equal it. `FindWith` and `SimilarWith` call the closure, and its state passes from one to the next; it
-/// may answer anything, differently each time, and has to be one that may be called at every pointer and item, again and again.
+/// A command that is refused, also for want of memory, says so in its reply and changes nothing; the others go on. `FindWith` and
+/// `SimilarWith` call the closure, whose state is passed on; it may answer anything, and has to be callable at every pointer and item,
+/// again and again. A clone of an item has to equal it. What the replies hold is allocated on `alloc` too.
+///
+/// # Errors
+///
+/// `AllocError`: memory for the list of replies is refused. Nothing has changed. It is never refused for no commands.
 pub fn run<
     P: BasePtr,
     T: SimpleOrdItem + Clone + Drop,

@@ -47,7 +47,7 @@ refusal_text AllocError = codes "memory"
 abbrev pub Adds : {A E : Type 0} → Result (Unit {0}) E → String A → String A → List ℕ → Type 0
 Adds result old new bytes = OnOk result (string_bytes new ≡ string_bytes old ++ bytes)
 
--- how the reply to a command is told
+-- the form of the reply to a command
 abbrev pub form_of : PairCommand → Form
 form_of (commands.Set p item) = Replaced
 form_of (commands.Rekey p item) = Replaced

@@ -1,4 +1,4 @@
-//! How the reply to a command is told.
+//! The form of the reply to a command.
 ghost use Rattle.std.specs.Prelude.{◌≡◌, IfOk, map};
 ghost use Rattle.ord_script.specs.Text.{form_of};
 
@@ -6,13 +6,13 @@ use crate::pairs::PairCommand;
 use ord_machine::Command;
 use std::alloc::{AllocError, Allocator};
 
-/// How a reply is told: like each of its kind, unless its command is named here.
+/// The form of a reply: that of its kind, unless its command is named here.
 #[derive(Clone, Copy, Debug)]
 pub enum Form {
     Plain,
     /// `Command::Set`, `Command::Rekey`: the item is the old one.
     Replaced,
-    /// `Command::RemoveInx`: the item's pointer is told too.
+    /// `Command::RemoveInx`: the item with its pointer.
     WithPointer,
     /// `Command::Clear`: no entry is left.
     Cleared,

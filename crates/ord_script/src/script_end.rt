@@ -17,16 +17,16 @@ pub enum ScriptEnd {
     Fault(usize, FaultKind),
     /// The input has more than 1,048,576 bytes. Nothing was written.
     TooLong,
-    /// There was no memory to read the input, or to build the answer. Nothing was written.
+    /// Memory for the input or for the answer was refused. Nothing was written.
     Memory,
-    /// The reader answered an error, before a byte beyond the limit came. Nothing was written.
+    /// A read failed before a byte beyond the limit came. Nothing was written.
     ReadFailed,
-    /// The writer answered an error, or took no byte. A beginning of the answer was written.
+    /// A write failed, or took no byte. A beginning of the answer was written.
     WriteFailed,
 }
 
 impl ScriptEnd {
-    /// The exit status of a program that ends so.
+    /// Returns the exit status for this end.
     pub fn status(&self) -> u8
         ensures { result ≡ status_of self.now }
     {
@@ -40,7 +40,7 @@ impl ScriptEnd {
         }
     }
 
-    /// The line that such a program writes to standard error, or the empty text.
+    /// Returns the line for standard error, or the empty text.
     pub fn message(&self) -> &'static str
         ensures { result.now ≡ message_of self.now }
     {
@@ -53,7 +53,7 @@ impl ScriptEnd {
         }
     }
 
-    /// Writes the message of this end to standard error, or to what stands for it, and returns the exit status.
+    /// Writes the message of this end to standard error, or to what stands in for it, and returns the exit status.
     ///
     /// If a write fails, the rest of the message is lost, and the status is the same.
     pub fn report<E: Write>(&self, errors: &mut Watched<E>) -> u8

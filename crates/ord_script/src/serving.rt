@@ -21,12 +21,12 @@ use std::cmp::Ordering;
 use std::io::{Read, Write};
 use triple_ord::SimpleOrdArena;
 
-/// Reads a whole script, runs its commands on an empty arena, and writes the answer: a line for each
-/// reply, and one for the first fault, if there is one.
+/// Reads a whole script, runs its commands on an empty arena, and writes the answer: a line for each reply, and one for the first fault, if
+/// there is one.
 ///
-/// All memory is taken from `alloc`. Nothing is written before the whole answer stands there, and
-/// no read or write that failed is tried again. The input may have 1,048,576 bytes; reading stops
-/// at the first one beyond.
+/// All memory comes from `alloc`. Nothing is written before the whole answer is made, and no read or write that failed is tried again.
+/// The input has at most 1,048,576 bytes, because script, replies and answer are held in memory at once; reading stops at the first byte
+/// beyond.
 pub fn serve<R: Read, W: Write, A: Allocator + Copy>(
     alloc: A,
     reader: &mut Watched<R>,

@@ -26,7 +26,7 @@ impl<D> Model for Watched<D> {
 }
 
 impl<D> Watched<D> {
-    /// Begins to watch a device. Nothing has failed yet, and nothing has ended.
+    /// Watches a device, from now on.
     pub fn new(device: D) -> Self
         ensures device { result.device ≡ device }
         ensures failed { result.failed ≡ false }
@@ -39,14 +39,14 @@ impl<D> Watched<D> {
         }
     }
 
-    /// Whether a read or a write has answered an error, or a write has taken none of some bytes.
+    /// Returns whether a read or a write has failed, or a write has taken none of some bytes.
     pub fn failed(&self) -> bool
         ensures { result ≡ self.now.failed }
     {
         self.failed
     }
 
-    /// Whether a read into a buffer with room has answered that no byte is left.
+    /// Returns whether a read into a buffer with room has found no byte left.
     pub fn ended(&self) -> bool
         ensures { result ≡ self.now.ended }
     {
@@ -95,7 +95,7 @@ impl<D: Write> Write for Watched<D> {
         result
     }
 
-    /// As the device does. It changes no mark.
+    /// Flushes the device. No mark changes.
     fn flush(&mut self) -> io::Result<()>
         ensures bytes { Keeps (D.contents self.old.device) (D.contents self.new.device) }
         ensures failed { self.new.failed ≡ self.old.failed }

@@ -15,12 +15,11 @@ use std::marker::Model;
 
 /// A price-time order book of limit orders.
 ///
-/// An order that comes in trades with the other side as far as its limit allows: the best price first, and at equal prices the oldest
-/// order first, at the price of the order that rests. What is left of it comes to rest on its own side, and is named. So no bid is ever
-/// at or above an ask.
+/// An incoming order trades with the other side as far as its limit allows: the best price first, at equal prices the oldest order first,
+/// at the price of the resting order. What is left of it rests on its own side under an id. No bid is ever at or above an ask.
 ///
-/// In contracts a book is two queues, bids and asks, each a list of orders in the order in which they trade. `count` tells what is true of
-/// every book. n is the number of orders on a side in what is said of time, and k that of the orders that are filled.
+/// In contracts a book is two queues, bids and asks, each a list of orders in the order in which they trade. [`count`](Self::count)
+/// promises what holds of every book. In the docs n is the number of orders on a side, and k that of the orders that are filled.
 #[derive(Drop)]
 pub struct OrderBook<A: Allocator = Global> {
     bids: OrderQueue<A>,
@@ -40,7 +39,7 @@ impl<A: Allocator> Model for OrderBook<A> {
 }
 
 impl<A: Allocator> OrderBook<A> {
-    /// A book without orders. It takes no memory until an order comes to rest.
+    /// Creates a book without orders. It takes no memory until an order rests.
     pub fn new(alloc: A) -> Self
     where
         A: Copy,
@@ -52,7 +51,7 @@ impl<A: Allocator> OrderBook<A> {
         }
     }
 
-    /// How many orders rest on a side.
+    /// Returns the number of orders on a side.
     pub fn count(&self, side: Side) -> usize
         ensures value { result ≡ length (queue self.now side).orders }
         ensures lawful { IsBook self.now }
@@ -64,14 +63,14 @@ impl<A: Allocator> OrderBook<A> {
         }
     }
 
-    /// The bid that trades first: that of the highest price, and of those the oldest. In O(1).
+    /// Returns the bid that trades first, the oldest at the highest price, in O(1).
     pub fn best_bid(&self) -> Option<Order>
         ensures { result ≡ first_of Buy self.now.bids.orders }
     {
         self.bids.first()
     }
 
-    /// The ask that trades first: that of the lowest price, and of those the oldest. In O(1).
+    /// Returns the ask that trades first, the oldest at the lowest price, in O(1).
     #[tactic(auto, using(crate::proofs::Apart::first_above))]
     pub fn best_ask(&self) -> Option<Order>
         ensures value { result ≡ first_of Sell self.now.asks.orders }
@@ -81,7 +80,7 @@ impl<A: Allocator> OrderBook<A> {
         self.asks.first()
     }
 
-    /// Price and quantity of a resting order, in O(1); `None` where the name names none.
+    /// Returns price and remaining quantity of a resting order, in O(1). `None` if `id` names no order.
     pub fn get(&self, id: OrderId) -> Option<(u64, u64)>
         ensures { result ≡ named self.now id }
     {
@@ -91,7 +90,7 @@ impl<A: Allocator> OrderBook<A> {
         }
     }
 
-    /// How much of an order would trade at once, in O(1) for each order that it would trade with. Nothing changes, and no memory is taken.
+    /// Returns how much of an order would trade at once, in O(1) for each order that it would trade with. Nothing changes.
     pub fn offered(&self, side: Side, price: u64, quantity: u64) -> u64
         ensures { result ≡ trades_for self.now side price quantity }
     {
@@ -101,9 +100,9 @@ impl<A: Allocator> OrderBook<A> {
         }
     }
 
-    /// Takes an order off the book, and returns its price and what was left of it, in O(log n).
+    /// Removes an order and returns its price and remaining quantity, in O(log n).
     ///
-    /// For a name that names none it returns `None`, and nothing changes.
+    /// If `id` names no order, returns `None` and nothing changes.
     pub fn cancel(&mut self, id: OrderId) -> Option<(u64, u64)>
         ensures value { result ≡ named self.old id }
         ensures updates { Updates self.old self.new id None }
@@ -118,13 +117,20 @@ impl<A: Allocator> OrderBook<A> {
         }
     }
 
-    /// Places an order: it trades as far as its limit `price` allows, and what is left of it comes to rest. Its trades are added to the
-    /// list, and the name of what rests is returned, `None` where nothing is left. It takes O((k + 1) log n), and O(n) if its side
-    /// grows.
+    /// Places an order: it trades as far as its limit `price` allows, and the rest of it rests. Appends its trades to the list and
+    /// returns the id of what rests, `None` if nothing does.
     ///
-    /// It fails with `NoQuantity` if the quantity is 0; with `BeyondMaxCapacity` if something would rest and its side has as many orders as
-    /// it can have, 4,294,967,294; and with `AllocError` if memory is refused to the list of trades, or to its side, which grows only if
-    /// something would rest and there is no room for it. Nothing changes then.
+    /// # Errors
+    ///
+    /// The book and the list are unchanged.
+    /// - `NoQuantity`: the quantity is 0.
+    /// - `BeyondMaxCapacity`: something would rest, and its side has 4,294,967,294 orders.
+    /// - `AllocError`: memory is refused to the list of trades, or to the order's side, which grows only if something would rest and it
+    ///   is full.
+    ///
+    /// # Complexity
+    ///
+    /// O((k + 1) log n); plus O(n) when its side grows (amortized O(1)).
     pub fn place<B: Allocator>(
         &mut self,
         side: Side,
@@ -170,11 +176,15 @@ impl<A: Allocator> OrderBook<A> {
         }
     }
 
-    /// Takes an order off the book and places it anew, on its side, with another price and quantity: it counts as new, also where its
-    /// price is what it was, and gets a new name. Time and trades are those of `place`.
+    /// Removes an order and places it anew on its side with another price and quantity. It counts as new, also at the same price, and
+    /// gets a new id. Returns what [`place`](Self::place) returns, at the same cost.
     ///
-    /// It is refused with `NoQuantity` for nothing, with `NoOrder` where the name names none, and with `AllocError` where memory is
-    /// refused to the list of trades. Nothing has changed then.
+    /// # Errors
+    ///
+    /// The book and the list are unchanged.
+    /// - `NoQuantity`: the quantity is 0.
+    /// - `NoOrder`: the id names no order.
+    /// - `AllocError`: memory is refused to the list of trades.
     pub fn replace<B: Allocator>(
         &mut self,
         id: OrderId,

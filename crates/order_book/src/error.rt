@@ -2,30 +2,30 @@
 
 use thiserror::Error;
 
-/// Why an order was not placed. Nothing has changed then.
+/// Why an order was not placed. The book is unchanged.
 #[derive(Debug, Clone, Copy, PartialEq, Eq, Drop, Error)]
 pub enum PlacingError {
     /// The order is for nothing: its quantity is 0.
     #[error("an order for nothing")]
     NoQuantity,
-    /// Something of it would come to rest, and there are as many orders on its side as there can be, 4,294,967,294.
+    /// Part of it would rest, and its side has 4,294,967,294 orders, as many as it can have.
     #[error("as many orders as there can be")]
     BeyondMaxCapacity,
-    /// The memory for the order or for its trades was refused.
+    /// There is no memory for the order or its trades.
     #[error("out of memory")]
     AllocError,
 }
 
-/// Why an order was not replaced. Nothing has changed then.
+/// Why an order was not replaced. The book is unchanged.
 #[derive(Debug, Clone, Copy, PartialEq, Eq, Drop, Error)]
 pub enum ReplacingError {
     /// The order is for nothing: its quantity is 0.
     #[error("an order for nothing")]
     NoQuantity,
-    /// There is no order of that name: it was filled or cancelled, or never was.
+    /// The id names no order: it was filled or cancelled, or never existed.
     #[error("no such order")]
     NoOrder,
-    /// The memory for the trades was refused.
+    /// There is no memory for the trades.
     #[error("out of memory")]
     AllocError,
 }

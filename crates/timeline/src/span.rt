@@ -1,12 +1,12 @@
-//! `Span`: a stretch of time over which a value holds.
+//! `Span`: a span of time with its value.
 
-/// A stretch of time over which one value holds: from one time until before another.
+/// A span of time over which one value holds.
 #[derive(Clone, Copy, PartialEq, Eq, Debug)]
 pub struct Span<V> {
-    /// The first time of it.
+    /// The first time of the span.
     pub from: u64,
-    /// The first time behind it.
+    /// The first time after it.
     pub until: u64,
-    /// The value at each time in between.
+    /// The value throughout.
     pub value: V,
 }

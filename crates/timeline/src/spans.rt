@@ -1,4 +1,4 @@
-//! `Spans`: the stretches of a timeline, one after another.
+//! `Spans`: the spans of a timeline, in order.
 
 ghost use Rattle.std.specs.Prelude.{◌≡◌};
 ghost use Rattle.std.specs.Iterator.{YieldsFirst, item_count};
@@ -9,12 +9,11 @@ use crate::timeline::Timeline;
 use std::alloc::{Allocator, Global};
 use std::marker::Model;
 
-/// Gives the stretches of a value from one time until another, in turn. It takes no memory; in contracts it is the list of those that are
-/// still to come.
+/// An iterator over the spans within a time. It takes no memory. In contracts it is the list of the spans that are left.
 #[derive(Drop)]
 pub struct Spans<'a, V: Copy, A: Allocator = Global> {
     timeline: &'a Timeline<V, A>,
-    // where the last stretch ended
+    // where the last span ended
     from: u64,
     until: u64,
 }
@@ -34,7 +33,7 @@ impl<'a, V: Copy, A: Allocator> Model for Spans<'a, V, A> {
 }
 
 impl<V: Copy, A: Allocator> Timeline<V, A> {
-    /// All stretches of a value from one time until another, in turn, each in O(log n) for n changes.
+    /// Returns an iterator over the spans from `from` until before `until`, in order. Each step is O(log n).
     pub fn spans(&self, from: u64, until: u64) -> Spans<'_, V, A>
         ensures { AreSpans self.now.changes from until result }
     {

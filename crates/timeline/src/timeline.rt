@@ -1,4 +1,4 @@
-//! `Timeline`: which value holds at which time.
+//! `Timeline`: the value that holds at each time.
 
 ghost use Rattle.std.specs.Prelude.{◌≡◌, ◌<◌, ◌+◌, ◌↔◌, [], Some, None, Err, OnOk, OnErr, IfSome, IfNone, length};
 ghost use Rattle.timeline.specs.Timeline.{most_changes, capacity_set, value_at, IsTimeline, IsSet, IsNextSpan, HasNone};
@@ -10,10 +10,12 @@ use std::alloc::{Allocator, Global};
 use std::marker::Model;
 use triple_ord::{ReallocationError, SimpleOrdArena};
 
-/// A function from times to values, in which a value holds over a stretch of time.
+/// A function from times to values, each of which holds over a span of time.
 ///
-/// A time is a number in whatever unit the program counts it. In contracts a timeline is the list of its changes, each a time at which
-/// another value begins to hold, or none, and its capacity: how many changes there is room for before it has to grow.
+/// A time is a number in whatever unit the program counts it. In contracts a timeline is the list of its changes, each a time from which on
+/// another value holds, or none, and its capacity.
+///
+/// Only `set` and `clear` take memory. In the docs n is the number of changes.
 #[derive(Drop)]
 pub struct Timeline<V: Copy, A: Allocator = Global> {
     changes: Changes<V, A>,
@@ -32,7 +34,7 @@ impl<V: Copy, A: Allocator> Model for Timeline<V, A> {
 }
 
 impl<V: Copy, A: Allocator> Timeline<V, A> {
-    /// A timeline without a value at any time. It takes no memory until a value is set.
+    /// Creates a timeline without values. It takes no memory until a value is set.
     pub fn new(alloc: A) -> Self
     where
         A: Copy,
@@ -44,14 +46,14 @@ impl<V: Copy, A: Allocator> Timeline<V, A> {
         }
     }
 
-    /// How many changes there is room for before the timeline has to grow. A setting needs room for two more.
+    /// Returns how many changes the timeline holds without growing. A setting needs room for two more.
     pub fn capacity(&self) -> usize
         ensures { result ≡ self.now.capacity }
     {
         self.changes.capacity()
     }
 
-    /// At how many times the value changes.
+    /// Returns the number of changes.
     pub fn len(&self) -> usize
         ensures value { result ≡ length self.now.changes }
         ensures lawful { IsTimeline self.now }
@@ -59,15 +61,16 @@ impl<V: Copy, A: Allocator> Timeline<V, A> {
         self.changes.len()
     }
 
-    /// The value that holds at a time, if there is one, in O(log n) for n changes.
+    /// Returns the value at a time, in O(log n). `None` if no value holds.
     pub fn get(&self, time: u64) -> Option<V>
         ensures { result ≡ value_at self.now.changes time }
     {
         held_at(&self.changes, time)
     }
 
-    /// The first stretch of a value from one time until another, in O(log n). It ends where another value begins, or none, at the latest
-    /// at `until`. `None` where no value holds in that time. Asked again from the end of each stretch on, it gives all of them in turn.
+    /// Returns the first span of a value within the time from `from` until before `until`, in O(log n). `None` if no value holds there.
+    ///
+    /// The span ends where another value or none begins, at the latest at `until`. Called again from its end on, it returns the next one.
     pub fn next_span(&self, from: u64, until: u64) -> Option<Span<V>>
         ensures span { IfSome result (λ span. IsNextSpan self.now.changes from until span) }
         ensures none { IfNone result (HasNone self.now.changes from until) }
@@ -87,14 +90,20 @@ impl<V: Copy, A: Allocator> Timeline<V, A> {
 }
 
 impl<V: TimelineValue, A: Allocator> Timeline<V, A> {
-    /// Makes the value hold from one time until before another; at all other times the value is what it was. Where `until` isn't
-    /// later than `from`, nothing changes.
+    /// Makes `value` hold from `from` until before `until`. At all other times the value stays.
     ///
-    /// It takes O((k + 1) log n) time for n changes, k of them from `from` until `until`, and O(n) if the timeline has to grow. Room for
-    /// two more changes is made first; the capacity then at least doubles, up to the limit.
+    /// If `until` isn't later than `from`, nothing changes.
     ///
-    /// It fails with `BeyondMaxCapacity` if two more changes would be more than 4,294,967,294, and with `AllocError` if there is no room for
-    /// two more and memory is refused. Nothing changes then.
+    /// # Errors
+    ///
+    /// The timeline is unchanged.
+    /// - `BeyondMaxCapacity`: two more changes would be more than 4,294,967,294.
+    /// - `AllocError`: there is no room for two more changes, and growing failed.
+    ///
+    /// # Complexity
+    ///
+    /// O((k + 1) log n) for k changes within that time; plus O(n) when the timeline grows. It makes room for two more changes first; its
+    /// capacity then at least doubles, up to the limit.
     pub fn set(&mut self, from: u64, until: u64, value: V) -> Result<(), ReallocationError>
         ensures set { OnOk result (IsSet self.old.changes from until (Some value) self.new.changes) }
         ensures full { (result ≡ Err ReallocationError.BeyondMaxCapacity)
@@ -108,8 +117,11 @@ impl<V: TimelineValue, A: Allocator> Timeline<V, A> {
         self.put(from, until, Some(value))
     }
 
-    /// Ends all values from one time until before another; at all other times the value is what it was. Cost and refusals are those of
-    /// `set`.
+    /// Removes all values from `from` until before `until`. At all other times the value stays.
+    ///
+    /// # Errors
+    ///
+    /// Those of [`set`](Self::set), at the same cost.
     pub fn clear(&mut self, from: u64, until: u64) -> Result<(), ReallocationError>
         ensures set { OnOk result (IsSet self.old.changes from until None self.new.changes) }
         ensures full { (result ≡ Err ReallocationError.BeyondMaxCapacity)

@@ -61,7 +61,7 @@ fn is_changed(replies: &[Answer], place: usize, overflow: InvalidationOption<()>
     matches!(replies.get(place), Some(Reply::Changed(told)) if *told == overflow)
 }
 
-/// How a refused insertion at this place is told.
+/// The refusal of the reply at this place.
 fn refusal_at(replies: &[Answer], place: usize) -> Option<OrdInsertionError> {
     match replies.get(place)? {
         Reply::Refused(refusal) => Some(*refusal),
@@ -141,7 +141,7 @@ fn an_entry_goes_by_its_own_key(rt: HostRuntime) {
     assert!(rt; is_listed(&replies, 6, LISTED));
 }
 
-/// How a raised generation is told, and one that begins again.
+/// A raised generation, and one that overflows.
 const RAISED: InvalidationOption<()> = InvalidationOption::Success(());
 
 const BEGUN_AGAIN: InvalidationOption<()> = InvalidationOption::GenerationOverflow(());

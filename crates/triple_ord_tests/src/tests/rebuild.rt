@@ -75,7 +75,7 @@ fn compressed(a: &mut SmallKeys, is_canonical: bool, reset: bool) -> Invalidatio
     }
 }
 
-/// The generations begin again, which is told where they weren't to be reset.
+/// The generations overflow, which is reported unless they were to be reset.
 #[test]
 fn compressions_overflow(rt: HostRuntime) {
     let mut a = shrunk(rt.alloc(), 1);
