@@ -1,4 +1,4 @@
-//! Tests of the collections that are built on the ordered arena, `sorted_arena`, `agenda`, `timeline` and `order_book`, as a program that
+//! Tests of the collections that are built on the ordered arena, `agenda`, `timeline` and `order_book`, as a program that
 //! depends on them sees them: worked examples, every sequence of a few orders, refused memory, and what else no clause can say.
 #![tactic(auto)]
 
@@ -6,8 +6,6 @@
 mod agendas;
 #[cfg(test)]
 mod order_books;
-#[cfg(test)]
-mod sorted;
 #[cfg(test)]
 mod texts;
 #[cfg(test)]

@@ -1,12 +1,13 @@
 -- What insertions and removals make of a sorted arena.
-use Rattle.std.proofs.Common.{◌≡◌, ℕ, ◌+◌, ◌++◌, length, Option, Some, None, Result, Ok, Err, IfSome, OnOk, OnErr, IfOk, subst, refl, sym, ap, ◌∙◌, inr, arith}
+use Rattle.std.proofs.Common.{◌≡◌, ℕ, ◌+◌, ◌<◌, max, ◌++◌, length, Option, Some, None, Result, Ok, Err, IfSome, OnOk, OnErr, IfOk, subst, refl, sym, ap, ◌∙◌, inr, arith}
 use Rattle.std.proofs.lemmas.{List.Elements.All-from_recursion}
 use Rattle.std.specs.Cmp.{IsTotalOrder}
 use Rattle.std.specs.{Ordering.ordering_reverse, Option.option_map}
 use Rattle.std.specs.declared.cmp.Ordering.{Ordering, TheVariants.Less, TheVariants.Equal, TheVariants.Greater}
 use Rattle.arena_base.specs.Arena.{limit_of}
-use Rattle.chain_base.specs.Chain.{Entry, Chain, IsSound as IsSoundChain, chain_limit, removed}
+use Rattle.chain_base.specs.Chain.{Entry, Chain, IsSound as IsSoundChain, chain_limit, removed, with_capacity, greatest_index}
 use Rattle.chain_base.proofs.CallerLemmas.{after-insertion}
+use Rattle.chain_base.proofs.Room.{greatest-within}
 use Rattle.ord_tree.specs.Tree.{Tree}
 use Rattle.triple_ord.specs.Arena.{item_of as item_of_arena, count as count_arena, Updates as UpdatesArena}
 use Rattle.triple_ord.specs.Insertion.{reallocating, with_room_by, InsertsNew}
@@ -43,6 +44,12 @@ module _ {K V : Type 0} (cmp : K → K → Ordering) (most : ℕ) (greatest : Op
     sorted = rw after (sorted-without cmp i old.list.entries holds.sorted);
     unlimited = rw after holds.unlimited;
   }
+
+  -- a greater capacity than the present one is made as asked for
+  pub room-made : {E : Type 0} (old new : Tree (K × V)) → IsSoundChain most greatest old.list → (n wanted : ℕ) → old.list.capacity < n → n ≡ wanted → (r : Result (Unit {0}) E)
+      → OnOk r (new ≡ record old { list = with_capacity old.list (max n (greatest_index old.list.entries)) }) → OnOk r (new.list.capacity ≡ wanted)
+  room-made old new sound n wanted more is (Ok u) ok = omega (arith, ap (λ (a : Tree (K × V)). a.list.capacity) ok, greatest-within most greatest old.list sound, is, more)
+  room-made old new sound n wanted more is (Err e) ok = tt
 
   -- an arena that took a new entry wasn't full
   pub not_full : (old new : Tree (K × V)) (k : K) (item : K × V) (p : ℕ × ℕ) → InsertsNew item_key cmp most reallocating (behind_key k) old item p new → IsSoundChain most greatest new.list

@@ -1,5 +1,5 @@
 -- Lists of entries that are cut at a place: what the words of a sorted arena say there.
-use Rattle.std.proofs.Common.{◌≡◌, ◌≢◌, ℕ, ◌==◌, true, false, Bool, List, [], ◌∷◌, ◌++◌, map, length, length-append, append_assoc, Option, Some, None, IsSome, IfSome, IfNone, IsSomeAnd, OnSome, is_some, refl, sym, ap, subst, ◌∙◌, arith, inl, inr, if◌then◌else◌}
+use Rattle.std.proofs.Common.{◌≡◌, ◌≢◌, ℕ, ◌==◌, true, false, Bool, List, [], ◌∷◌, ◌++◌, map, length, length-append, append_assoc, Option, Some, None, Result, Ok, Err, OnOk, IsSome, IfSome, IfNone, IsSomeAnd, OnSome, is_some, refl, sym, ap, subst, ◌∙◌, arith, inl, inr, if◌then◌else◌}
 use Rattle.std.proofs.{lemmas.Grind.common_steps, lemmas.List.Elements.All-from_recursion, lemmas.List.Elements.recursion_from_All}
 use Rattle.std.proofs.lemmas.Bool.Decides.{eqb_tells}
 use Rattle.std.specs.{List.AllByRecursion, List.All, Option.option_map, Ordering.is_eq, Ordering.is_le, Ordering.is_lt, Ordering.is_gt, Ordering.ordering_reverse, Ordering.ordering_then, Cmp.IsTotalOrder}
@@ -30,7 +30,7 @@ absent b (Some x) tells is = absurd (cc)
 pub there : {X : Type 0} (b : Bool) (o : Option X) → b ≡ is_some o → b ≡ true → is_some o ≡ true
 there b o tells is = sym tells ∙ is
 
-some-same : {X : Type 0} {x y : X} → Some x ≡ Some y → x ≡ y
+pub some-same : {X : Type 0} {x y : X} → Some x ≡ Some y → x ≡ y
 some-same is = cc
 
 pub not_le : (o : Ordering) → is_le o ≡ false → o ≡ Greater
@@ -43,7 +43,7 @@ gt_is Greater is = refl
 gt_is Less is = absurd (cc)
 gt_is Equal is = absurd (cc)
 
-not_less : (o : Ordering) → o ≢ Less → is_lt o ≡ false
+pub not_less : (o : Ordering) → o ≢ Less → is_lt o ≡ false
 not_less Less most = absurd (most refl)
 not_less Equal most = refl
 not_less Greater most = refl
@@ -74,6 +74,11 @@ lt_not o is less = absurd (let both : is_lt o ≡ true = ap is_lt less in cc)
 pub le_not : (o : Ordering) → is_le o ≡ true → o ≢ Greater
 le_not o is greater = absurd (let both : is_le o ≡ false = ap is_le greater in cc)
 
+pub eq_is : (o : Ordering) → is_eq o ≡ true → o ≡ Equal
+eq_is Equal is = refl
+eq_is Less is = absurd (cc)
+eq_is Greater is = absurd (cc)
+
 not_eq : (o : Ordering) → is_eq o ≡ false → o ≢ Equal
 not_eq o is equal = absurd (let both : is_eq o ≡ true = ap is_eq equal in cc)
 
@@ -84,6 +89,10 @@ owed-some (Some x) some holds = holds
 pub owed-none : {X P : Type 0} (o : Option X) → is_some o ≡ false → IfNone o P → P
 owed-none None none holds = holds
 owed-none (Some x) none holds = absurd (cc)
+
+pub OnOk-followed : {U E P Q : Type 0} (r : Result U E) → (P → Q) → OnOk r P → OnOk r Q
+OnOk-followed (Ok u) follows holds = follows holds
+OnOk-followed (Err e) follows holds = tt
 
 pub OnSome-followed : {X : Type 0} {P Q : Type 0} (o : Option X) → (P → Q) → OnSome o P → OnSome o Q
 OnSome-followed None follows holds = tt
@@ -210,6 +219,14 @@ module _ {K V : Type 0} where
   last-absent numbers None es is = last-none es (sym is)
   last-absent numbers (Some p) es is = tt
 
+  -- a list is cut at the entry of a pointer
+  pub record CutAt (es : List (Entry (K × V))) (p : ℕ × ℕ) : Type 0 where
+    pub front : List (Entry (K × V))
+    pub entry : Entry (K × V)
+    pub back : List (Entry (K × V))
+    pub cut : es ≡ front ++ entry ∷ back
+    pub named : pointer_of entry ≡ p
+
   -- an entry of a list in which each index stands once
   module _ (es : List (Entry (K × V))) (distinct : IsDistinct es) where
     module _ (front : List (Entry (K × V))) (e : Entry (K × V)) (back : List (Entry (K × V))) (cut : es ≡ front ++ e ∷ back) where
@@ -224,6 +241,9 @@ module _ {K V : Type 0} where
 
       pub found-here : item_of es (pointer_of e) ≡ Some e.item
       found-here = rw (entry_at-here es distinct front e back cut) (grind (arith, common_steps))
+
+      pub without-here : without e.index es ≡ front ++ back
+      without-here = ap (without e.index) cut ∙ without-behind front e back (not_before es distinct front e back cut)
 
     -- the pointers of the neighbours
     among-first : (front : List (Entry (K × V))) (e : Entry (K × V)) (back : List (Entry (K × V))) → es ≡ front ++ e ∷ back
@@ -267,6 +287,10 @@ module _ {K V : Type 0} where
             let linked = link-read es distinct s.front s.entry s.back s.cut g l (ap (link_at es) s.here ∙ sym link) in
             ap (pointer_among es) (sym linked.prev) ∙ among-last s.front (s.entry ∷ s.back) s.cut (last_of None s.front) refl
             ∙ sym (ap (prev_of es) (sym (named s.front s.entry s.back s.cut s.here)) ∙ prev-here s.front s.entry s.back s.cut)
+
+      -- the list is cut there
+      pub cut-at : CutAt es p
+      cut-at = let s = stands es p.0 occupied in record { front = s.front; entry = s.entry; back = s.back; cut = s.cut; named = named s.front s.entry s.back s.cut s.here }
 
       pub unlinked : None ≡ link_at es p.0 → ⊥
       unlinked missing =

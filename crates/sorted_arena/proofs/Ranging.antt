@@ -5,7 +5,7 @@ use Rattle.std.specs.Iterator.{YieldsFirstBy, YieldsLastBy}
 use Rattle.sorted_arena.specs.Range.{GivesInOrder, GivesInReverse}
 use Rattle.std.proofs.Common.{◌≡◌, ◌≢◌, ◌≤◌, length, arith, Less, Equal, Greater, ℕ, ◌&&◌, not, true, false, Bool, filter, count_by, List, [], ◌∷◌, ◌++◌, Option, Some, None, IfSome, refl, sym, ap, ◌∙◌, if◌then◌else◌}
 use Rattle.std.proofs.lemmas.List.Elements.{recursion_from_All}
-use Rattle.std.specs.{List.AllByRecursion, Option.option_map, Option.option_and_then, Ordering.is_eq, Ordering.is_le, Ordering.is_lt, Ordering.ordering_reverse, Cmp.IsTotalOrder}
+use Rattle.std.specs.{List.AllByRecursion, Option.option_map, Option.option_and_then, Ordering.is_eq, Ordering.is_le, Ordering.is_lt, Cmp.IsTotalOrder}
 use Rattle.std.specs.declared.cmp.Ordering.{Ordering, TheVariants.Greater}
 use Rattle.std.specs.declared.ops.Bound.{Bound, TheVariants.Included, TheVariants.Excluded, TheVariants.Unbounded}
 use Rattle.std.specs.BTreeMap.Range.{is_from_start, is_past_end}
@@ -14,7 +14,7 @@ use Rattle.triple_ord.specs.Gap.{first_of}
 use Rattle.triple_ord.proofs.CallerLemmas.{in_order-one, in_order-more, all_greater, all_less, recursion-map}
 use Rattle.sorted_arena.specs.Layout.{item_key}
 use Rattle.sorted_arena.specs.{Range.entries_between, Stretch.stretch, Stretch.IsStretch, Stretch.is_forward}
-use Rattle.sorted_arena.specs.Sorted.{key_of, pointer_of, first_where, entries_until, AreSorted}
+use Rattle.sorted_arena.specs.Sorted.{key_of, pointer_of, first_where, AreSorted}
 use Rattle.sorted_arena.proofs.Cutting.{found-here, lt_is, not_le}
 use Rattle.sorted_arena.proofs.Stretching.{stretch-middle}
 
@@ -66,7 +66,7 @@ module _ {K V : Type 0} where
     first_passing (e ∷ es) = if test e then Some e else first_passing es
 
     -- if an entry passes, all later ones do
-    abbrev Stays : List (Entry (K × V)) → Type 0
+    abbrev pub Stays : List (Entry (K × V)) → Type 0
     Stays [] = Unit {0}
     Stays (e ∷ es) = (test e ≡ true → AllByRecursion (λ f. test f ≡ true) es) × Stays es
 
@@ -97,23 +97,23 @@ module _ {K V : Type 0} where
 
   -- two tests: whether an entry is not before a start, and whether it is past an end
   module _ (s t : Entry (K × V) → Bool) where
-    abbrev inside : List (Entry (K × V)) → List (Entry (K × V))
+    abbrev pub inside : List (Entry (K × V)) → List (Entry (K × V))
     inside es = filter (λ e. s e && not (t e)) es
 
-    inside-in : (e : Entry (K × V)) (es : List (Entry (K × V))) → s e ≡ true → t e ≡ false → inside (e ∷ es) ≡ e ∷ inside es
+    pub inside-in : (e : Entry (K × V)) (es : List (Entry (K × V))) → s e ≡ true → t e ≡ false → inside (e ∷ es) ≡ e ∷ inside es
     inside-in e es begun passed = rw (begun, passed) refl
 
     inside-before : (e : Entry (K × V)) (es : List (Entry (K × V))) → s e ≡ false → inside (e ∷ es) ≡ inside es
     inside-before e es begun = rw begun refl
 
-    inside-past : (e : Entry (K × V)) (es : List (Entry (K × V))) → t e ≡ true → inside (e ∷ es) ≡ inside es
+    pub inside-past : (e : Entry (K × V)) (es : List (Entry (K × V))) → t e ≡ true → inside (e ∷ es) ≡ inside es
     inside-past e es passed = go (s e) refl
       where
         go : (b : Bool) → s e ≡ b → inside (e ∷ es) ≡ inside es
         go true begun = rw (begun, passed) refl
         go false begun = rw begun refl
 
-    none-inside : (es : List (Entry (K × V))) → AllByRecursion (λ e. t e ≡ true) es → inside es ≡ []
+    pub none-inside : (es : List (Entry (K × V))) → AllByRecursion (λ e. t e ≡ true) es → inside es ≡ []
     none-inside [] all = refl
     none-inside (e ∷ es) all = inside-past e es all.0 ∙ none-inside es all.1
 
@@ -208,42 +208,15 @@ module _ {K V : Type 0} where
       stays test carries es sorted.1,
     )
 
-    from-stays : (from : Bound K) (es : List (Entry (K × V))) → AreSorted cmp es → Stays (λ e. is_from_start cmp from (key_of e)) es
+    pub from-stays : (from : Bound K) (es : List (Entry (K × V))) → AreSorted cmp es → Stays (λ e. is_from_start cmp from (key_of e)) es
     from-stays (Included a) es sorted = stays (λ k. is_le (cmp a k)) (le-stays a) es sorted
     from-stays (Excluded a) es sorted = stays (λ k. is_lt (cmp a k)) (lt-stays a) es sorted
     from-stays Unbounded es sorted = stays (λ k. true) (λ e f most holds. refl) es sorted
 
-    past-stays : (until : Bound K) (es : List (Entry (K × V))) → AreSorted cmp es → Stays (λ e. is_past_end cmp until (key_of e)) es
+    pub past-stays : (until : Bound K) (es : List (Entry (K × V))) → AreSorted cmp es → Stays (λ e. is_past_end cmp until (key_of e)) es
     past-stays (Included b) es sorted = stays (λ k. is_lt (cmp b k)) (lt-stays b) es sorted
     past-stays (Excluded b) es sorted = stays (λ k. is_le (cmp b k)) (le-stays b) es sorted
     past-stays Unbounded es sorted = stays (λ k. false) (λ e f most holds. holds) es sorted
-
-    -- up to a key in a sorted list are the entries before the first greater one
-    pub until-between : (k : K) (es : List (Entry (K × V))) → AreSorted cmp es → entries_between cmp Unbounded (Included k) es ≡ entries_until cmp k es
-    until-between k es sorted = go es (past-stays (Included k) es sorted)
-      where
-        turned : (o : Ordering) → is_le (ordering_reverse o) ≡ not (is_lt o)
-        turned Less = refl
-        turned Equal = refl
-        turned Greater = refl
-
-        at_most : (e : Entry (K × V)) → is_le (cmp (key_of e) k) ≡ not (is_lt (cmp k (key_of e)))
-        at_most e = ap is_le (total.antisymm (key_of e) k) ∙ turned (cmp k (key_of e))
-
-        go : (es : List (Entry (K × V))) → Stays (λ e. is_lt (cmp k (key_of e))) es → inside (λ e. true) (λ e. is_lt (cmp k (key_of e))) es ≡ entries_until cmp k es
-        go [] stays = refl
-        go (e ∷ es) stays = by (is_lt (cmp k (key_of e))) refl (go es stays.1)
-          where
-            by : (b : Bool) → is_lt (cmp k (key_of e)) ≡ b → inside (λ e. true) (λ e. is_lt (cmp k (key_of e))) es ≡ entries_until cmp k es
-                → inside (λ e. true) (λ e. is_lt (cmp k (key_of e))) (e ∷ es) ≡ entries_until cmp k (e ∷ es)
-            by true is rest =
-                let none : is_le (cmp (key_of e) k) ≡ false = at_most e ∙ ap not is in
-                let empty : entries_until cmp k (e ∷ es) ≡ [] = rw none refl in
-                inside-past (λ e. true) (λ e. is_lt (cmp k (key_of e))) e es is ∙ none-inside (λ e. true) (λ e. is_lt (cmp k (key_of e))) es (stays.0 is) ∙ sym empty
-            by false is rest =
-                let some : is_le (cmp (key_of e) k) ≡ true = at_most e ∙ ap not is in
-                let more : entries_until cmp k (e ∷ es) ≡ e ∷ entries_until cmp k es = rw some refl in
-                inside-in (λ e. true) (λ e. is_lt (cmp k (key_of e))) e es refl is ∙ ap (λ xs. e ∷ xs) rest ∙ sym more
 
     module _ (es : List (Entry (K × V))) (distinct : IsDistinct es) (sorted : AreSorted cmp es) (from until : Bound K) where
       abbrev begun : Entry (K × V) → Bool

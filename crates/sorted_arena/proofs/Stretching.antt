@@ -22,7 +22,7 @@ module _ {T : Type 0} where
   before-cut (f ∷ middle) e back none = grind (arith, common_steps, before-cut middle e back)
 
   -- between two cuts of a list stands what a stretch has
-  between-cuts : (es : List (Entry T)) → IsDistinct es → (front middle back : List (Entry T)) → es ≡ front ++ (middle ++ back)
+  pub between-cuts : (es : List (Entry T)) → IsDistinct es → (front middle back : List (Entry T)) → es ≡ front ++ (middle ++ back)
       → stretch es (first_index (middle ++ back)) (first_index back) ≡ middle
   between-cuts es distinct front [] [] cut = refl
   between-cuts es distinct front [] (f ∷ back) cut = ap (before_index f.index) (from_index-here es distinct front f back cut) ∙ before-cut [] f back refl

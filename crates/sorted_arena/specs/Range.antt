@@ -1,5 +1,5 @@
 -- The entries whose keys are in a range, and what iterators over entries give.
-use Rattle.std.specs.Prelude.{ℕ, List, filter}
+use Rattle.std.specs.Prelude.{ℕ, List, filter, not}
 use Rattle.std.specs.Borrow.{Bor}
 use Rattle.std.specs.Iterator.{YieldsFirstBy, YieldsLastBy, Runs.EveryRun, Runs.ItemsMapTo, Runs.ItemsMapToReversed}
 use Rattle.std.specs.declared.{cmp.Ordering.Ordering, ops.Bound.Bound}
@@ -10,6 +10,10 @@ use Rattle.sorted_arena.specs.Sorted.{key_of}
 -- the entries whose keys are between two bounds, in order
 abbrev pub entries_between : {K V : Type 0} → (K → K → Ordering) → Bound K → Bound K → List (Entry (K × V)) → List (Entry (K × V))
 entries_between cmp from until es = filter (λ e. range_contains cmp from until (key_of e)) es
+
+-- the entries whose keys are not in the range, in order
+abbrev pub entries_outside : {K V : Type 0} → (K → K → Ordering) → Bound K → Bound K → List (Entry (K × V)) → List (Entry (K × V))
+entries_outside cmp from until es = filter (λ e. not (range_contains cmp from until (key_of e))) es
 
 -- an entry as an iterator gives it: its pointer, and references to its key and its value
 abbrev pub shown_entry : {P K V : Type 0} → (P → ℕ × ℕ) → P × Bor K × Bor V → Entry (K × V)

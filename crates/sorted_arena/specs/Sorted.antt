@@ -1,6 +1,6 @@
 -- What a sorted arena is: one list of entries in the order of their keys, each with its pointer, its key and its value.
-use Rattle.std.specs.Prelude.{◌≡◌, ◌≢◌, ℕ, ◌≤◌, ◌*◌, min, max, Bool, ◌==◌, ◌&&◌, nat_lt, if◌then◌else◌, List, [], ◌∷◌, ◌++◌, map, length}
-use Rattle.std.specs.Prelude.{Option, Some, None, IsSomeAnd}
+use Rattle.std.specs.Prelude.{◌≡◌, ◌≢◌, ℕ, zero, suc, ◌+◌, ◌-◌, ◌*◌, ◌^◌, ◌<◌, ◌≤◌, min, max, Bool, ◌==◌, ◌&&◌, nat_lt, if◌then◌else◌, List, [], ◌∷◌, ◌++◌, map, length}
+use Rattle.std.specs.Prelude.{Option, Some, None, IsSome, IsSomeAnd}
 use Rattle.std.specs.{List.All, Ordering.is_le, Ordering.is_eq, Option.option_map, declared.cmp.Ordering.Ordering}
 use Rattle.std.specs.declared.cmp.Ordering.TheVariants.{Less, Equal, Greater}
 use Rattle.arena_base.specs.Generation.{next_generation}
@@ -13,6 +13,24 @@ pub record Sorted (K V : Type 0) : Type 0 where
   pub entries : List (Entry (K × V))
   pub generation : ℕ
   pub capacity : ℕ
+
+-- the generation after so many removals
+abbrev pub generation_after : Option ℕ → ℕ → ℕ → ℕ
+generation_after greatest zero g = g
+generation_after greatest (suc n) g = next_generation greatest (generation_after greatest n g)
+
+-- the capacity after an insertion that grows the arena: twice as much, but at least 4 and at most `most`
+abbrev pub grown_capacity : ℕ → ℕ → ℕ
+grown_capacity most capacity = min most (max 4 (2 * capacity))
+
+-- the capacity after room for so many entries was made: if it is too small, it grows at least as for an insertion
+abbrev pub capacity_for : ℕ → ℕ → ℕ → ℕ
+capacity_for most capacity needed = if nat_lt capacity needed then max needed (grown_capacity most capacity) else capacity
+
+-- A search among n entries visits c of them with 2 ^ (c + 1) ≤ (n + 1) ^ 2, and none if there are none.
+pub record IsWithinRankedBound (n c : ℕ) : Type 0 where
+  pub few : 0 < n → 2 ^ (c + 1) ≤ (n + 1) ^ 2
+  pub none : n ≡ 0 → c ≡ 0
 
 module _ {K V : Type 0} where
   -- the key of an entry, its value, both, and its pointer
@@ -83,6 +101,10 @@ module _ {K V : Type 0} where
   abbrev pub with_left : Option ℕ → Sorted K V → List (Entry (K × V)) → Sorted K V
   with_left greatest a entries = record a { entries = entries; generation = next_generation greatest a.generation }
 
+  -- the arena with these of its entries left: each removal gave it the next generation
+  abbrev pub with_rest : Option ℕ → Sorted K V → List (Entry (K × V)) → Sorted K V
+  with_rest greatest a entries = record a { entries = entries; generation = generation_after greatest (count a - length entries) a.generation }
+
   -- the arena without the entry of a pointer that names one
   abbrev pub without : Option ℕ → Sorted K V → ℕ × ℕ → Sorted K V
   without greatest a p = with_left greatest a (without_index p.0 a.entries)
@@ -96,6 +118,10 @@ module _ {K V : Type 0} where
   pub record Updates (old new : Sorted K V) (p : ℕ × ℕ) (now : Option (K × V)) : Type 0 where
     pub changed : pair_of new p ≡ now
     pub others : (q : ℕ × ℕ) → q ≢ p → pair_of new q ≡ pair_of old q
+
+  -- every pointer that names an entry in old names the same in new
+  abbrev pub Keeps : Sorted K V → Sorted K V → Type 0
+  Keeps old new = (q : ℕ × ℕ) → IsSome (pair_of old q) → pair_of new q ≡ pair_of old q
 
   module _ (cmp : K → K → Ordering) where
     -- no entry's key is greater than that of a later entry
@@ -141,7 +167,7 @@ module _ {K V : Type 0} where
       pub unused : pair_of old p ≡ None
       pub of_generation : p.1 ≡ old.generation
       pub generation : new.generation ≡ old.generation
-      pub capacity : new.capacity ≡ (if nat_lt (count old) old.capacity then old.capacity else min most (max 4 (2 * old.capacity)))
+      pub capacity : new.capacity ≡ (if nat_lt (count old) old.capacity then old.capacity else grown_capacity most old.capacity)
 
     -- If no entry has an equal key, a new one is inserted. Otherwise the first that has one gets the value, and keeps its key and pointer.
     abbrev pub InsertsOrReplaces : ℕ → Sorted K V → ℕ × ℕ → K → V → Option V → Sorted K V → Type 0

@@ -4,21 +4,28 @@ ghost use Rattle.std.specs.Prelude.{◌≡◌, ◌==◌, ◌↔◌, ◌+◌, ◌
 ghost use Rattle.arena_base.specs.Generation.{first_generation, next_generation};
 ghost use Rattle.chain_base.specs.Chain.{greatest_index};
 ghost use Rattle.sorted_arena.specs.Layout.{sorted_of, IsSortedArena};
-ghost use Rattle.sorted_arena.specs.Sorted.{IsSound, count, pair_of, item_of, with_left};
+ghost use Rattle.sorted_arena.specs.Sorted.{IsSound, count, pair_of, item_of, with_left, capacity_for};
 
 mod access;
+mod append;
+mod clone;
+mod compare;
+mod counted;
 mod debug;
+mod drain;
 mod extend;
 mod find;
 mod insert;
 mod neighbours;
 mod rekey;
 mod remove;
+mod retain;
+mod split;
 
 use crate::pairs::Pairs;
 use std::alloc::{Allocator, Global};
 use std::marker::Model;
-use triple_ord::{BasePtr, P0, ReallocationError, SimpleOrdArena};
+use triple_ord::{BasePtr, BasePtrInx, P0, ReallocationError, SimpleOrdArena};
 
 /// Values by their keys, in the order of the keys. Equal keys keep the order of their insertion.
 ///
@@ -89,7 +96,9 @@ impl<K: Ord, V, P: BasePtr, A: Allocator> SortedArena<K, V, P, A> {
         self.pairs.is_empty()
     }
 
-    /// Makes room for `additional` more entries. O(capacity) if the arena grows, else O(1).
+    /// Makes room for `additional` more entries. If the arena grows, it grows at least as far as an insertion grows it.
+    ///
+    /// O(capacity) if the arena grows, else O(1). So a `reserve(1)` before each insertion is amortized O(1).
     ///
     /// # Errors
     ///
@@ -100,6 +109,8 @@ impl<K: Ord, V, P: BasePtr, A: Allocator> SortedArena<K, V, P, A> {
         ensures entries { self.new.entries ≡ self.old.entries }
         ensures generation { self.new.generation ≡ self.old.generation }
         ensures room { OnOk result (count self.old + additional ≤ self.new.capacity) }
+        ensures capacity { OnOk result (self.new.capacity
+            ≡ capacity_for P.Inx.most self.old.capacity (count self.old + additional)) }
         ensures full { (result ≡ Err ReallocationError.BeyondMaxCapacity)
             ↔ (P.Inx.most < count self.old + additional) }
         ensures memory { result ≡ Err ReallocationError.AllocError
@@ -110,10 +121,12 @@ impl<K: Ord, V, P: BasePtr, A: Allocator> SortedArena<K, V, P, A> {
         let Some(needed) = self.pairs.len().checked_add(additional) else {
             return Err(ReallocationError::BeyondMaxCapacity);
         };
-        if needed <= self.pairs.capacity() {
+        let capacity = self.pairs.capacity();
+        if needed <= capacity {
             return Ok(());
         }
-        self.pairs.reallocate_min_capacity(needed)
+        let grown = P::Inx::limit().min(capacity.saturating_mul(2).max(4));
+        self.pairs.reallocate_min_capacity(needed.max(grown))
     }
 
     /// Gives back the memory that no entry needs: the capacity becomes the greatest index of an entry. O(capacity).

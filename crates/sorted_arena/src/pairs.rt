@@ -1,20 +1,21 @@
 //! The ordered arena of a sorted one. A new entry goes behind all whose key is at most its own.
 
-ghost use Rattle.std.specs.Prelude.{◌≡◌, ◌↔◌, ◌++◌, List, None, Err, IfOk, IfErr, OnErr, length};
+ghost use Rattle.std.specs.Prelude.{◌≡◌, ◌↔◌, ◌++◌, ℕ, List, None, Err, IfOk, IfErr, OnErr, length};
 ghost use Rattle.std.specs.Option.{option_map};
 ghost use Rattle.std.specs.Ordering.{is_le, is_lt};
 ghost use Rattle.chain_base.specs.Chain.{Entry, chain_limit, IsSound};
 ghost use Rattle.triple_ord.specs.Gap.{last_of};
 ghost use Rattle.triple_ord.specs.Insertion.{reallocating, InsertsNew};
+ghost use Rattle.triple_ord.specs.{PastEquals.order_past_equals, Search.FindsSimilar};
 ghost use Rattle.triple_ord.specs.Place.{aim_of, behind_key, kind_now};
 ghost use Rattle.sorted_arena.specs.Layout.{item_key, pointer_among};
 ghost use Rattle.sorted_arena.specs.Stretch.{first_index};
-ghost use Rattle.sorted_arena.specs.Sorted.{AreSorted, key_of, first_where, next_of, prev_of};
+ghost use Rattle.sorted_arena.specs.Sorted.{AreSorted, key_of, first_where, next_of, prev_of, IsWithinRankedBound};
 
 use std::alloc::Allocator;
 use std::cmp::Ordering;
 use triple_ord::{
-    BasePtr, OrdInsertKind, OrdInsertionError, OrdPair, ReallocationError, SimpleOrdArena,
+    BasePtr, OrdInsertKind, OrdInsertionError, OrdPair, ReallocationError, SimpleOrdArena, Visits,
 };
 
 /// Pairs by their keys.
@@ -118,40 +119,74 @@ pub(crate) fn prev_in<K: Ord, V, P: BasePtr, A: Allocator>(
     pointer_at(pairs, link.prev())
 }
 
-/// The pointer of the first entry whose key is at least `k`.
-pub(crate) fn lower_bound_in<K: Ord, V, P: BasePtr, A: Allocator>(
+// The pointer of the first entry whose key is at least a key, by the entry that a search for it met.
+#[inline(always)]
+fn lower_bound_by<K: Ord, V, P: BasePtr, A: Allocator>(
     pairs: &Pairs<K, V, P, A>,
-    k: &K,
+    met: Option<(P, Ordering)>,
 ) -> Option<P>
     requires { AreSorted K.cmp pairs.now.list.entries }
-    ensures { option_map P.numbers result
-        ≡ first_where (λ e. is_le (K.cmp k.now (key_of e))) pairs.now.list.entries }
+    ensures { (k : K) (visits : ℕ) → FindsSimilar item_key K.cmp pairs.now.list.entries k
+        (option_map (λ a. (P.numbers a.0, a.1)) met) visits → option_map P.numbers result
+        ≡ first_where (λ e. is_le (K.cmp k (key_of e))) pairs.now.list.entries }
 {
     // with its length an arena tells what holds of its list
     let _ = pairs.len();
-    let (p, order) = pairs.find_similar_key(k)?;
+    let (p, order) = met?;
     match order {
         Ordering::Greater => next_in(pairs, p),
         _ => Some(p),
     }
 }
 
-/// The pointer of the first entry whose key is greater than `k`.
-pub(crate) fn upper_bound_in<K: Ord, V, P: BasePtr, A: Allocator>(
+/// The pointer of the first entry whose key is at least `k`, and how many entries the search visited.
+#[inline(always)]
+pub(crate) fn lower_bound_in<K: Ord, V, P: BasePtr, A: Allocator>(
     pairs: &Pairs<K, V, P, A>,
     k: &K,
+) -> (Option<P>, Visits)
+    requires { AreSorted K.cmp pairs.now.list.entries }
+    ensures bound { option_map P.numbers result.0
+        ≡ first_where (λ e. is_le (K.cmp k.now (key_of e))) pairs.now.list.entries }
+    ensures visits { IsWithinRankedBound (length pairs.now.list.entries) result.1 }
+{
+    let met = pairs.find_similar_key_counted(k);
+    (lower_bound_by(pairs, met.0), met.1)
+}
+
+// The pointer of the first entry whose key is greater than a key, by the entry that a search for it met.
+#[inline(always)]
+fn upper_bound_by<K: Ord, V, P: BasePtr, A: Allocator>(
+    pairs: &Pairs<K, V, P, A>,
+    met: Option<(P, Ordering)>,
 ) -> Option<P>
     requires { AreSorted K.cmp pairs.now.list.entries }
-    ensures { option_map P.numbers result
-        ≡ first_where (λ e. is_lt (K.cmp k.now (key_of e))) pairs.now.list.entries }
+    ensures { (k : K) (visits : ℕ) → FindsSimilar item_key (order_past_equals K.cmp) pairs.now.list.entries k
+        (option_map (λ a. (P.numbers a.0, a.1)) met) visits → option_map P.numbers result
+        ≡ first_where (λ e. is_lt (K.cmp k (key_of e))) pairs.now.list.entries }
 {
     // with its length an arena tells what holds of its list
     let _ = pairs.len();
-    let (p, order) = pairs.find_behind_key(k)?;
+    let (p, order) = met?;
     match order {
         Ordering::Less => Some(p),
         _ => next_in(pairs, p),
     }
+}
+
+/// The pointer of the first entry whose key is greater than `k`, and how many entries the search visited.
+#[inline(always)]
+pub(crate) fn upper_bound_in<K: Ord, V, P: BasePtr, A: Allocator>(
+    pairs: &Pairs<K, V, P, A>,
+    k: &K,
+) -> (Option<P>, Visits)
+    requires { AreSorted K.cmp pairs.now.list.entries }
+    ensures bound { option_map P.numbers result.0
+        ≡ first_where (λ e. is_lt (K.cmp k.now (key_of e))) pairs.now.list.entries }
+    ensures visits { IsWithinRankedBound (length pairs.now.list.entries) result.1 }
+{
+    let met = pairs.find_behind_key_counted(k);
+    (upper_bound_by(pairs, met.0), met.1)
 }
 
 /// The index of the last entry before the one at `end`; of the last entry of all, if that is `None`.

@@ -146,8 +146,8 @@ impl<K: Ord, V, P: BasePtr, A: Allocator> SortedArena<K, V, P, A> {
         self.between(range.start_bound(), range.end_bound())
     }
 
-    // The entries between two bounds.
-    fn between(&self, from: Bound<&K>, until: Bound<&K>) -> Range<'_, K, V, P, A>
+    /// The entries between two bounds.
+    pub(crate) fn between(&self, from: Bound<&K>, until: Bound<&K>) -> Range<'_, K, V, P, A>
         ensures entries { result ≡ entries_between K.cmp (bound_map (λ k. k.now) from.entry)
             (bound_map (λ k. k.now) until.entry) self.now.entries }
         ensures sound { IsSound K.cmp P.Inx.most self.now }
@@ -172,15 +172,6 @@ impl<K: Ord, V, P: BasePtr, A: Allocator> SortedArena<K, V, P, A> {
             (bound_map (λ k. k.now) until.entry) self.now.entries) }
     {
         self.between(from, until).count()
-    }
-
-    /// How many entries have a key that is at most `until`.
-    pub(crate) fn count_until<'k>(&self, until: &'k K) -> usize
-        ensures { result ≡ length (entries_between K.cmp Unbounded (Included until.now)
-            self.now.entries) }
-    {
-        let from: Bound<&'k K> = Bound::Unbounded;
-        self.count_between(from, Bound::Included(until))
     }
 
     // The pointer of the first entry that is not before the start of a range.

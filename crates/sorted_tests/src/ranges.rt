@@ -5,10 +5,10 @@ use std::alloc::Global;
 use std::ops::Bound;
 
 /// How many bounds there are: none, and each key from 0 to 6 included or excluded.
-const BOUNDS: u64 = 15;
+pub(crate) const BOUNDS: u64 = 15;
 
 /// The bound with this number.
-fn bound(number: u64) -> Bound<u64> {
+pub(crate) fn bound(number: u64) -> Bound<u64> {
     match number {
         0 => Bound::Unbounded,
         1..=7 => Bound::Included(number - 1),
@@ -17,7 +17,7 @@ fn bound(number: u64) -> Bound<u64> {
 }
 
 /// Whether a key is not before a range with this start.
-fn is_from(from: Bound<u64>, k: u64) -> bool {
+pub(crate) fn is_from(from: Bound<u64>, k: u64) -> bool {
     match from {
         Bound::Included(least) => least <= k,
         Bound::Excluded(before) => before < k,
@@ -26,7 +26,7 @@ fn is_from(from: Bound<u64>, k: u64) -> bool {
 }
 
 /// Whether a key is not past a range with this end.
-fn is_until(until: Bound<u64>, k: u64) -> bool {
+pub(crate) fn is_until(until: Bound<u64>, k: u64) -> bool {
     match until {
         Bound::Included(greatest) => k <= greatest,
         Bound::Excluded(past) => k < past,

@@ -1,13 +1,13 @@
 //! An index: the ids of records by their names, in the order of the names.
 
-ghost use Rattle.std.specs.Prelude.{◌≡◌, ◌≢◌, Some, None, IfOk, IfSome, IfNone, OnErr, IsSomeAnd, map, count_by};
+ghost use Rattle.std.specs.Prelude.{◌≡◌, ◌≢◌, ◌+◌, ◌^◌, ◌<◌, ◌≤◌, ◌++◌, Some, None, IfOk, OnOk, IfSome, IfNone, OnErr, IsSomeAnd, map, length, count_by};
 ghost use Rattle.std.specs.Ordering.{is_eq};
-ghost use Rattle.std.specs.declared.ops.Bound.TheVariants.{Included, Excluded};
-ghost use Rattle.sorted_arena.specs.Range.{entries_between};
+ghost use Rattle.std.specs.declared.ops.Bound.TheVariants.{Included, Excluded, Unbounded};
+ghost use Rattle.sorted_arena.specs.Range.{entries_between, entries_outside};
 ghost use Rattle.std.specs.List.{All};
 ghost use Rattle.std.specs.Prelude.{string_cmp};
 ghost use Rattle.std.specs.declared.cmp.Ordering.TheVariants.{Equal, Greater};
-ghost use Rattle.sorted_arena.specs.Sorted.{pair_of, key_of, value_of, Updates};
+ghost use Rattle.sorted_arena.specs.Sorted.{pair_of, count, key_of, value_of, item_of, Updates};
 
 use sorted_arena::{P0, ReallocationError, SortedArena};
 use std::alloc::{AllocError, Global};
@@ -74,4 +74,48 @@ pub fn records_of(index: &Index, name: &String) -> usize
     ensures { result ≡ count_by (λ e. is_eq (string_cmp name.now (key_of e))) index.now.entries }
 {
     index.count_of(name)
+}
+
+/// Removes all records from one name until before another, and returns how many there were.
+pub fn drop_between(index: &mut Index, from: &String, until: &String) -> usize
+    ensures dropped { result ≡ length
+        (entries_between string_cmp (Included from.now) (Excluded until.now) index.old.entries) }
+    ensures left { index.new.entries
+        ≡ entries_outside string_cmp (Included from.now) (Excluded until.now) index.old.entries }
+{
+    index.remove_range(from..until)
+}
+
+/// Moves all records from one name until before another to the end of a list. If memory is refused to the list, nothing changes.
+pub fn take_between(
+    index: &mut Index,
+    from: &String,
+    until: &String,
+    taken: &mut Vec<(String, u64)>,
+) -> Result<(), AllocError>
+    ensures taken { OnOk result (taken.new.items ≡ taken.old.items ++ map item_of
+        (entries_between string_cmp (Included from.now) (Excluded until.now) index.old.entries)) }
+    ensures refused { OnErr result (index.new ≡ index.old) }
+{
+    index.drain_range(from..until, taken)
+}
+
+/// Moves the records from one name on into an index of their own. If memory is refused, nothing changes.
+pub fn split_at(alloc: Global, index: &mut Index, from: &String) -> Result<Index, AllocError>
+    ensures moved { IfOk result (λ moved. map item_of moved.entries
+        ≡ map item_of (entries_between string_cmp (Included from.now) Unbounded index.old.entries)) }
+    ensures left { OnOk result (index.new.entries
+        ≡ entries_between string_cmp Unbounded (Excluded from.now) index.old.entries) }
+    ensures refused { OnErr result (index.new ≡ index.old) }
+{
+    index.split_off(alloc, from)
+}
+
+/// Returns how many records were looked at to find a name.
+pub fn visits_for(index: &Index, name: &String) -> u128
+    ensures few { 0 < count index.now → 2 ^ (result + 1) ≤ (count index.now + 1) ^ 2 }
+    ensures none { count index.now ≡ 0 → result ≡ 0 }
+{
+    let (_, visits) = index.find_counted(name);
+    visits.count()
 }

@@ -1,11 +1,12 @@
 //! A leaderboard: players by their scores.
 
-ghost use Rattle.std.specs.Prelude.{◌≡◌, Some, IfOk, IfSome, OnErr, map, take, reverse, length, fold, min, ◌+◌, ◌-◌, ◌^◌};
+ghost use Rattle.std.specs.Prelude.{◌≡◌, ◌≢◌, [], Some, IfOk, OnOk, IfSome, IsSomeAnd, OnErr, map, take, reverse, length, fold, min, ◌+◌, ◌-◌, ◌^◌};
 ghost use Rattle.std.specs.Option.{option_map};
 ghost use Rattle.std.specs.Ordering.{nat_cmp};
 ghost use Rattle.std.specs.declared.ops.Bound.TheVariants.{Included, Excluded, Unbounded};
-ghost use Rattle.sorted_arena.specs.Range.{entries_between};
-ghost use Rattle.sorted_arena.specs.Sorted.{pair_of, count, key_of, value_of, Updates};
+ghost use Rattle.std.specs.declared.cmp.Ordering.TheVariants.{Greater};
+ghost use Rattle.sorted_arena.specs.{Range.entries_between, Merge.merged};
+ghost use Rattle.sorted_arena.specs.Sorted.{pair_of, count, key_of, value_of, item_of, Keeps, Updates};
 
 use sorted_arena::{P0, ReallocationError, SortedArena};
 use std::alloc::{AllocError, Global};
@@ -70,4 +71,38 @@ pub fn total(board: &Leaderboard, from: u64, until: u64) -> u64
         .range(from..until)
         .keys()
         .fold(0, |total: u64, score| total.saturating_add(*score))
+}
+
+/// Takes in the players of another board, which has none then. All places on this board stay valid. If there is no room, nothing changes.
+pub fn merge(board: &mut Leaderboard, other: &mut Leaderboard) -> Result<(), ReallocationError>
+    ensures players { OnOk result (map item_of board.new.entries
+        ≡ merged nat_cmp (map item_of board.old.entries) (map item_of other.old.entries)) }
+    ensures places { Keeps board.old board.new }
+    ensures count { OnOk result (count board.new ≡ count board.old + count other.old) }
+    ensures emptied { OnOk result (other.new.entries ≡ []) }
+    ensures refused { OnErr result (board.new ≡ board.old) }
+{
+    board.append(other)
+}
+
+/// Returns a copy of a board, with the same places.
+pub fn copy_of(board: &Leaderboard) -> Result<Leaderboard, AllocError>
+    ensures { IfOk result (λ copy. copy.entries ≡ board.now.entries) }
+{
+    board.clone()
+}
+
+/// Returns whether two boards have the same players with the same scores, in the same order.
+pub fn are_same(one: &Leaderboard, other: &Leaderboard) -> bool {
+    one == other
+}
+
+/// Returns the score of the player directly ahead, which is at least as great. `None` if there is no such player.
+pub fn score_ahead(board: &Leaderboard, place: P0) -> Option<u64>
+    ensures { IfSome result (λ score. IsSomeAnd (pair_of board.now place)
+        (λ e. nat_cmp e.0 score ≢ Greater)) }
+{
+    let ahead = board.next(place)?;
+    let score = board.key(ahead)?;
+    Some(*score)
 }

@@ -1,11 +1,11 @@
 //! Sessions: each is named by its token, and ends at its deadline.
 
-ghost use Rattle.std.specs.Prelude.{◌≡◌, ◌≢◌, ◌+◌, ◌≤◌, ◌<◌, ℕ, ◌++◌, Some, None, IfOk, IfSome, OnOk, OnErr, is_some, map};
+ghost use Rattle.std.specs.Prelude.{◌≡◌, ◌≢◌, ◌==◌, ◌+◌, ◌≤◌, ◌<◌, ℕ, ◌++◌, Some, None, IfOk, IfSome, OnOk, OnErr, is_some, not, map, filter};
 ghost use Rattle.std.specs.List.{All};
 ghost use Rattle.std.specs.Option.{option_map};
 ghost use Rattle.std.specs.Ordering.{nat_cmp};
 ghost use Rattle.std.specs.declared.cmp.Ordering.TheVariants.{Greater};
-ghost use Rattle.sorted_arena.specs.Sorted.{pair_of, count, key_of, item_of, entries_until, Updates};
+ghost use Rattle.sorted_arena.specs.Sorted.{pair_of, count, key_of, value_of, item_of, entries_until, Updates};
 
 use sorted_arena::{P0, ReallocationError, SortedArena};
 use std::alloc::AllocError;
@@ -101,6 +101,15 @@ pub fn drop_due(sessions: &mut Sessions, now: u64) -> usize
     ensures count { count sessions.new + result ≡ count sessions.old }
 {
     sessions.remove_until(&now)
+}
+
+#[tactic(auto, using(sorted_arena::proofs::CallerLemmas::chosen))]
+/// Ends all sessions of a user.
+pub fn end_user(sessions: &mut Sessions, user: u64)
+    ensures left { sessions.new.entries
+        ≡ filter (λ s. not (value_of s == user)) sessions.old.entries }
+{
+    sessions.retain(|_, of| *of != user);
 }
 
 /// The deadline of the session that ends first.

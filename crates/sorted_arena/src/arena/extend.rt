@@ -2,7 +2,7 @@
 
 ghost use Rattle.std.specs.Prelude.{◌≡◌, ◌++◌, ℕ, List, [], Err, IfOk, OnOk, map};
 ghost use Rattle.std.specs.{Ordering.is_gt, Option.option_map_or, Prelude.false};
-ghost use Rattle.sorted_arena.specs.Sorted.{item_of, last_item, IsOutOfOrder};
+ghost use Rattle.sorted_arena.specs.Sorted.{count, item_of, last_item, IsOutOfOrder, Keeps};
 
 use super::SortedArena;
 use crate::error::SortedError;
@@ -14,9 +14,10 @@ impl<K: Ord + Drop, V: Drop, P: BasePtr, A: Allocator> SortedArena<K, V, P, A> {
     ///
     /// # Errors
     ///
-    /// The pairs before the refused one are inserted; it and the rest are dropped.
+    /// The pairs before the refused one are inserted; it and the rest are dropped. Old pointers stay valid.
     /// - `OutOfOrder(i)`: the key of the pair at index i is smaller than the one before it, or than the last key.
-    /// - `BeyondMaxCapacity`, `AllocError`: as [`insert`](Self::insert).
+    /// - `BeyondMaxCapacity`: there are as many entries as pointers have indexes now.
+    /// - `AllocError`: the arena is full now, and growing failed.
     pub fn extend_sorted<B: Allocator>(&mut self, pairs: Vec<(K, V), B>) -> Result<(), SortedError>
         ensures ok { OnOk result
             (map item_of self.new.entries ≡ map item_of self.old.entries ++ pairs.items) }
@@ -25,6 +26,12 @@ impl<K: Ord + Drop, V: Drop, P: BasePtr, A: Allocator> SortedArena<K, V, P, A> {
         ensures part { (front : List (K × V)) × (back : List (K × V))
             × (pairs.items ≡ front ++ back)
             × (map item_of self.new.entries ≡ map item_of self.old.entries ++ front) }
+        ensures kept { Keeps self.old self.new }
+        ensures generation { self.new.generation ≡ self.old.generation }
+        ensures full { result ≡ Err SortedError.BeyondMaxCapacity
+            → count self.new ≡ P.Inx.most }
+        ensures memory { result ≡ Err SortedError.AllocError
+            → count self.new ≡ self.new.capacity }
     {
         let before = self.len();
         for (k, v) in pairs {

@@ -8,7 +8,6 @@ ghost use Rattle.std.specs.declared.cmp.Ordering.TheVariants.{Equal, Less, Great
 ghost use Rattle.sorted_arena.specs.Sorted.{pair_of, first_where, key_of, IsAbsent, IsSound};
 
 use super::SortedArena;
-use crate::pairs::{lower_bound_in, upper_bound_in};
 use std::alloc::Allocator;
 use std::ops::Bound;
 use triple_ord::BasePtr;
@@ -23,10 +22,7 @@ impl<K: Ord, V, P: BasePtr, A: Allocator> SortedArena<K, V, P, A> {
         ensures none { IfNone result (IsAbsent K.cmp self.now k.now) }
         ensures sound { IsSound K.cmp P.Inx.most self.now }
     {
-        // with its length an arena tells what holds of it, and of its list
-        let _ = self.pairs.len();
-        let _ = self.len();
-        self.pairs.find_key(k)
+        self.find_counted(k).0
     }
 
     /// Returns whether some entry's key equals `k`, in O(log n).
@@ -48,10 +44,7 @@ impl<K: Ord, V, P: BasePtr, A: Allocator> SortedArena<K, V, P, A> {
             (All (λ e. K.cmp k.now (key_of e) ≡ Greater) self.now.entries) }
         ensures sound { IsSound K.cmp P.Inx.most self.now }
     {
-        // with its length an arena tells what holds of it, and of its list
-        let _ = self.pairs.len();
-        let _ = self.len();
-        lower_bound_in(&self.pairs, k)
+        self.lower_bound_counted(k).0
     }
 
     /// Returns the pointer of the first entry whose key is greater than `k`, in O(log n). `None` if all keys are at most `k`.
@@ -63,10 +56,7 @@ impl<K: Ord, V, P: BasePtr, A: Allocator> SortedArena<K, V, P, A> {
         ensures none { IfNone result (All (λ e. K.cmp k.now (key_of e) ≢ Less) self.now.entries) }
         ensures sound { IsSound K.cmp P.Inx.most self.now }
     {
-        // with its length an arena tells what holds of it, and of its list
-        let _ = self.pairs.len();
-        let _ = self.len();
-        upper_bound_in(&self.pairs, k)
+        self.upper_bound_counted(k).0
     }
 
     /// Returns how many entries have a key equal to `k`, in O(log n + their number).

@@ -1,6 +1,6 @@
 //! The first and the last entry, and the neighbours of an entry.
 
-ghost use Rattle.std.specs.Prelude.{◌≡◌, ◌≢◌, IfSome, IfNone, IsSomeAnd};
+ghost use Rattle.std.specs.Prelude.{◌≡◌, ◌≢◌, IfSome, IfNone, IsSome, IsSomeAnd};
 ghost use Rattle.std.specs.List.{All};
 ghost use Rattle.std.specs.Option.{option_map};
 ghost use Rattle.std.specs.declared.cmp.Ordering.TheVariants.{Greater};
@@ -41,16 +41,30 @@ impl<K: Ord, V, P: BasePtr, A: Allocator> SortedArena<K, V, P, A> {
     }
 
     /// Returns the pointer of the successor of the entry at `p`, in O(1). `None` if it is the last one, or `p` is stale.
+    ///
+    /// The key of the successor is at least that of the entry.
     pub fn next(&self, p: P) -> Option<P>
-        ensures { option_map P.numbers result ≡ next_of self.now.entries (P.numbers p) }
+        ensures value { option_map P.numbers result ≡ next_of self.now.entries (P.numbers p) }
+        ensures named { IfSome result (λ q. IsSome (pair_of self.now (P.numbers q))) }
+        ensures in_order { IfSome result (λ q. IsSomeAnd (pair_of self.now (P.numbers p))
+            (λ e. IsSomeAnd (pair_of self.now (P.numbers q)) (λ f. K.cmp e.0 f.0 ≢ Greater))) }
     {
+        // with its length an arena tells what holds of its list
+        let _ = self.pairs.len();
         next_in(&self.pairs, p)
     }
 
     /// Returns the pointer of the predecessor of the entry at `p`, in O(1). `None` if it is the first one, or `p` is stale.
+    ///
+    /// The key of the predecessor is at most that of the entry.
     pub fn prev(&self, p: P) -> Option<P>
-        ensures { option_map P.numbers result ≡ prev_of self.now.entries (P.numbers p) }
+        ensures value { option_map P.numbers result ≡ prev_of self.now.entries (P.numbers p) }
+        ensures named { IfSome result (λ q. IsSome (pair_of self.now (P.numbers q))) }
+        ensures in_order { IfSome result (λ q. IsSomeAnd (pair_of self.now (P.numbers p))
+            (λ e. IsSomeAnd (pair_of self.now (P.numbers q)) (λ d. K.cmp d.0 e.0 ≢ Greater))) }
     {
+        // with its length an arena tells what holds of its list
+        let _ = self.pairs.len();
         prev_in(&self.pairs, p)
     }
 }

@@ -8,10 +8,11 @@ ghost use Rattle.std.specs.declared.cmp.Ordering.TheVariants.{Greater};
 ghost use Rattle.sorted_arena.specs.Sorted.{pair_of, count, first_where, key_of, first_item, last_item};
 ghost use Rattle.sorted_arena.specs.Sorted.{behind_first, before_last, item_of, first_item_until, entries_until, entries_above};
 ghost use Rattle.sorted_arena.specs.Answer.{AnswersAt};
-ghost use Rattle.sorted_arena.specs.Sorted.{with_left, without, IsAbsent, IsSound, Updates};
+ghost use Rattle.sorted_arena.specs.Sorted.{with_left, with_rest, without, IsAbsent, IsSound, Updates};
 
 use super::SortedArena;
 use std::alloc::{AllocError, Allocator};
+use std::ops::Bound;
 use triple_ord::BasePtr;
 
 impl<K: Ord, V, P: BasePtr, A: Allocator> SortedArena<K, V, P, A> {
@@ -127,9 +128,9 @@ impl<K: Ord, V, P: BasePtr, A: Allocator> SortedArena<K, V, P, A> {
     /// # Errors
     ///
     /// If the vector is refused memory, nothing changes.
-    pub fn pop_until<B: Allocator>(
+    pub fn pop_until<'k, B: Allocator>(
         &mut self,
-        until: &K,
+        until: &'k K,
         popped: &mut Vec<(K, V), B>,
     ) -> Result<(), AllocError>
     where
@@ -137,34 +138,32 @@ impl<K: Ord, V, P: BasePtr, A: Allocator> SortedArena<K, V, P, A> {
         V: Drop,
         ensures popped { OnOk result (popped.new.items ≡ popped.old.items
             ++ map item_of (entries_until K.cmp until.now self.old.entries)) }
-        ensures entries { OnOk result
-            (self.new.entries ≡ entries_above K.cmp until.now self.old.entries) }
+        ensures after { OnOk result (self.new ≡ with_rest P.Gen.greatest self.old
+            (entries_above K.cmp until.now self.old.entries)) }
         ensures left { OnOk result
             (All (λ e. K.cmp (key_of e) until.now ≡ Greater) self.new.entries) }
         ensures kept { OnErr result (popped.new.items ≡ popped.old.items) }
         ensures err { OnErr result (self.new ≡ self.old) }
     {
-        // with its length an arena tells what holds of its list
+        // with its length an arena tells what holds of it
         let _ = self.len();
-        let due = self.count_until(until);
-        popped.reserve(due)?;
-        while let Some(item) = self.pop_first_until(until) {
-            let _ = popped.push(item);
-        }
-        Ok(())
+        let from: Bound<&'k K> = Bound::Unbounded;
+        self.drain_between(from, Bound::Included(until), popped)
     }
 
     /// Removes and drops all entries whose key is at most `until`, and returns how many there were. O(log n) for each.
-    pub fn remove_until(&mut self, until: &K) -> usize
+    pub fn remove_until<'k>(&mut self, until: &'k K) -> usize
     where
         K: Drop,
         V: Drop,
-        ensures entries { self.new.entries ≡ entries_above K.cmp until.now self.old.entries }
+        ensures after { self.new ≡ with_rest P.Gen.greatest self.old
+            (entries_above K.cmp until.now self.old.entries) }
         ensures left { All (λ e. K.cmp (key_of e) until.now ≡ Greater) self.new.entries }
         ensures count { count self.new + result ≡ count self.old }
     {
-        let before = self.len();
-        while self.pop_first_until(until).is_some() {}
-        before - self.len()
+        // with its length an arena tells what holds of it
+        let _ = self.len();
+        let from: Bound<&'k K> = Bound::Unbounded;
+        self.remove_between(from, Bound::Included(until))
     }
 }

@@ -82,26 +82,93 @@ fn pairs_before_a_refused_one_are_there_and_the_rest_follows_with_memory(rt: Hos
     );
 }
 
-/// Pops five of nine entries into a vector where so much of a heap is left, and once more when all is given back. If the first call is
-/// refused, nothing changes. Answers whether it was refused, or `None` if anything goes wrong.
-fn is_kept_at_first(alloc: Global, heap: &LocalHeap, units: usize) -> Option<bool> {
+/// The calls that take many entries out of an arena of nine pairs, or bring many in.
+#[derive(Clone, Copy)]
+enum Move {
+    Pop,
+    Drain,
+    Split,
+    Append,
+    Clone,
+}
+
+/// Pops five of nine entries into a vector, or drains them, where so much of a heap is left, and once more when all is given back. If the
+/// first call is refused, nothing changes. Answers whether it was refused, or `None` if anything goes wrong.
+fn takes(alloc: Global, heap: &LocalHeap, call: Move, units: usize) -> Option<bool> {
     let mut arena = Numbers::from_sorted(alloc, rising(alloc, 0)?).ok()?;
-    let mut popped = Vec::new(heap);
+    let mut taken = Vec::new(heap);
     let rest = leave(heap, units)?;
-    let was_refused = arena.pop_until(&4, &mut popped).is_err();
-    if was_refused && (arena.len(), popped.len()) != (9, 0) {
+    let was_refused = match call {
+        Move::Pop => arena.pop_until(&4, &mut taken).is_err(),
+        _ => arena.drain_range(..5, &mut taken).is_err(),
+    };
+    if was_refused && (arena.len(), taken.len()) != (9, 0) {
         return None;
     }
     drop(rest);
-    let is_done = arena.pop_until(&4, &mut popped).is_ok();
-    (is_done && (arena.len(), popped.len()) == (4, 5)).then_some(was_refused)
+    let is_done = arena.drain_range(..5, &mut taken).is_ok();
+    (is_done && (arena.len(), taken.len()) == (4, 5)).then_some(was_refused)
 }
 
-/// The least room at which the vector is not refused memory.
-fn least_room(alloc: Global) -> Option<usize> {
+/// Splits nine entries at the fifth, as [`takes`].
+fn splits(alloc: Global, heap: &LocalHeap, units: usize) -> Option<bool> {
+    let mut arena = OnHeap::from_sorted(heap, rising(alloc, 0)?).ok()?;
+    let rest = leave(heap, units)?;
+    let was_refused = arena.split_off(heap, &4).is_err();
+    if was_refused && count(&arena) != Some(9) {
+        return None;
+    }
+    drop(rest);
+    if was_refused {
+        let moved = arena.split_off(heap, &4).ok()?;
+        if moved.len() != 5 {
+            return None;
+        }
+    }
+    (count(&arena) == Some(4)).then_some(was_refused)
+}
+
+/// Takes five entries in behind four, as [`takes`].
+fn appends(alloc: Global, heap: &LocalHeap, units: usize) -> Option<bool> {
+    let mut other = Numbers::from_sorted(alloc, rising(alloc, 4)?).ok()?;
+    let mut arena = OnHeap::from_sorted(heap, rising(alloc, 0)?).ok()?;
+    arena.remove_range(4..);
+    arena.shrink();
+    let rest = leave(heap, units)?;
+    let was_refused = arena.append(&mut other).is_err();
+    if was_refused && (count(&arena), other.len()) != (Some(4), 5) {
+        return None;
+    }
+    drop(rest);
+    let is_done = arena.append(&mut other).is_ok();
+    (is_done && (count(&arena), other.len()) == (Some(9), 0)).then_some(was_refused)
+}
+
+/// Clones nine entries, as [`takes`].
+fn clones(alloc: Global, heap: &LocalHeap, units: usize) -> Option<bool> {
+    let arena = OnHeap::from_sorted(heap, rising(alloc, 0)?).ok()?;
+    let rest = leave(heap, units)?;
+    let was_refused = arena.clone().is_err();
+    drop(rest);
+    let clone = arena.clone().ok()?;
+    (count(&clone) == Some(9) && count(&arena) == Some(9)).then_some(was_refused)
+}
+
+/// Makes a call where so much of a heap is left.
+fn was_refused(alloc: Global, heap: &LocalHeap, call: Move, units: usize) -> Option<bool> {
+    match call {
+        Move::Split => splits(alloc, heap, units),
+        Move::Append => appends(alloc, heap, units),
+        Move::Clone => clones(alloc, heap, units),
+        _ => takes(alloc, heap, call, units),
+    }
+}
+
+/// The least room, if any below 256 units, at which a call is not refused memory, where it is refused at all lesser ones.
+fn least_room(alloc: Global, call: Move) -> Option<usize> {
     let heap = new_heap(alloc)?;
     for units in 0usize..256 {
-        if !is_kept_at_first(alloc, &heap, units)? {
+        if !was_refused(alloc, &heap, call, units)? {
             return Some(units);
         }
     }
@@ -109,7 +176,12 @@ fn least_room(alloc: Global) -> Option<usize> {
 }
 
 #[test]
-fn entries_stay_if_the_vector_for_them_is_refused_memory(rt: HostRuntime) {
+fn entries_stay_if_memory_for_them_is_refused(rt: HostRuntime) {
     // five pairs of 16 bytes
-    assert_eq!(rt; least_room(rt.alloc()), Some(5));
+    assert_eq!(rt; least_room(rt.alloc(), Move::Pop), Some(5));
+    assert_eq!(rt; least_room(rt.alloc(), Move::Drain), Some(5));
+    for call in [Move::Split, Move::Append, Move::Clone] {
+        let least = least_room(rt.alloc(), call).expect(&rt, "the right answers");
+        assert!(rt; least > 5);
+    }
 }

@@ -1,8 +1,9 @@
-use Rattle.std.proofs.Common.{◌≡◌, ◌∙◌, ◌-◌, ◌++◌, ◌∷◌, [], None, sym, ap, subst, map, arith, append_assoc, List, IsSomeAnd}
+use Rattle.std.proofs.Common.{◌≡◌, ◌∙◌, refl, ◌-◌, ◌++◌, ◌∷◌, [], None, sym, ap, subst, map, arith, append_assoc, List, IsSomeAnd}
 use Rattle.std.specs.declared.cmp.Ordering.{TheVariants.Greater}
 use Rattle.triple_ord.specs.Gap.{last_of}
 use Rattle.sorted_arena.specs.Sorted.{item_of, Sorted}
 use Rattle.sorted_arena.proofs.Cutting.{append-nil}
+use Rattle.sorted_arena.proofs.Merging.{keeps-all, keeps-more}
 use Rattle.std.proofs.lemmas.Grind.{common_steps}
 use Rattle.std.specs.Vec.Iter.{into_iter_items}
 use Rattle.sorted_arena.proofs.Extending.{last-greater, appended, counted, cut_more, cut_all}
@@ -53,7 +54,7 @@ returns-clause-ok g c =
     c.loop-k.invariant.held ∙ ap (λ xs. map item_of c.args.self.now.entries ++ xs) all
 
 pub loop-k-init : goal.loop-k-init
-loop-k-init g c = record { cut = grind (arith, common_steps); count = grind (arith, common_steps); held = sym (append-nil (map item_of c.args.self.now.entries)) }
+loop-k-init g c = record { cut = grind (arith, common_steps); count = grind (arith, common_steps); held = sym (append-nil (map item_of c.args.self.now.entries)); keeps = keeps-all c.args.self.now; generation = refl }
 
 pub loop-k-preserved : goal.loop-k-preserved
 loop-k-preserved g c =
@@ -63,4 +64,6 @@ loop-k-preserved g c =
       cut = cut_more _ _ _ _ _ c.loop-k.invariant.cut c.in-Some.ensures.steps.0;
       count = grind (arith, common_steps);
       held = put ∙ ap (λ xs. xs ++ (c.in-Some.k, c.in-Some.v) ∷ []) c.loop-k.invariant.held ∙ append_assoc (map item_of c.args.self.now.entries) c.loop-k.yielded ((c.in-Some.k, c.in-Some.v) ∷ []);
+      keeps = keeps-more c.args.self.now c.loop-k.self c.insert.new.self (g.P.BasePtr.numbers c.in-Ok.field-0) _ c.loop-k.invariant.keeps c.in-Ok.ensures.ok.unused c.in-Ok.ensures.updates;
+      generation = c.in-Ok.ensures.ok.generation ∙ c.loop-k.invariant.generation;
     }

@@ -2,12 +2,12 @@ use Rattle.std.proofs.Common.{◌≢◌}
 use Rattle.std.specs.Ordering.{is_le}
 use Rattle.std.specs.declared.cmp.Ordering.TheVariants.{Greater}
 use Rattle.sorted_arena.proofs.Cutting.{all-less, found-where, le_not}
-use Rattle.sorted_arena.proofs.arena.SortedArena.lower_bound.Goals as goal
+use Rattle.sorted_arena.proofs.arena.SortedArena.lower_bound_counted.Goals as goal
 
 pub returns-clause-none : goal.returns-clause-none
-returns-clause-none g c = rw (← c.self.view_is) (all-less g.K.Ord.cmp c.args.k.now c.self.inside.pairs.list.entries g.P.BasePtr.numbers c.lower_bound_in.result c.lower_bound_in.ensures)
+returns-clause-none g c = rw (← c.self.view_is) (all-less g.K.Ord.cmp c.args.k.now c.self.inside.pairs.list.entries g.P.BasePtr.numbers c.lower_bound_in.result.0 c.lower_bound_in.ensures.bound)
 
 pub returns-clause-finds : goal.returns-clause-finds
 returns-clause-finds g c =
     rw (← c.self.view_is) (found-where c.self.inside.pairs.list.entries c.len.ensures.sound.distinct (λ l. is_le (g.K.Ord.cmp c.args.k.now l)) (λ l. g.K.Ord.cmp c.args.k.now l ≢ Greater)
-    (λ l. le_not (g.K.Ord.cmp c.args.k.now l)) g.P.BasePtr.numbers c.lower_bound_in.result c.lower_bound_in.ensures)
+    (λ l. le_not (g.K.Ord.cmp c.args.k.now l)) g.P.BasePtr.numbers c.lower_bound_in.result.0 c.lower_bound_in.ensures.bound)

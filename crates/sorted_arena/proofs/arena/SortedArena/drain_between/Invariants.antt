@@ -1,0 +1,17 @@
+use Rattle.std.proofs.Common.{◌≡◌, ◌+◌, ◌≤◌, ◌++◌, map, vec_len}
+use Rattle.std.specs.Option.{option_map}
+use Rattle.std.specs.Range.Bound.{bound_map}
+use Rattle.std.specs.Vec.{vec_capacity}
+use Rattle.sorted_arena.specs.Range.{entries_between, entries_outside}
+use Rattle.sorted_arena.specs.Sorted.{item_of}
+use Rattle.sorted_arena.proofs.Taking.{Taking}
+use Rattle.sorted_arena.proofs.arena.SortedArena.drain_between.Given as goal
+
+-- those that were taken stand at the end of the vector, which has room for the others
+abbrev pub invariant-loop : goal.invariant-loop
+invariant-loop g l = record {
+  taking : Taking g.P.Gen.BasePtrGen.greatest l.fn.self (entries_between g.K.Ord.cmp (bound_map (λ k. k.now) l.fn.from) (bound_map (λ k. k.now) l.fn.until) l.fn.self.entries)
+      (entries_outside g.K.Ord.cmp (bound_map (λ k. k.now) l.fn.from) (bound_map (λ k. k.now) l.fn.until) l.fn.self.entries) l.self (option_map g.P.BasePtr.numbers l.next)
+      l.counter (λ taken. l.drained.items ≡ l.fn.drained.items ++ map item_of taken);
+  room : vec_len l.drained + l.count ≤ vec_capacity l.drained + l.counter;
+}

@@ -1,0 +1,16 @@
+use Rattle.std.specs.Option.{option_map}
+use Rattle.chain_base.specs.Chain.{IsDistinct}
+use Rattle.sorted_arena.specs.Answer.{AnswersFor}
+use Rattle.sorted_arena.proofs.Retaining.{Retains, left-from}
+use Rattle.sorted_arena.proofs.arena.SortedArena.retain.Given as goal
+
+-- those that were asked for are kept or gone, and the others are to come
+abbrev pub invariant-loop-next : goal.invariant-loop-next
+invariant-loop-next g l = record {
+  callable : goal.F-IsAlwaysCallable g l.f;
+  distinct : IsDistinct l.self.entries;
+  retains : Retains (AnswersFor g.F.FnMut) g.P.Gen.BasePtrGen.greatest l.fn.self l.fn.f l.self (option_map g.P.BasePtr.numbers l.next) l.f;
+}
+
+abbrev pub decreases-loop-next : goal.decreases-loop-next
+decreases-loop-next g l = left-from l.self.entries (option_map g.P.BasePtr.numbers l.next)

@@ -1,0 +1,30 @@
+-- How entries are taken out of a sorted arena one after another (layout).
+use Rattle.std.specs.Prelude.{◌≡◌, ℕ, Bool, if◌then◌else◌, List, ◌∷◌, ◌++◌, Option, Some}
+use Rattle.std.specs.Option.{option_map}
+use Rattle.chain_base.specs.Chain.{Entry}
+use Rattle.triple_ord.specs.Gap.{first_of}
+use Rattle.sorted_arena.specs.Sorted.{Sorted, pointer_of, with_left}
+
+module _ {K V : Type 0} where
+  -- a list is cut at the entry that a pointer names
+  pub record IsCutAt (es : List (Entry (K × V))) (p : Option (ℕ × ℕ)) : Type 0 where
+    pub front : List (Entry (K × V))
+    pub entry : Entry (K × V)
+    pub back : List (Entry (K × V))
+    pub cut : es ≡ front ++ entry ∷ back
+    pub named : p ≡ Some (pointer_of entry)
+
+  -- The entry at a cut was taken out: this is its key and its value, and `next` is the pointer of its successor.
+  pub record TakesOut (greatest : Option ℕ) (old : Sorted K V) (p : Option (ℕ × ℕ)) (at : IsCutAt old.entries p) (item : K × V) (new : Sorted K V) (next : Option (ℕ × ℕ)) : Type 0 where
+    pub item_is : item ≡ at.entry.item
+    pub left : new ≡ with_left greatest old (at.front ++ at.back)
+    pub next_is : next ≡ option_map pointer_of (first_of at.back)
+
+  -- The entry at a cut was asked for, by what such a test answers: it stays at `true` and goes at `false`, and `next` is the pointer of its
+  -- successor.
+  pub record AsksFor {F : Type 0} (R : F → Entry (K × V) → Bool → F → Type 0) (greatest : Option ℕ) (old : Sorted K V) (p : Option (ℕ × ℕ)) (at : IsCutAt old.entries p) (f g : F) (new : Sorted K V)
+      (next : Option (ℕ × ℕ)) : Type 0 where
+    pub answer : Bool
+    pub told : R f at.entry answer g
+    pub left : new ≡ (if answer then old else with_left greatest old (at.front ++ at.back))
+    pub next_is : next ≡ option_map pointer_of (first_of at.back)

@@ -1,0 +1,66 @@
+//! Entries that come from another arena.
+
+ghost use Rattle.std.specs.Prelude.{◌≡◌, ◌↔◌, ◌+◌, ◌<◌, [], map, Err, Some, OnOk, OnErr};
+ghost use Rattle.sorted_arena.specs.Merge.{merged};
+ghost use Rattle.sorted_arena.specs.Sorted.{count, item_of, with_rest, Inserts, IsSound, Keeps, Updates};
+
+use super::SortedArena;
+use std::alloc::Allocator;
+use triple_ord::{BasePtr, ReallocationError};
+
+impl<K: Ord + Drop, V: Drop, P: BasePtr, A: Allocator> SortedArena<K, V, P, A> {
+    /// Moves all entries of `other` into this arena, under new pointers. Each goes behind all whose key is at most its own. `other` is
+    /// empty then.
+    ///
+    /// # Errors
+    ///
+    /// Both arenas are unchanged.
+    /// - `BeyondMaxCapacity`: there would be more entries than pointers have indexes.
+    /// - `AllocError`: growing failed.
+    ///
+    /// # Complexity
+    ///
+    /// O(log n) for each entry that is moved, plus O(n) when the arena grows. One comparison for each whose key is at least all others.
+    pub fn append<Q: BasePtr, B: Allocator>(
+        &mut self,
+        other: &mut SortedArena<K, V, Q, B>,
+    ) -> Result<(), ReallocationError>
+        ensures items { OnOk result (map item_of self.new.entries
+            ≡ merged K.cmp (map item_of self.old.entries) (map item_of other.old.entries)) }
+        ensures kept { Keeps self.old self.new }
+        ensures count { OnOk result (count self.new ≡ count self.old + count other.old) }
+        ensures generation { self.new.generation ≡ self.old.generation }
+        ensures emptied { OnOk result (other.new ≡ with_rest Q.Gen.greatest other.old []) }
+        ensures full { (result ≡ Err ReallocationError.BeyondMaxCapacity)
+            ↔ (P.Inx.most < count self.old + count other.old) }
+        ensures memory { result ≡ Err ReallocationError.AllocError
+            → self.old.capacity < count self.old + count other.old }
+        ensures err { OnErr result (self.new ≡ self.old) }
+        ensures other_err { OnErr result (other.new ≡ other.old) }
+    {
+        self.reserve(other.len())?;
+        while let Some((k, v)) = other.pop_first() {
+            let _ = self.insert_in_room(k, v);
+        }
+        Ok(())
+    }
+
+    // Inserts an entry where one has room.
+    pub(super) fn insert_in_room(&mut self, k: K, v: V) -> P
+        requires { count self.old < self.old.capacity }
+        ensures inserts { Inserts K.cmp P.Inx.most self.old (P.numbers result) k v self.new }
+        ensures updates { Updates self.old self.new (P.numbers result) (Some (k, v)) }
+        ensures count { count self.new ≡ count self.old + 1 }
+        ensures capacity { self.new.capacity ≡ self.old.capacity }
+        ensures sound { IsSound K.cmp P.Inx.most self.new }
+    {
+        // with its length an arena tells what holds of it
+        let _ = self.len();
+        match self.insert(k, v) {
+            Ok(p) => p,
+            // there is room
+            Err((_, ReallocationError::BeyondMaxCapacity)) => unreachable!(),
+            Err((_, ReallocationError::AllocError)) => unreachable!(),
+        }
+    }
+}

@@ -1,0 +1,65 @@
+//! Entries that are kept by a test.
+
+ghost use Rattle.std.specs.Prelude.{◌≡◌, ◌≤◌, Some, IsSome};
+ghost use Rattle.std.specs.Option.{option_map};
+ghost use Rattle.std.specs.List.Retain.{IsFiltered};
+ghost use Rattle.chain_base.specs.Chain.{Entry};
+ghost use Rattle.sorted_arena.specs.Answer.{AnswersFor};
+ghost use Rattle.sorted_arena.specs.Taking.{IsCutAt, AsksFor};
+ghost use Rattle.sorted_arena.specs.Sorted.{pair_of, count, with_rest, IsSound};
+
+use super::SortedArena;
+use std::alloc::Allocator;
+use triple_ord::BasePtr;
+
+impl<K: Ord + Drop, V: Drop, P: BasePtr, A: Allocator> SortedArena<K, V, P, A> {
+    /// Asks `f` once for each entry, in order, and removes the entries for which it answers `false`. The others keep their pointers.
+    ///
+    /// O(n) calls, and O(log n) for each entry that is removed.
+    pub fn retain<F: FnMut(&K, &V) -> bool>(&mut self, mut f: F)
+        requires { F.IsAlwaysCallable f }
+        ensures filtered { IsFiltered (AnswersFor F.FnMut) f self.old.entries self.new.entries }
+        ensures after { self.new ≡ with_rest P.Gen.greatest self.old self.new.entries }
+        ensures count { count self.new ≤ count self.old }
+        ensures sound { IsSound K.cmp P.Inx.most self.new }
+    {
+        let mut next = self.first();
+        while let Some(p) = next {
+            next = self.ask(p, &mut f);
+        }
+        // with its length an arena tells what holds of it
+        let _ = self.len();
+    }
+
+    // Asks for the entry at `p`, removes it if the answer is `false`, and returns the pointer of its successor.
+    fn ask<F: FnMut(&K, &V) -> bool>(&mut self, p: P, f: &mut F) -> Option<P>
+        requires named { IsCutAt self.old.entries (Some (P.numbers p)) }
+        requires callable { F.IsAlwaysCallable f.old }
+        ensures asks { (at : IsCutAt self.old.entries (Some (P.numbers p)))
+            → AsksFor (AnswersFor F.FnMut) P.Gen.greatest self.old (Some (P.numbers p)) at f.old
+            f.new self.new (option_map P.numbers result) }
+        ensures still_callable { F.IsAlwaysCallable f.new }
+        ensures sound { IsSound K.cmp P.Inx.most self.new }
+    {
+        // with its length an arena tells what holds of it
+        let _ = self.len();
+        if self.is_kept(p, f) {
+            return self.next(p);
+        }
+        let next = self.take(Some(p)).1;
+        let _ = self.len();
+        next
+    }
+
+    // What the test answers for the entry at `p`.
+    fn is_kept<F: FnMut(&K, &V) -> bool>(&self, p: P, f: &mut F) -> bool
+        requires named { IsSome (pair_of self.now (P.numbers p)) }
+        requires callable { F.IsAlwaysCallable f.old }
+        ensures answers { (e : Entry (K × V)) → pair_of self.now (P.numbers p) ≡ Some e.item
+            → AnswersFor F.FnMut f.old e result f.new }
+        ensures still_callable { F.IsAlwaysCallable f.new }
+    {
+        let (k, v) = self.get(p).unwrap();
+        f(k, v)
+    }
+}
