@@ -1,6 +1,6 @@
 //! Entries that are kept by a test.
 
-ghost use Rattle.std.specs.Prelude.{◌≡◌, ◌≤◌, Bool, Some, IsSome, filter};
+ghost use Rattle.std.specs.Prelude.{◌≡◌, ◌≤◌, Some, IsSome};
 ghost use Rattle.std.specs.Option.{option_map};
 ghost use Rattle.std.specs.List.Retain.{IsFiltered};
 ghost use Rattle.chain_base.specs.Chain.{Entry};
@@ -19,11 +19,6 @@ impl<K: Ord + Drop, V: Drop, P: BasePtr, A: Allocator> SortedArena<K, V, P, A> {
     pub fn retain<F: FnMut(&K, &V) -> bool>(&mut self, mut f: F)
         requires { F.IsAlwaysCallable f }
         ensures filtered { IsFiltered (AnswersFor F.FnMut) f self.old.entries self.new.entries }
-        // where each answer is that of a test of keys and values
-        ensures chosen { (test : Entry (K × V) → Bool)
-            → ((g : F) (e : Entry (K × V)) (answer : Bool) (next : F)
-            → AnswersFor F.FnMut g e answer next → answer ≡ test e)
-            → self.new.entries ≡ filter test self.old.entries }
         ensures after { self.new ≡ with_rest P.Gen.greatest self.old self.new.entries }
         ensures count { count self.new ≤ count self.old }
         ensures sound { IsSound K.cmp P.Inx.most self.new }

@@ -1,5 +1,4 @@
 use Rattle.std.proofs.Common.{◌∙◌, ℕ, Option, sym, ap, subst}
-use Rattle.std.proofs.lemmas.List.Elements.{filter_from_retain}
 use Rattle.std.specs.Option.{option_map}
 use Rattle.sorted_arena.specs.Answer.{AnswersFor}
 use Rattle.sorted_arena.specs.Taking.{IsCutAt, AsksFor}
@@ -44,6 +43,3 @@ pub returns-clause-filtered : goal.returns-clause-filtered
 returns-clause-filtered g c =
     (retains-done (AnswersFor g.F.FnMut) g.P.Gen.BasePtrGen.greatest c.args.self.now c.args.f c.loop-next.self (option_map g.P.BasePtr.numbers c.loop-next.next) c.loop-next.f c.loop-next.invariant.distinct
     c.loop-next.invariant.retains (ap (option_map g.P.BasePtr.numbers) c.in_default.is)).0
-
-pub returns-clause-chosen : goal.returns-clause-chosen
-returns-clause-chosen g c test says = filter_from_retain (AnswersFor g.F.FnMut) test says c.args.f c.args.self.now.entries c.loop-next.self.entries (returns-clause-filtered g c)
