@@ -1,14 +1,10 @@
 -- For callers: what pointers find after a write through a reference that went out.
-use Rattle.std.proofs.Common.{◌≡◌, ◌≢◌, ℕ, Bool, List, [], filter, Option, Some, None, IsSome, refl}
-use Rattle.std.proofs.lemmas.List.Elements.{filter_from_retain}
-use Rattle.std.specs.{Option.option_map, List.Retain.IsFiltered, Borrow.Bor}
-use denote.Param.Members.{Mut}
-use Rattle.chain_base.specs.Chain.{Entry}
+use Rattle.std.proofs.Common.{◌≡◌, ◌≢◌, ℕ, [], Option, Some, None, IsSome, refl}
+use Rattle.std.specs.Option.{option_map}
 use Rattle.chain_base.proofs.CallerLemmas.{length-with_item_among}
 use Rattle.ord_tree.specs.{Tree.Tree, Shape.missing}
 use Rattle.triple_ord.specs.Arena.{item_of}
 use Rattle.triple_ord.proofs.CallerLemmas.{found-written as found-there, others-written as others-there}
-use Rattle.sorted_arena.specs.Answer.{AnswersFor}
 use Rattle.sorted_arena.specs.Sorted.{Sorted, count, pair_of, with_value}
 
 module _ {K V : Type 0} (a : Sorted K V) (p : ℕ × ℕ) (v : V) where
@@ -39,8 +35,3 @@ module _ {K V : Type 0} (a : Sorted K V) (p : ℕ × ℕ) (v : V) where
 
 -- for a caller to cite
 pub ruleset written = (count-written, found-written, others-written)
-
--- what a test of keys and values keeps of a list of entries
-pub chosen : {F K V : Type 0} (g : Mut F (Bor K × (Bor V × Unit {0})) Bool) (test : Entry (K × V) → Bool) → ((f : F) (e : Entry (K × V)) (answer : Bool) (f' : F) → AnswersFor g f e answer f' → answer ≡ test e)
-    → (f : F) (es kept : List (Entry (K × V))) → IsFiltered (AnswersFor g) f es kept → kept ≡ filter test es
-chosen g test says f es kept filtered = filter_from_retain (AnswersFor g) test says f es kept filtered

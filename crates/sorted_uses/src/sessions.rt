@@ -103,7 +103,6 @@ pub fn drop_due(sessions: &mut Sessions, now: u64) -> usize
     sessions.remove_until(&now)
 }
 
-#[tactic(auto, using(sorted_arena::proofs::CallerLemmas::chosen))]
 /// Ends all sessions of a user.
 pub fn end_user(sessions: &mut Sessions, user: u64)
     ensures left { sessions.new.entries

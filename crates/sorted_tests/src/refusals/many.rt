@@ -5,13 +5,27 @@ use linked_list_allocator::LocalHeap;
 use sorted_arena::SortedError;
 use std::alloc::Global;
 
-/// Pairs with the keys from one number until before nine, each with the value 7.
-fn rising(alloc: Global, from: u64) -> Option<Vec<(u64, usize)>> {
+/// Pairs with the keys from one number until before another, each with the value 7.
+fn between(alloc: Global, from: u64, until: u64) -> Option<Vec<(u64, usize)>> {
     let mut pairs = Vec::new(alloc);
-    for k in from..9 {
+    for k in from..until {
         pairs.push((k, 7)).ok()?;
     }
     Some(pairs)
+}
+
+/// Pairs with the keys from one number until before nine.
+fn rising(alloc: Global, from: u64) -> Option<Vec<(u64, usize)>> {
+    between(alloc, from, 9)
+}
+
+/// An arena of the pairs with the keys until before a number, which takes memory once, so that the rest of the heap is one block.
+fn filled<'h>(alloc: Global, heap: &'h LocalHeap, until: u64) -> Option<OnHeap<'h>> {
+    let pairs = between(alloc, 0, until)?;
+    let mut arena = OnHeap::new(heap);
+    arena.reserve(pairs.len()).ok()?;
+    arena.extend_sorted(pairs).ok()?;
+    Some(arena)
 }
 
 /// How many entries an arena has, if their keys are the numbers from 0 on, and their values 7.
@@ -112,7 +126,7 @@ fn takes(alloc: Global, heap: &LocalHeap, call: Move, units: usize) -> Option<bo
 
 /// Splits nine entries at the fifth, as [`takes`].
 fn splits(alloc: Global, heap: &LocalHeap, units: usize) -> Option<bool> {
-    let mut arena = OnHeap::from_sorted(heap, rising(alloc, 0)?).ok()?;
+    let mut arena = filled(alloc, heap, 9)?;
     let rest = leave(heap, units)?;
     let was_refused = arena.split_off(heap, &4).is_err();
     if was_refused && count(&arena) != Some(9) {
@@ -131,9 +145,7 @@ fn splits(alloc: Global, heap: &LocalHeap, units: usize) -> Option<bool> {
 /// Takes five entries in behind four, as [`takes`].
 fn appends(alloc: Global, heap: &LocalHeap, units: usize) -> Option<bool> {
     let mut other = Numbers::from_sorted(alloc, rising(alloc, 4)?).ok()?;
-    let mut arena = OnHeap::from_sorted(heap, rising(alloc, 0)?).ok()?;
-    arena.remove_range(4..);
-    arena.shrink();
+    let mut arena = filled(alloc, heap, 4)?;
     let rest = leave(heap, units)?;
     let was_refused = arena.append(&mut other).is_err();
     if was_refused && (count(&arena), other.len()) != (Some(4), 5) {
@@ -146,7 +158,7 @@ fn appends(alloc: Global, heap: &LocalHeap, units: usize) -> Option<bool> {
 
 /// Clones nine entries, as [`takes`].
 fn clones(alloc: Global, heap: &LocalHeap, units: usize) -> Option<bool> {
-    let arena = OnHeap::from_sorted(heap, rising(alloc, 0)?).ok()?;
+    let arena = filled(alloc, heap, 9)?;
     let rest = leave(heap, units)?;
     let was_refused = arena.clone().is_err();
     drop(rest);
