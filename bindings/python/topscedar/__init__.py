@@ -325,9 +325,10 @@ class OrderedArena:
         return entry
 
     def pop_until(self, key: int) -> Iterator[Entry]:
-        """Removes the entries whose key is at most `key`, and yields them in order, each before the next is asked for.
+        """Removes the entries whose key is at most `key`, and yields them in order.
 
-        They are removed in batches, so up to 255 entries are gone that were not yielded if the iteration is not finished.
+        They are removed 256 at a time, when the first of them is asked for. If the iteration is not finished, up to 255 entries
+        are gone that were not yielded.
         """
         batch, filled = (_Entry * _BATCH)(), c_size_t(_BATCH)
         until = _key(key)

@@ -257,8 +257,10 @@ impl OrderedArena {
         self.end(raw::topscedar_arena_pop_last)
     }
 
-    /// Removes the entries whose key is at most `until`, and returns them in order. Entries that the iterator has not given when it
-    /// is dropped stay, except those of the batch that it holds.
+    /// Returns an iterator that removes the entries whose key is at most `until` and gives them in order.
+    ///
+    /// They are removed 64 at a time, when the first of them is asked for. If the iterator is dropped early, up to 63 entries are gone
+    /// that it did not give.
     pub fn pop_until(&mut self, until: i64) -> PopUntil<'_> {
         PopUntil::new(self, until)
     }
