@@ -1,0 +1,133 @@
+-- What the calls answer, from what was found in the arena.
+use Rattle.std.proofs.Common.{◌≡◌, ◌≢◌, ℕ, ℤ, Bool, true, false, List, [], ◌∷◌, length, Option, Some, None, is_some, Result, Ok, Err, IsSomeAnd, IfNone, OnSome, OnOk, ◌↔◌, refl, sym, ap, ◌∙◌, subst, arith, lit<}
+use Rattle.std.specs.Option.{option_map, option_and_then}
+use Rattle.std.specs.Ordering.{int_cmp, is_eq}
+use Rattle.std.specs.declared.cmp.Ordering.{Ordering}
+use Rattle.chain_base.specs.Chain.{Entry as Listed, IsDistinct, last_pointer, item_of}
+use Rattle.sorted_arena.specs.Sorted.{first_where, key_of, last_item}
+use Rattle.sorted_arena.proofs.Cutting.{last-named, last-none}
+use Rattle.arena_c.specs.declared.entry.Entry.{Entry}
+use Rattle.arena_c.specs.Shown.{Arena, entry_found}
+use Rattle.std.specs.List.{Contains}
+use Rattle.sorted_arena.specs.declared.error.UniqueInsertionError.{UniqueInsertionError}
+use Rattle.sorted_arena.specs.declared.error.UniqueInsertionError.TheVariants.{EqualKey, BeyondMaxCapacity, AllocError}
+use Rattle.arena_base.specs.declared.error.ReallocationError.{ReallocationError}
+use Rattle.arena_base.specs.declared.error.ReallocationError.TheVariants.{BeyondMaxCapacity as Beyond, AllocError as NoMemory}
+use Rattle.arena_c.specs.Status.{ok, full, no_memory, closed, out_of_order}
+use Rattle.arena_c.specs.Answer.{found_status, found_or, look_status, Becomes, Looks, Changes, status_of_reservation}
+
+-- pointers are their own numbers
+pub own-numbers : {X : Type 0} (o : Option X) → o ≡ option_map (λ x. x) o
+own-numbers None = refl
+own-numbers (Some x) = refl
+
+-- what a search found in a content that was lent twice
+pub found-at : (place : Arena → Option (ℕ × ℕ)) (a lent inside : Arena) (o : Option (ℕ × ℕ)) (found : Option Entry) → lent ≡ a → inside ≡ a → option_map (λ p. p) o ≡ place inside → found ≡ entry_found lent o
+    → found ≡ entry_found a (place a)
+found-at place a lent inside o found same_lent same_inside value is = is ∙ ap (λ (l : Arena). entry_found l o) same_lent ∙ ap (entry_found a) (own-numbers o ∙ value ∙ ap place same_inside)
+
+-- the same by a key, which came through a reference
+pub found-by : (test : Ordering → Bool) (a lent inside : Arena) (key same_key : ℤ) (o : Option (ℕ × ℕ)) (found : Option Entry) → same_key ≡ key → lent ≡ a → inside ≡ a
+    → option_map (λ p. p) o ≡ first_where (λ e. test (int_cmp same_key (key_of e))) inside.entries → found ≡ entry_found lent o
+    → found ≡ entry_found a (first_where (λ e. test (int_cmp key (key_of e))) a.entries)
+found-by test a lent inside key same_key o found same_k same_lent same_inside value is =
+    found-at (λ (b : Arena). first_where (λ e. test (int_cmp key (key_of e))) b.entries) a lent inside o found same_lent same_inside
+    (value ∙ ap (λ (k : ℤ). first_where (λ e. test (int_cmp k (key_of e))) inside.entries) same_k) is
+
+module _ {X : Type 0} (look : Arena → Option X) (a : Arena) (old new : Option Arena) (status : ℕ) (before after : X) (found : Option X)
+    (taken : Some a ≡ old) (same : found ≡ look a) (told : status ≡ found_status found) (wrote : after ≡ found_or before found) where
+  answered : status ≡ look_status look old
+  answered = told ∙ ap found_status same ∙ ap (look_status look) taken
+
+  written : after ≡ found_or before (option_and_then look old)
+  written = wrote ∙ ap (found_or before) (same ∙ ap (option_and_then look) taken)
+
+  -- a call that looked into an open arena
+  pub looks : new ≡ Some a → Looks look old new status before after
+  looks put = record { answer = answered; written = written; arena = put ∙ taken }
+
+  -- a call that changed an open arena
+  pub changes : (change : Arena → Arena → Type 0) (b : Arena) → new ≡ Some b → (found_status found ≡ ok → change a b) → (found_status found ≢ ok → b ≡ a)
+      → Changes look change old new status before after
+  changes change b put done kept = record {
+    answer = answered;
+    written = written;
+    changed = λ is. subst (λ (n : Option Arena). Becomes change old n) (sym put) (subst (λ (o : Option Arena). Becomes change o (Some b)) taken (done (sym told ∙ is)));
+    kept = λ other. put ∙ ap Some (kept (λ is. other (told ∙ is))) ∙ taken;
+  }
+
+-- two open arenas, the first of which was changed so to the second
+pub becomes : (change : Arena → Arena → Type 0) (a b : Arena) (old new : Option Arena) → Some a ≡ old → new ≡ Some b → change a b → Becomes change old new
+becomes change a b old new taken put fact = subst (λ (n : Option Arena). Becomes change old n) (sym put) (subst (λ (o : Option Arena). Becomes change o (Some b)) taken fact)
+
+-- a status that tells whether an entry of an open arena has an equal key
+pub equal-told : (held : Option Arena) (a inside : Arena) (key same_key : ℤ) (Told Refused : Type 0) → Some a ≡ held → inside ≡ a → same_key ≡ key
+    → (Refused ↔ (is_some (first_where (λ e. is_eq (int_cmp same_key (key_of e))) inside.entries) ≡ true)) → (Told ↔ Refused)
+    → (Told ↔ IsSomeAnd held (λ b. is_some (first_where (λ e. is_eq (int_cmp key (key_of e))) b.entries) ≡ true))
+equal-told held a inside key same_key Told Refused taken same_inside same_k fact told =
+    subst (λ (h : Option Arena). Told ↔ IsSomeAnd h (λ b. is_some (first_where (λ e. is_eq (int_cmp key (key_of e))) b.entries) ≡ true)) taken
+    ((λ h. subst (λ o. is_some o ≡ true) same (fact.0 (told.0 h))), (λ p. told.1 (fact.1 (subst (λ o. is_some o ≡ true) (sym same) p))))
+  where
+    same : first_where (λ e. is_eq (int_cmp same_key (key_of e))) inside.entries ≡ first_where (λ e. is_eq (int_cmp key (key_of e))) a.entries
+    same = ap (λ (k : ℤ). first_where (λ e. is_eq (int_cmp k (key_of e))) inside.entries) same_k ∙ ap (λ (i : Arena). first_where (λ e. is_eq (int_cmp key (key_of e))) i.entries) same_inside
+
+-- the last entry is there exactly if there is a last item
+module _ (a : Arena) (distinct : IsDistinct a.entries) where
+  last-there : is_some (entry_found a (last_pointer a.entries)) ≡ is_some (last_item a.entries)
+  last-there = go (last_pointer a.entries) refl
+    where
+      none : (es : List (Listed (ℤ × ℕ))) → length es ≡ 0 → last_item es ≡ None
+      none [] empty = refl
+      none (e ∷ es) empty = absurd (omega arith)
+
+      some : (p : ℕ × ℕ) → is_some (entry_found a (Some p)) ≡ is_some (item_of a.entries p)
+      some p = go' (item_of a.entries p) refl
+        where
+          go' : (o : Option (ℤ × ℕ)) → item_of a.entries p ≡ o → is_some (entry_found a (Some p)) ≡ is_some (item_of a.entries p)
+          go' None is = rw is refl
+          go' (Some x) is = rw is refl
+
+      go : (o : Option (ℕ × ℕ)) → last_pointer a.entries ≡ o → is_some (entry_found a (last_pointer a.entries)) ≡ is_some (last_item a.entries)
+      go None is = ap (λ (o : Option (ℕ × ℕ)). is_some (entry_found a o)) is ∙ ap (λ (o : Option (ℤ × ℕ)). is_some o) (sym (none a.entries (last-none a.entries is)))
+      go (Some p) is = ap (λ (o : Option (ℕ × ℕ)). is_some (entry_found a o)) is ∙ some p ∙ ap (λ (o : Option (ℤ × ℕ)). is_some o) (last-named a.entries distinct p is).0
+
+  -- a removal of the last item by a call that found the last entry
+  pub popped-last : (found : Option Entry) (popped : Option (ℤ × ℕ)) (b left : Arena) → found ≡ entry_found a (last_pointer a.entries) → popped ≡ last_item a.entries
+      → OnSome popped (b ≡ left) → IfNone popped (b ≡ a) → (found_status found ≡ ok → b ≡ left) × (found_status found ≢ ok → b ≡ a)
+  popped-last found popped b left is_found is_popped some none = go found popped (ap (λ (o : Option Entry). is_some o) is_found ∙ last-there ∙ sym (ap (λ (o : Option (ℤ × ℕ)). is_some o) is_popped)) some none
+    where
+      go : (found : Option Entry) (popped : Option (ℤ × ℕ)) → is_some found ≡ is_some popped → OnSome popped (b ≡ left) → IfNone popped (b ≡ a)
+          → (found_status found ≡ ok → b ≡ left) × (found_status found ≢ ok → b ≡ a)
+      go None None same some none = ((λ is. absurd (omega arith)), (λ is. none))
+      go None (Some y) same some none = absurd (cc)
+      go (Some x) None same some none = absurd (cc)
+      go (Some x) (Some y) same some none = ((λ is. some), (λ other. absurd (other refl)))
+
+-- two refusals of one insertion have one reason
+abbrev reason_or : {T A B : Type 0} → B → Result T (A × B) → B
+reason_or other (Ok t) = other
+reason_or other (Err e) = e.1
+
+same-reason : {T A B : Type 0} (result : Result T (A × B)) (p q : A) (x y : B) → result ≡ Err (p, x) → result ≡ Err (q, y) → x ≡ y
+same-reason result p q x y one other = ap (reason_or x) (sym one ∙ other)
+
+pub not-equal : {T A : Type 0} (result : Result T (A × UniqueInsertionError)) (p q : A) (x : UniqueInsertionError) → result ≡ Err (p, x) → (x ≡ EqualKey → ⊥) → result ≡ Err (q, EqualKey) → ⊥
+not-equal result p q x one other is = other (same-reason result p q x EqualKey one is)
+
+pub full-not-equal : BeyondMaxCapacity ≡ EqualKey → ⊥
+full-not-equal clash = cc clash
+
+pub memory-not-equal : AllocError ≡ EqualKey → ⊥
+memory-not-equal clash = cc clash
+
+-- a reservation has one of these statuses
+pub known-reservation : (r : Result (Unit {0}) ReallocationError) → Contains (ok ∷ full ∷ no_memory ∷ closed ∷ out_of_order ∷ []) (status_of_reservation r)
+known-reservation (Ok u) = (0, lit< tt, refl)
+known-reservation (Err Beyond) = (1, lit< tt, refl)
+known-reservation (Err NoMemory) = (2, lit< tt, refl)
+
+-- what holds if a reservation has the status OK
+pub reserved : {P : Type 0} (r : Result (Unit {0}) ReallocationError) (status : ℕ) → status ≡ status_of_reservation r → status ≡ ok → OnOk r P → P
+reserved (Ok u) status is done fact = fact
+reserved (Err Beyond) status is done fact = absurd (omega arith)
+reserved (Err NoMemory) status is done fact = absurd (omega arith)

@@ -1,0 +1,4 @@
+-- What the proofs share.
+pub mod Owned
+pub mod Runs
+pub mod Answers

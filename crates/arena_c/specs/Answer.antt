@@ -1,0 +1,45 @@
+-- What a call leaves and answers.
+use Rattle.std.specs.Prelude.{◌≡◌, ◌≢◌, ℕ, Option, Some, None, is_some, if◌then◌else◌, Result, Ok, Err}
+use Rattle.std.specs.Option.{option_map_or, option_and_then}
+use Rattle.arena_base.specs.declared.error.ReallocationError.{ReallocationError}
+use Rattle.arena_base.specs.declared.error.ReallocationError.TheVariants.{BeyondMaxCapacity, AllocError}
+use Rattle.arena_c.specs.Shown.{Arena}
+use Rattle.arena_c.specs.Status.{ok, not_found, full, no_memory, closed}
+
+module _ {X : Type 0} where
+  -- the status of a call that found this, or nothing
+  abbrev pub found_status : Option X → ℕ
+  found_status found = if is_some found then ok else not_found
+
+  -- what a call that found this, or nothing, leaves in the variable for it
+  abbrev pub found_or : X → Option X → X
+  found_or before found = option_map_or (λ x. x) found before
+
+  -- the status of a call that looks for something in an arena, which may be closed
+  abbrev pub look_status : (Arena → Option X) → Option Arena → ℕ
+  look_status look arena = option_map_or (λ a. found_status (look a)) arena closed
+
+  -- A call that looks for something in an arena. It answers whether it found it, and writes it exactly then. The arena stays as it is.
+  pub record Looks (look : Arena → Option X) (old new : Option Arena) (status : ℕ) (before after : X) : Type 0 where
+    pub answer : status ≡ look_status look old
+    pub written : after ≡ found_or before (option_and_then look old)
+    pub arena : new ≡ old
+
+-- both arenas are open, and the first was changed so to the second
+abbrev pub Becomes : (Arena → Arena → Type 0) → Option Arena → Option Arena → Type 0
+Becomes change None new = ⊥
+Becomes change (Some a) None = ⊥
+Becomes change (Some a) (Some b) = change a b
+
+-- A call that changes what it finds. It answers whether it found it, and writes it exactly then. If it found nothing, the arena stays as it is.
+pub record Changes {X : Type 0} (look : Arena → Option X) (change : Arena → Arena → Type 0) (old new : Option Arena) (status : ℕ) (before after : X) : Type 0 where
+  pub answer : status ≡ look_status look old
+  pub written : after ≡ found_or before (option_and_then look old)
+  pub changed : status ≡ ok → Becomes change old new
+  pub kept : status ≢ ok → new ≡ old
+
+-- the status of a reservation
+abbrev pub status_of_reservation : Result (Unit {0}) ReallocationError → ℕ
+status_of_reservation (Ok u) = ok
+status_of_reservation (Err BeyondMaxCapacity) = full
+status_of_reservation (Err AllocError) = no_memory

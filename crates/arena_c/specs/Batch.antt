@@ -1,0 +1,26 @@
+-- Calls on many entries.
+use Rattle.std.specs.Prelude.{◌≡◌, ℕ, ◌+◌, ℤ, ◌++◌, min, Bool, false, if◌then◌else◌, List, [], ◌∷◌, length, map, take, drop, Option, Some, None}
+use Rattle.std.specs.Ordering.{int_cmp, is_gt}
+use Rattle.std.specs.Option.{option_map, option_map_or}
+use Rattle.chain_base.specs.Chain.{Entry as Listed}
+use Rattle.sorted_arena.specs.Sorted.{key_of, last_item}
+use Rattle.arena_c.specs.declared.entry.Entry.{Entry}
+use Rattle.arena_c.specs.Shown.{Arena, shown_entry}
+
+-- the index of the first key that is smaller than the one before it; one may stand before the first key, whose index is `at`
+abbrev pub first_fall : Option ℤ → List ℤ → ℕ → Option ℕ
+first_fall before [] at = None
+first_fall before (k ∷ ks) at = if option_map_or (λ b. is_gt (int_cmp b k)) before false then Some at else first_fall (Some k) ks (at + 1)
+
+-- the index of the first key that can't come next behind all entries of an arena
+abbrev pub fall_behind : Arena → List ℤ → Option ℕ
+fall_behind a keys = first_fall (option_map (λ pair. pair.0) (last_item a.entries)) keys 0
+
+-- as many of these entries are written to the front of an array as it has room for, and it stays as it is behind them
+pub record Fills (es : List (Listed (ℤ × ℕ))) (before after : List Entry) (filled : ℕ) : Type 0 where
+  pub count : filled ≡ min (length before) (length es)
+  pub written : after ≡ map shown_entry (take filled es) ++ drop filled before
+
+-- the keys of the pairs of two arrays
+abbrev pub paired_keys : List ℤ → List ℕ → List ℤ
+paired_keys keys values = take (min (length keys) (length values)) keys

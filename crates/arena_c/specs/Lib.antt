@@ -1,0 +1,6 @@
+-- The definitions that the contracts cite.
+pub mod Slot
+pub mod Status
+pub mod Shown
+pub mod Answer
+pub mod Batch

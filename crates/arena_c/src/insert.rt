@@ -1,0 +1,87 @@
+//! Insertions.
+
+ghost use Rattle.std.specs.Prelude.{◌≡◌, ◌≢◌, ◌↔◌, [], ◌∷◌, Some, None, IsSomeAnd, is_some, true};
+ghost use Rattle.std.specs.List.{Contains};
+ghost use Rattle.std.specs.Ordering.{int_cmp, is_eq};
+ghost use Rattle.sorted_arena.specs.Sorted.{count, first_where, key_of, Inserts, IsAbsent, Updates};
+ghost use Rattle.arena_c.specs.Answer.{Becomes};
+ghost use Rattle.arena_c.specs.Shown.{most, numbers_of};
+ghost use Rattle.arena_c.specs.Status.{ok, full, no_memory, closed, equal_key};
+
+use crate::entry::Pointer;
+use crate::handle::Handle;
+use crate::status::{CLOSED, EQUAL_KEY, FULL, NO_MEMORY, OK};
+use sorted_arena::{ReallocationError, UniqueInsertionError};
+use std::alloc::Global;
+
+/// Inserts an entry behind all whose key is at most `key`, and writes its pointer. `OK`, `FULL`, `NO_MEMORY` or `CLOSED`; on all but
+/// `OK` nothing changes. O(log n), plus O(n) when the arena grows (amortized O(1)).
+#[unsafe(no_mangle)]
+pub extern "C" fn topscedar_arena_insert(
+    alloc: Global,
+    arena: &mut Handle,
+    key: i64,
+    value: u64,
+    pointer: &mut Pointer,
+) -> u8
+    ensures known { Contains (ok ∷ full ∷ no_memory ∷ closed ∷ []) result }
+    ensures inserted { result ≡ ok → Becomes (λ a b. Inserts int_cmp most a
+        (numbers_of pointer.new) key value b) arena.old.slot.held arena.new.slot.held }
+    ensures updates { result ≡ ok → Becomes (λ a b. Updates a b
+        (numbers_of pointer.new) (Some (key, value))) arena.old.slot.held arena.new.slot.held }
+    ensures full { (result ≡ full) ↔ IsSomeAnd arena.old.slot.held (λ a. count a ≡ most) }
+    ensures memory { result ≡ no_memory → IsSomeAnd arena.old.slot.held (λ a. count a ≡ a.capacity) }
+    ensures closed { (result ≡ closed) ↔ (arena.old.slot.held ≡ None) }
+    ensures kept { result ≢ ok → (arena.new.slot.held ≡ arena.old.slot.held) × (pointer.new ≡ pointer.old) }
+{
+    let Some(mut content) = arena.take(alloc) else {
+        return CLOSED;
+    };
+    let inserted = content.pairs.insert(key, value);
+    arena.put(content);
+    match inserted {
+        Ok(p) => {
+            *pointer = Pointer::of(p);
+            OK
+        }
+        Err((_, ReallocationError::BeyondMaxCapacity)) => FULL,
+        Err((_, ReallocationError::AllocError)) => NO_MEMORY,
+    }
+}
+
+/// Inserts an entry, as `topscedar_arena_insert` does, unless one has an equal key: then `EQUAL_KEY`, and nothing changes.
+#[unsafe(no_mangle)]
+pub extern "C" fn topscedar_arena_insert_unique(
+    alloc: Global,
+    arena: &mut Handle,
+    key: i64,
+    value: u64,
+    pointer: &mut Pointer,
+) -> u8
+    ensures known { Contains (ok ∷ full ∷ no_memory ∷ closed ∷ equal_key ∷ []) result }
+    ensures inserted { result ≡ ok → Becomes (λ a b. IsAbsent int_cmp a key
+        × Inserts int_cmp most a (numbers_of pointer.new) key value b) arena.old.slot.held arena.new.slot.held }
+    ensures updates { result ≡ ok → Becomes (λ a b. Updates a b
+        (numbers_of pointer.new) (Some (key, value))) arena.old.slot.held arena.new.slot.held }
+    ensures equal { (result ≡ equal_key) ↔ IsSomeAnd arena.old.slot.held (λ a.
+        is_some (first_where (λ e. is_eq (int_cmp key (key_of e))) a.entries) ≡ true) }
+    ensures full { result ≡ full → IsSomeAnd arena.old.slot.held (λ a. count a ≡ most) }
+    ensures memory { result ≡ no_memory → IsSomeAnd arena.old.slot.held (λ a. count a ≡ a.capacity) }
+    ensures closed { (result ≡ closed) ↔ (arena.old.slot.held ≡ None) }
+    ensures kept { result ≢ ok → (arena.new.slot.held ≡ arena.old.slot.held) × (pointer.new ≡ pointer.old) }
+{
+    let Some(mut content) = arena.take(alloc) else {
+        return CLOSED;
+    };
+    let inserted = content.pairs.insert_unique(key, value);
+    arena.put(content);
+    match inserted {
+        Ok(p) => {
+            *pointer = Pointer::of(p);
+            OK
+        }
+        Err((_, UniqueInsertionError::EqualKey)) => EQUAL_KEY,
+        Err((_, UniqueInsertionError::BeyondMaxCapacity)) => FULL,
+        Err((_, UniqueInsertionError::AllocError)) => NO_MEMORY,
+    }
+}

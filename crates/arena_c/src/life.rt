@@ -1,0 +1,113 @@
+//! A handle from opening to closing.
+
+ghost use Rattle.std.specs.Prelude.{◌≡◌, ◌≢◌, ◌↔◌, ◌+◌, ◌≤◌, ◌<◌, [], ◌∷◌, Some, None, IsSomeAnd, is_some, true, if◌then◌else◌};
+ghost use Rattle.std.specs.List.{Contains};
+ghost use Rattle.sorted_arena.specs.Sorted.{count, with_left};
+ghost use Rattle.arena_c.specs.Answer.{Becomes, Looks, status_of_reservation};
+ghost use Rattle.arena_c.specs.Shown.{greatest, most, new_arena};
+ghost use Rattle.arena_c.specs.Status.{ok, full, no_memory, closed};
+
+use crate::content::Content;
+use crate::handle::Handle;
+use crate::status::{CLOSED, FULL, NO_MEMORY, OK};
+use sorted_arena::ReallocationError;
+use std::alloc::Global;
+
+/// Opens a closed handle with an empty arena. An open handle stays as it is. `OK` or `NO_MEMORY`; then nothing changes.
+#[unsafe(no_mangle)]
+pub extern "C" fn topscedar_arena_open(alloc: Global, arena: &mut Handle) -> u8
+    ensures known { Contains (ok ∷ no_memory ∷ []) result }
+    ensures opened { arena.old.slot.held ≡ None → result ≡ ok → arena.new.slot.held ≡ Some new_arena }
+    ensures open { is_some arena.old.slot.held ≡ true → (result ≡ ok) × (arena.new.slot.held ≡ arena.old.slot.held) }
+    ensures refused { result ≡ no_memory → arena.new.slot.held ≡ arena.old.slot.held }
+{
+    if arena.is_open() {
+        return OK;
+    }
+    match Box::new(alloc, Content::new(alloc)) {
+        Ok(content) => {
+            arena.put(content);
+            OK
+        }
+        Err(_) => NO_MEMORY,
+    }
+}
+
+/// Closes a handle. Its entries are dropped, and its memory is given back. `OK`, or `CLOSED` if it was closed.
+#[unsafe(no_mangle)]
+pub extern "C" fn topscedar_arena_close(alloc: Global, arena: &mut Handle) -> u8
+    ensures status { result ≡ (if is_some arena.old.slot.held then ok else closed) }
+    ensures closed { arena.new.slot.held ≡ None }
+{
+    match arena.take(alloc) {
+        Some(_) => OK,
+        None => CLOSED,
+    }
+}
+
+/// Writes the number of entries. `OK` or `CLOSED`.
+#[unsafe(no_mangle)]
+pub extern "C" fn topscedar_arena_length(
+    alloc: Global,
+    arena: &mut Handle,
+    length: &mut usize,
+) -> u8
+    ensures { Looks (λ a. Some (count a)) arena.old.slot.held arena.new.slot.held result length.old length.new }
+{
+    let Some(content) = arena.take(alloc) else {
+        return CLOSED;
+    };
+    let found = content.pairs.len();
+    arena.answer(content, Some(found), length)
+}
+
+/// Makes room for `additional` more entries. `OK`, `FULL`, `NO_MEMORY` or `CLOSED`; on all but `OK` nothing changes.
+#[unsafe(no_mangle)]
+pub extern "C" fn topscedar_arena_reserve(
+    alloc: Global,
+    arena: &mut Handle,
+    additional: usize,
+) -> u8
+    ensures known { Contains (ok ∷ full ∷ no_memory ∷ closed ∷ []) result }
+    ensures room { result ≡ ok → Becomes (λ a b. (b.entries ≡ a.entries)
+        × (b.generation ≡ a.generation) × (count a + additional ≤ b.capacity)) arena.old.slot.held arena.new.slot.held }
+    ensures full { (result ≡ full) ↔ IsSomeAnd arena.old.slot.held (λ a. most < count a + additional) }
+    ensures memory { result ≡ no_memory
+        → IsSomeAnd arena.old.slot.held (λ a. a.capacity < count a + additional) }
+    ensures closed { (result ≡ closed) ↔ (arena.old.slot.held ≡ None) }
+    ensures kept { result ≢ ok → arena.new.slot.held ≡ arena.old.slot.held }
+{
+    let Some(mut content) = arena.take(alloc) else {
+        return CLOSED;
+    };
+    let reserved = content.pairs.reserve(additional);
+    arena.put(content);
+    reservation_status(reserved)
+}
+
+/// The status of a reservation.
+pub fn reservation_status(reserved: Result<(), ReallocationError>) -> u8
+    ensures { result ≡ status_of_reservation reserved }
+{
+    match reserved {
+        Ok(()) => OK,
+        Err(ReallocationError::BeyondMaxCapacity) => FULL,
+        Err(ReallocationError::AllocError) => NO_MEMORY,
+    }
+}
+
+/// Removes all entries; the capacity stays. `OK` or `CLOSED`.
+#[unsafe(no_mangle)]
+pub extern "C" fn topscedar_arena_clear(alloc: Global, arena: &mut Handle) -> u8
+    ensures status { result ≡ (if is_some arena.old.slot.held then ok else closed) }
+    ensures cleared { result ≡ ok
+        → Becomes (λ a b. b ≡ with_left greatest a []) arena.old.slot.held arena.new.slot.held }
+    ensures kept { result ≢ ok → arena.new.slot.held ≡ arena.old.slot.held }
+{
+    let Some(mut content) = arena.take(alloc) else {
+        return CLOSED;
+    };
+    content.pairs.clear();
+    arena.put(content);
+    OK
+}

@@ -1,0 +1,127 @@
+//! Runs of entries: pairs that come in, and entries that go out.
+
+ghost use Rattle.std.specs.Prelude.{◌≡◌, ◌+◌, ◌<◌, ◌≤◌, ◌++◌, length, map, drop, false, None, IsSome, Err, OnOk, OnErr};
+ghost use Rattle.std.specs.List.{zip};
+ghost use Rattle.std.specs.Option.{option_map, option_map_or};
+ghost use Rattle.std.specs.Ordering.{int_cmp, is_gt};
+ghost use Rattle.chain_base.specs.Chain.{first_pointer, from_index};
+ghost use Rattle.sorted_arena.specs.Sorted.{count, entries_until, item_of, last_item, pair_of};
+ghost use Rattle.arena_c.specs.Shown.{most};
+ghost use Rattle.arena_c.specs.Batch.{fall_behind, first_fall, Fills};
+
+use crate::content::Content;
+use crate::entry::Entry;
+use sorted_arena::{P0, ReallocationError};
+
+// Whether a key is smaller than the one before it, if there is one.
+fn is_fall(before: Option<i64>, key: i64) -> bool
+    ensures { result ≡ option_map_or (λ b. is_gt (int_cmp b key)) before false }
+{
+    match before {
+        Some(b) => b.cmp(&key).is_gt(),
+        None => false,
+    }
+}
+
+/// The index of the first key that is smaller than the one before it; `before` stands before the first.
+pub fn first_fall(before: Option<i64>, keys: &[i64]) -> Option<usize>
+    ensures { result ≡ first_fall before keys.now 0 }
+{
+    let mut before = before;
+    for (i, key) in keys.iter().enumerate() {
+        if is_fall(before, *key) {
+            return Some(i);
+        }
+        before = Some(*key);
+    }
+    None
+}
+
+impl Content {
+    /// The last key.
+    pub fn last_key(&self) -> Option<i64>
+        ensures { result ≡ option_map (λ pair. pair.0) (last_item self.now.entries) }
+    {
+        // with its length an arena tells what holds of it
+        let _ = self.pairs.len();
+        let last = self.pairs.last()?;
+        self.pairs.key(last).copied()
+    }
+
+    /// Inserts pairs in order behind all entries, for which there is room.
+    fn append(&mut self, keys: &[i64], values: &[u64])
+        requires order { fall_behind self.old keys.now ≡ None }
+        requires lengths { length keys.now ≡ length values.now }
+        requires room { count self.old + length keys.now ≤ self.old.capacity }
+        ensures entries { map item_of self.new.entries
+            ≡ map item_of self.old.entries ++ zip keys.now values.now }
+        ensures generation { self.new.generation ≡ self.old.generation }
+    {
+        for (i, key) in keys.iter().enumerate() {
+            // with its length an arena tells what holds of it
+            let _ = self.pairs.len();
+            match self.pairs.insert(*key, values[i]) {
+                Ok(_) => {}
+                // there is room
+                Err(_) => unreachable!(),
+            }
+        }
+    }
+
+    /// Makes room, and inserts pairs in order behind all entries. On `Err` nothing changes.
+    pub fn extend(&mut self, keys: &[i64], values: &[u64]) -> Result<(), ReallocationError>
+        requires order { fall_behind self.old keys.now ≡ None }
+        requires lengths { length keys.now ≡ length values.now }
+        ensures entries { OnOk result (map item_of self.new.entries
+            ≡ map item_of self.old.entries ++ zip keys.now values.now) }
+        ensures generation { self.new.generation ≡ self.old.generation }
+        ensures full { result ≡ Err ReallocationError.BeyondMaxCapacity
+            → most < count self.old + length keys.now }
+        ensures memory { result ≡ Err ReallocationError.AllocError
+            → self.old.capacity < count self.old + length keys.now }
+        ensures err { OnErr result (self.new ≡ self.old) }
+    {
+        self.pairs.reserve(keys.len())?;
+        self.append(keys, values);
+        Ok(())
+    }
+
+    /// Fills an array with the entries from the one at `first` on. Returns how many they are, and the pointer of the one behind them.
+    pub fn fill(&self, first: P0, entries: &mut [Entry]) -> (usize, Option<P0>)
+        requires { IsSome (pair_of self.now first) }
+        ensures filled { Fills (from_index self.now.entries first.0) entries.old entries.new result.0 }
+        ensures rest { result.1
+            ≡ first_pointer (drop result.0 (from_index self.now.entries first.0)) }
+    {
+        // with its length an arena tells what holds of it
+        let _ = self.pairs.len();
+        let mut next = Some(first);
+        for i in 0..entries.len() {
+            match self.entry_found(next) {
+                Some(entry) => {
+                    entries[i] = entry;
+                    next = self.pairs.next(entry.pointer.p0());
+                }
+                None => return (i, None),
+            }
+        }
+        (entries.len(), next)
+    }
+
+    /// Removes entries whose key is at most `until`, and fills an array with them. Returns how many they are.
+    pub fn pop_until(&mut self, until: i64, entries: &mut [Entry]) -> usize
+        ensures filled { Fills (entries_until int_cmp until self.old.entries)
+            entries.old entries.new result }
+        ensures left { self.new.entries ≡ drop result self.old.entries }
+        ensures capacity { self.new.capacity ≡ self.old.capacity }
+    {
+        for i in 0..entries.len() {
+            let first = self.entry_found(self.pairs.first());
+            match (first, self.pairs.pop_first_until(&until)) {
+                (Some(entry), Some(_)) => entries[i] = entry,
+                _ => return i,
+            }
+        }
+        entries.len()
+    }
+}
