@@ -1,5 +1,5 @@
-//! Measures an ordered arena beside std's `BTreeMap` and plain vectors, and its searches from a hint beside whole ones; and an
-//! agenda beside std's `BinaryHeap` and `BTreeMap`; and an order book beside two `BTreeMap`s.
+//! Measures an ordered arena beside std's `BTreeMap` and plain vectors, and its searches from a hint beside whole ones; and a sorted
+//! arena beside `BTreeMap`; and an agenda beside std's `BinaryHeap` and `BTreeMap`; and an order book beside two `BTreeMap`s.
 //!
 //! Each argument is a number of entries, of jobs, and of orders. Standard output gets the sums of what the measured calls answered,
 //! the same on each run; standard error gets their times, in nanoseconds an operation, the best of several rounds.
@@ -15,6 +15,8 @@ mod measures;
 mod rekeying;
 mod report;
 mod scheduling;
+mod sorted;
+mod sorting;
 mod store;
 mod task;
 mod timetable;
@@ -32,6 +34,7 @@ fn main(rt: HostRuntime) -> Result<()> {
             .context("a number of entries")?;
         measures::run(&rt, n)?;
         rekeying::run(&rt, n)?;
+        sorting::run(&rt, n)?;
         scheduling::run(&rt, n)?;
         trading::run(&rt, n)?;
     }

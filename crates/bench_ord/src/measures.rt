@@ -173,6 +173,7 @@ fn compare_finding(
     let measure = Measure {
         n: keys.len(),
         name: measure,
+        own_name: "arena",
         other_name: "BTreeMap",
     };
     let own = Finding { store: pairs, keys };
@@ -185,6 +186,7 @@ fn compare_hints(rt: &HostRuntime, measure: &str, pairs: &Pairs, places: usize) 
     let measure = Measure {
         n: hints.len(),
         name: measure,
+        own_name: "arena",
         other_name: "find_key",
     };
     let own = FromHints { pairs, hints };
@@ -195,6 +197,7 @@ fn compare_walking(rt: &HostRuntime, measure: &str, pairs: &Pairs, map: &Map) ->
     let measure = Measure {
         n: pairs.len(),
         name: measure,
+        own_name: "arena",
         other_name: "BTreeMap",
     };
     compare(
@@ -261,6 +264,7 @@ fn compare_reaching<R: Reached>(
     let measure = Measure {
         n: pointed.pointers.len(),
         name: "get by pointer",
+        own_name: "arena",
         other_name,
     };
     compare(rt, measure, &Getting(&pointed), &Getting(vector))
@@ -271,6 +275,7 @@ fn compare_with_slots(rt: &HostRuntime, pointed: Pointed, slots: &Slots) -> Resu
     let neighbours = Measure {
         n: pointed.pointers.len(),
         name: "both neighbours",
+        own_name: "arena",
         other_name: "Vec of slots",
     };
     compare(rt, neighbours, &Neighbours(&pointed), &Neighbours(slots))?;

@@ -11,11 +11,12 @@ pub trait Task {
     fn sum(&self) -> u64;
 }
 
-/// A measure of the arena: how many operations a round of it has, its name, and that of the structure beside the arena.
+/// A measure: how many operations a round of it has, its name, and those of the structure that is measured and of the one beside it.
 #[derive(Clone, Copy)]
 pub struct Measure<'a> {
     pub n: usize,
     pub name: &'a str,
+    pub own_name: &'a str,
     pub other_name: &'a str,
 }
 
@@ -25,23 +26,23 @@ fn lap<T: Task>(rt: &HostRuntime, task: &T) -> io::Result<Lap> {
     Lap::since(rt, start, sum)
 }
 
-/// Runs the rounds of the arena and of another structure in turn, and prints the best of each.
+/// Runs the rounds of a structure and of another one in turn, and prints the best of each.
 pub fn compare<A: Task, B: Task>(
     rt: &HostRuntime,
     measure: Measure,
-    arena: &A,
+    task: &A,
     other: &B,
 ) -> Result<()> {
-    let mut own = lap(rt, arena)?;
+    let mut own = lap(rt, task)?;
     let mut others = lap(rt, other)?;
     for _ in 1..rounds(measure.n) {
-        own = own.or_quicker(lap(rt, arena)?);
+        own = own.or_quicker(lap(rt, task)?);
         others = others.or_quicker(lap(rt, other)?);
     }
     let row = Row {
         n: measure.n,
         measure: measure.name,
-        name: "arena",
+        name: measure.own_name,
         own,
         other: others,
         other_name: measure.other_name,
