@@ -114,14 +114,15 @@ fn wrong_bounds(alloc: Global, n: usize, number: usize) -> Option<(u64, u64)> {
 
 #[test]
 fn each_range_is_drained_and_removed(rt: HostRuntime) {
-    for (n, orders) in &ORDERS[..5] {
+    for (n, orders) in &ORDERS[..4] {
         for number in 0..*orders {
             assert_eq!(rt; wrong_bounds(rt.alloc(), *n, number), None);
         }
     }
-    // some orders of five keys
-    for number in (0usize..243).step_by(11) {
-        assert_eq!(rt; wrong_bounds(rt.alloc(), 5, number), None);
+    // some orders of four and of five keys
+    for number in (0usize..81).step_by(7) {
+        assert_eq!(rt; wrong_bounds(rt.alloc(), 4, number), None);
+        assert_eq!(rt; wrong_bounds(rt.alloc(), 5, number.saturating_mul(3)), None);
     }
 }
 
