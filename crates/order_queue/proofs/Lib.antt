@@ -2,7 +2,6 @@ pub mod CallerLemmas
 -- Lemmas of this crate.
 pub mod Ranks
 pub mod Naming
-pub mod Leaving
 pub mod Putting
 pub mod Trading
 pub mod Taking

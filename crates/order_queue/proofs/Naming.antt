@@ -1,104 +1,114 @@
--- What pointers name after each change of a queue.
-use Rattle.std.proofs.Common.{◌≡◌, ◌≢◌, ℕ, ◌⊎◌, List, [], ◌∷◌, ◌++◌, Some, None, refl, sym, ap, ◌∙◌, inl, inr, if◌then◌else◌}
-use Rattle.std.proofs.lemmas.Bool.Decides.{eqb_tells}
-use Rattle.order_queue.specs.Queue.{Resting, Queue, is_named_by, order_of, without, with_left, IsDistinct, Rests, Updates}
+-- The orders of a queue and the entries of its arena: what a pointer names, and what a removal leaves.
+use Rattle.std.proofs.Common.{◌≡◌, ℕ, ◌<◌, ◌==◌, [], ◌∷◌, map, Option, Some, None, IsSome, refl, sym, ap, subst, ◌∙◌, arith, inl, inr, true, false, if◌then◌else◌}
+use Rattle.std.proofs.{lemmas.Bool.Decides.eqb_tells, lemmas.Grind.common_steps, lemmas.List.length-map}
+use Rattle.std.specs.{List.AllByRecursion, Option.option_map, Ordering.nat_cmp}
+use Rattle.chain_base.specs.Chain.{Entry, IsDistinct as AreDistinct, entry_at, item_of, first_pointer, without as without_index}
+use Rattle.chain_base.proofs.CallerLemmas.{entry_at-absent}
+use Rattle.sorted_arena.specs.Sorted.{Sorted, IsSound as IsSoundArena, Updates as UpdatesArena, without as without_entry}
+use Rattle.order_queue.specs.Queue.{most_orders, Updates, with_left, first_of, order_of, without, IsDistinct, IsSound}
+use Rattle.order_queue.specs.Layout.{ranked, resting, queue_of, IsLawful, AreLawful}
+use Rattle.order_queue.specs.{declared.order.Order.Order, declared.side.Side.Side}
+use Rattle.order_queue.proofs.{Ranks.Entries, Ranks.recursion-map, Ranks.in_order-sorted}
 
--- two pointers are one or differ
-one_or_other : (p q : ℕ × ℕ) → (p ≡ q) ⊎ (p ≢ q)
-one_or_other p q = elim (eqb_tells p.0 q.0) [
-  | inl h ↦ elim (eqb_tells p.1 q.1) [
-    | inl k ↦ inl (ap (λ i. (i, p.1)) h.1 ∙ ap (λ g. (q.0, g)) k.1)
-    | inr k ↦ inr (λ e. k.1 (ap (λ (w : ℕ × ℕ). w.1) e))
-  ]
-  | inr h ↦ inr (λ e. h.1 (ap (λ (w : ℕ × ℕ). w.0) e))
-]
+-- the entries behind the first have pairwise different indexes too, and none has the first's
+distinct-rest : (e : Entry (ℕ × ℕ)) (es : Entries) → AreDistinct (e ∷ es) → AreDistinct es
+distinct-rest e es distinct i = omega (arith, distinct i)
 
--- a pointer among orders of which the first has it, or another
-pub order_of-first : (x : Resting) (xs : List Resting) (p : ℕ × ℕ) → x.name ≡ p → order_of (x ∷ xs) p ≡ Some (x.price, x.quantity)
-order_of-first x xs p here = elim (eqb_tells x.name.0 p.0) [
-  | inl h ↦ elim (eqb_tells x.name.1 p.1) [
+absent-rest : (e : Entry (ℕ × ℕ)) (es : Entries) (i : ℕ) → e.index ≡ i → AreDistinct (e ∷ es) → entry_at es i ≡ None
+absent-rest e es i here distinct = entry_at-absent es i (grind (arith, common_steps, distinct i))
+
+-- the first entry's pointer finds its item
+pub first-item : (e : Entry (ℕ × ℕ)) (es : Entries) → item_of (e ∷ es) (e.index, e.generation) ≡ Some e.item
+first-item e es = elim (eqb_tells e.index e.index) [
+  | inl h ↦ elim (eqb_tells e.generation e.generation) [
     | inl k ↦ rw (h.0, k.0) refl
-    | inr k ↦ absurd (k.1 (ap (λ (w : ℕ × ℕ). w.1) here))
+    | inr k ↦ absurd (k.1 refl)
   ]
-  | inr h ↦ absurd (h.1 (ap (λ (w : ℕ × ℕ). w.0) here))
+  | inr h ↦ absurd (h.1 refl)
 ]
 
-pub order_of-behind : (x : Resting) (xs : List Resting) (p : ℕ × ℕ) → x.name ≢ p → order_of (x ∷ xs) p ≡ order_of xs p
-order_of-behind x xs p other = elim (eqb_tells x.name.0 p.0) [
-  | inl h ↦ elim (eqb_tells x.name.1 p.1) [
-    | inl k ↦ absurd (other (ap (λ i. (i, x.name.1)) h.1 ∙ ap (λ g. (p.0, g)) k.1))
-    | inr k ↦ rw (h.0, k.0) refl
+pub first-lost : (es : Entries) (p : ℕ × ℕ) → Some p ≡ first_pointer es → None ≡ item_of es p → ⊥
+first-lost [] p named lost = absurd (cc)
+first-lost (e ∷ es) p named lost =
+    let here : p ≡ (e.index, e.generation) = cc in
+    let none : None ≡ Some e.item = lost ∙ ap (item_of (e ∷ es)) here ∙ first-item e es in cc
+
+-- what is true of all entries is true of all but one
+pub recursion-without : (P : Entry (ℕ × ℕ) → Type 0) (es : Entries) (i : ℕ) → AllByRecursion P es → AllByRecursion P (without_index i es)
+recursion-without P [] i all = tt
+recursion-without P (e ∷ es) i all = elim (e.index == i) as (λ b. AllByRecursion P (if b then es else e ∷ without_index i es)) [
+  | true ↦ all.1
+  | false ↦ (all.0, recursion-without P es i all.1)
+]
+
+module _ (side : Side) where
+  -- price and quantity of an item
+  abbrev pub told : ℕ × ℕ → ℕ × ℕ
+  told item = (ranked side item.0, item.1)
+
+  -- a pointer names the order of the entry that it finds
+  pub order_of-found : (es : Entries) → AreDistinct es → (p : ℕ × ℕ) → order_of (map (resting side) es) p ≡ option_map told (item_of es p)
+  order_of-found [] distinct p = refl
+  order_of-found (e ∷ es) distinct p = elim (eqb_tells e.index p.0) [
+    | inl h ↦ elim (eqb_tells e.generation p.1) [
+      | inl k ↦ rw (h.0, k.0) refl
+      | inr k ↦ rw (h.0, k.0, order_of-found es (distinct-rest e es distinct) p, absent-rest e es p.0 h.1 distinct) refl
+    ]
+    | inr h ↦ rw (h.0, order_of-found es (distinct-rest e es distinct) p) refl
   ]
-  | inr h ↦ rw h.0 refl
-]
 
-order_of-under : (x : Resting) (xs ys : List Resting) (p : ℕ × ℕ) → order_of xs p ≡ order_of ys p → order_of (x ∷ xs) p ≡ order_of (x ∷ ys) p
-order_of-under x xs ys p same = ap (λ o. if is_named_by p x then Some (x.price, x.quantity) else o) same
-
--- the first order's pointer names it, and no other does; without it the orders behind it are left
-pub without-first : (x : Resting) (xs : List Resting) (p : ℕ × ℕ) → x.name ≡ p → without (x ∷ xs) p ≡ xs
-without-first x xs p here = elim (eqb_tells x.name.0 p.0) [
-  | inl h ↦ elim (eqb_tells x.name.1 p.1) [
-    | inl k ↦ rw (h.0, k.0) refl
-    | inr k ↦ absurd (k.1 (ap (λ (w : ℕ × ℕ). w.1) here))
+  -- without the order of a pointer, where it names one, the entries are those without its index
+  without-found : (es : Entries) → AreDistinct es → (p : ℕ × ℕ) → IsSome (item_of es p) → without (map (resting side) es) p ≡ map (resting side) (without_index p.0 es)
+  without-found [] distinct p there = refl
+  without-found (e ∷ es) distinct p there = elim (eqb_tells e.index p.0) [
+    | inl h ↦ elim (eqb_tells e.generation p.1) [
+      | inl k ↦ rw (h.0, k.0) refl
+      | inr k ↦ absurd (let none : item_of (e ∷ es) p ≡ None = rw (h.0, k.0) refl in cc)
+    ]
+    | inr h ↦ rw (h.0, without-found es (distinct-rest e es distinct) p (let same : item_of (e ∷ es) p ≡ item_of es p = rw h.0 refl in subst (λ (o : Option (ℕ × ℕ)). IsSome o) same there)) refl
   ]
-  | inr h ↦ absurd (h.1 (ap (λ (w : ℕ × ℕ). w.0) here))
-]
 
-pub without-behind : (x : Resting) (xs : List Resting) (p : ℕ × ℕ) → x.name ≢ p → without (x ∷ xs) p ≡ x ∷ without xs p
-without-behind x xs p other = elim (eqb_tells x.name.0 p.0) [
-  | inl h ↦ elim (eqb_tells x.name.1 p.1) [
-    | inl k ↦ absurd (other (ap (λ i. (i, x.name.1)) h.1 ∙ ap (λ g. (p.0, g)) k.1))
-    | inr k ↦ rw (h.0, k.0) refl
-  ]
-  | inr h ↦ rw h.0 refl
-]
+  pub queue-without : (a : Sorted ℕ ℕ) (p : ℕ × ℕ) → AreDistinct a.entries → IsSome (item_of a.entries p)
+      → queue_of side (without_entry (Some 18446744073709551615) a p) ≡ with_left (queue_of side a) p
+  queue-without a p distinct there = rw (without-found a.entries distinct p there) refl
 
--- without its order a pointer names nothing
-pub order_of-without : (xs : List Resting) (p : ℕ × ℕ) → IsDistinct xs → order_of (without xs p) p ≡ None
-order_of-without [] p distinct = refl
-order_of-without (x ∷ xs) p distinct = elim (one_or_other x.name p) [
-  | inl here ↦ ap (λ (ys : List Resting). order_of ys p) (without-first x xs p here) ∙ ap (order_of xs) (sym here) ∙ distinct.0
-  | inr other ↦ ap (λ (ys : List Resting). order_of ys p) (without-behind x xs p other) ∙ order_of-behind x (without xs p) p other ∙ order_of-without xs p distinct.1
-]
+  -- the first entry is the order that trades first
+  pub first-none : (es : Entries) → None ≡ first_pointer es → first_of side (map (resting side) es) ≡ None
+  first-none [] none = refl
+  first-none (e ∷ es) none = absurd (cc)
 
--- without a pointer's order every other pointer names what it named
-pub order_of-without_other : (xs : List Resting) (p q : ℕ × ℕ) → q ≢ p → order_of (without xs p) q ≡ order_of xs q
-order_of-without_other [] p q apart = refl
-order_of-without_other (x ∷ xs) p q apart = elim (one_or_other x.name p) [
-  | inl here ↦ ap (λ (ys : List Resting). order_of ys q) (without-first x xs p here) ∙ sym (order_of-behind x xs q (λ e. apart (sym e ∙ here)))
-  | inr other ↦ ap (λ (ys : List Resting). order_of ys q) (without-behind x xs p other) ∙ order_of-under x (without xs p) xs q (order_of-without_other xs p q apart)
-]
+  abbrev order_at : ℕ × ℕ → ℕ × ℕ → Order
+  order_at p item = record { id = record { side = side; pointer = p }; price = ranked side item.0; quantity = item.1 }
 
--- what pointers name once an order stands between others
-pub order_of-between_other : (xs : List Resting) (x : Resting) (ys : List Resting) (p : ℕ × ℕ) → p ≢ x.name → order_of (xs ++ x ∷ ys) p ≡ order_of (xs ++ ys) p
-order_of-between_other [] x ys p apart = order_of-behind x ys p (λ e. apart (sym e))
-order_of-between_other (z ∷ xs) x ys p apart = order_of-under z (xs ++ x ∷ ys) (xs ++ ys) p (order_of-between_other xs x ys p apart)
+  pub first-some : (es : Entries) (p item : ℕ × ℕ) → Some p ≡ first_pointer es → Some item ≡ item_of es p
+      → first_of side (map (resting side) es) ≡ Some (order_at p item)
+  first-some [] p item named found = absurd (cc)
+  first-some (e ∷ es) p item named found =
+      let here : p ≡ (e.index, e.generation) = cc in
+      let some : Some item ≡ Some e.item = found ∙ ap (item_of (e ∷ es)) here ∙ first-item e es in
+      let same : item ≡ e.item = cc in
+      rw (here, same) refl
 
-pub order_of-between : (xs : List Resting) (x : Resting) (ys : List Resting) → order_of (xs ++ ys) x.name ≡ None → order_of (xs ++ x ∷ ys) x.name ≡ Some (x.price, x.quantity)
-order_of-between [] x ys unused = order_of-first x ys x.name refl
-order_of-between (z ∷ xs) x ys unused = elim (one_or_other z.name x.name) [
-  | inl e ↦ absurd (let named : order_of (z ∷ (xs ++ ys)) x.name ≡ Some (z.price, z.quantity) = order_of-first z (xs ++ ys) x.name e in cc)
-  | inr n ↦ order_of-behind z (xs ++ x ∷ ys) x.name n ∙ order_of-between xs x ys (sym (order_of-behind z (xs ++ ys) x.name n) ∙ unused)
-]
+  -- pointers are distinct where indexes are
+  distinct-found : (es : Entries) → AreDistinct es → IsDistinct (map (resting side) es)
+  distinct-found [] distinct = tt
+  distinct-found (e ∷ es) distinct =
+      (order_of-found es (distinct-rest e es distinct) (e.index, e.generation) ∙ rw (absent-rest e es e.index refl distinct) refl, distinct-found es (distinct-rest e es distinct))
 
--- what pointers name where the order of a pointer has left
-module _ (a : Queue) (p : ℕ × ℕ) where
-  pub updates-left : IsDistinct a.orders → Updates a (with_left a p) p None
-  updates-left distinct = record { changed = order_of-without a.orders p distinct; others = order_of-without_other a.orders p }
+  -- what is true of an arena is true of its queue
+  pub sound-found : (a : Sorted ℕ ℕ) → IsSoundArena nat_cmp most_orders a → AreLawful a.entries → IsSound (queue_of side a)
+  sound-found a sound lawful = record {
+    in_order = in_order-sorted side a.entries sound.sorted;
+    distinct = distinct-found a.entries sound.distinct;
+    some_left = recursion-map (resting side) IsLawful (λ x. 0 < x.quantity) (λ e lawful. lawful.1) a.entries lawful;
+    within = omega (arith, length-map a.entries (resting side), sound.within);
+    limited = sound.limited;
+  }
 
-  -- where it names none, nothing has left
-  pub updates-none : order_of a.orders p ≡ None → Updates a a p None
-  updates-none none = record { changed = none; others = λ q apart. refl }
-
--- what pointers name where an order came to rest
-pub updates-rested : (old : Queue) (price quantity : ℕ) (p : ℕ × ℕ) (new : Queue) → Rests old price quantity p new
-    → Updates old new p (Some (price, quantity))
-updates-rested old price quantity p new h =
-    let x : Resting = record { name = p; price = price; quantity = quantity } in
-    let named : (xs : List Resting) (ys : List Resting) (q : ℕ × ℕ) → xs ≡ ys → order_of xs q ≡ order_of ys q =
-    λ xs ys q same. ap (λ (zs : List Resting). order_of zs q) same in
-    record {
-      changed = named _ _ p h.after ∙ order_of-between h.ahead x h.later (named _ _ p (sym h.before) ∙ h.unused);
-      others = λ q apart. named _ _ q h.after ∙ order_of-between_other h.ahead x h.later q apart ∙ named _ _ q (sym h.before);
-    }
+  -- what pointers name after a change of the arena, they name in the queue
+  pub updates-found : (old new : Sorted ℕ ℕ) (p : ℕ × ℕ) (now : Option (ℕ × ℕ)) → AreDistinct old.entries → AreDistinct new.entries
+      → UpdatesArena old new p now → Updates (queue_of side old) (queue_of side new) p (option_map told now)
+  updates-found old new p now before after updates = record {
+    changed = order_of-found new.entries after p ∙ ap (option_map told) updates.changed;
+    others = λ q apart. order_of-found new.entries after q ∙ ap (option_map told) (updates.others q apart) ∙ sym (order_of-found old.entries before q);
+  }

@@ -1,13 +1,13 @@
 -- An offer goes along the queue: how much is traded with what is left of it, and what its trades are.
-use Rattle.std.proofs.Common.{◌≡◌, ℕ, ◌+◌, ◌-◌, ◌≤◌, ◌<◌, min, List, [], ◌∷◌, ◌++◌, map, take, length, length-append, append_assoc, true, false, refl, sym, ap, ◌∙◌, arith, inl, inr, if◌then◌else◌}
+use Rattle.std.proofs.Common.{◌≡◌, ℕ, ◌+◌, ◌-◌, ◌<◌, min, List, [], ◌∷◌, ◌++◌, map, take, length, length-append, append_assoc, Bool, true, false, refl, sym, ap, ◌∙◌, arith, inl, inr, if◌then◌else◌}
 use Rattle.std.proofs.{lemmas.Bool.Decides.eqb_tells, Math.Seq.take-append_seam, lemmas.List.append-nil}
-use Rattle.std.specs.List.{AllByRecursion}
+use Rattle.std.specs.{List.AllByRecursion, Ordering.nat_cmp}
 use Rattle.chain_base.specs.Chain.{Entry}
 use Rattle.order_queue.specs.Queue.{Resting, Queue, IsNoWorse, IsInOrder, meets, within, traded, trades_of_first}
-use Rattle.order_queue.specs.Layout.{most_price, ranked, resting, queue_of, AreRanked, IsArenaOfOrders}
+use Rattle.order_queue.specs.Layout.{ranked, resting, queue_of, AreLawful}
 use Rattle.order_queue.specs.{declared.order.Trade.Trade, declared.side.Side.Side}
-use Rattle.ord_tree.specs.Tree.{Tree}
-use Rattle.order_queue.proofs.{Ranks.Entries, Ranks.in_order-ranked, CallerLemmas.unmet-worse}
+use Rattle.sorted_arena.specs.Sorted.{Sorted, AreSorted}
+use Rattle.order_queue.proofs.{Ranks.Entries, Ranks.in_order-sorted, CallerLemmas.unmet-worse}
 
 -- orders of which none meets the limit offer nothing
 within-no_better : (side : Side) (limit p : ℕ) (xs : List Resting) → meets side p limit ≡ false → AllByRecursion (λ x. IsNoWorse side p x.price) xs
@@ -22,6 +22,10 @@ pub within-missed : (side : Side) (limit : ℕ) (x : Resting) (xs : List Resting
 within-missed side limit x xs misses sorted =
     let none : (if meets side x.price limit then x.quantity else 0) ≡ 0 = rw misses refl in
     omega (arith, none, within-no_better side limit x.price xs misses sorted.0)
+
+-- whether the order at a rank meets the limit
+pub met : (side : Side) (limit price rank : ℕ) (b : Bool) → b ≡ meets side price limit → price ≡ ranked side rank → meets side (ranked side rank) limit ≡ b
+met side limit price rank b told priced = sym (told ∙ ap (λ n. meets side n limit) priced)
 
 pub trades-none : (side : Side) (xs : List Resting) → trades_of_first side 0 xs ≡ []
 trades-none side [] = refl
@@ -74,19 +78,19 @@ pub record IsOffering (q : Queue) (limit quantity : ℕ) (before : List Trade) (
   pub left_over : left + traded q limit quantity ≡ quantity + tradable q.side limit left (map (resting q.side) coming)
   pub to_come : let xs = map (resting q.side) coming in
       trades ++ trades_of_first q.side (tradable q.side limit left xs) xs ≡ before ++ trades_of_first q.side (traded q limit quantity) q.orders
-  pub sorted : AreRanked coming
-  pub lawful : AllByRecursion (λ (e : Entry (ℕ × ℕ)). (e.item.0 ≤ most_price) × (0 < e.item.1)) coming
+  pub sorted : AreSorted nat_cmp coming
+  pub lawful : AreLawful coming
   pub added : List Trade
   pub all : trades ≡ before ++ added
 
 -- an offer begins with all entries
-pub offering-start : (side : Side) (a : Tree (ℕ × ℕ)) (limit quantity : ℕ) (before : List Trade) → IsArenaOfOrders a
-    → IsOffering (queue_of side a) limit quantity before quantity before a.list.entries
-offering-start side a limit quantity before holds = record {
+pub offering-start : (side : Side) (a : Sorted ℕ ℕ) (limit quantity : ℕ) (before : List Trade) → AreSorted nat_cmp a.entries → AreLawful a.entries
+    → IsOffering (queue_of side a) limit quantity before quantity before a.entries
+offering-start side a limit quantity before sorted lawful = record {
   left_over = refl;
   to_come = refl;
-  sorted = holds.ranked;
-  lawful = holds.lawful;
+  sorted = sorted;
+  lawful = lawful;
   added = [];
   all = sym (append-nil before);
 }
@@ -115,7 +119,7 @@ module _ (q : Queue) (limit quantity : ℕ) (before : List Trade) (left : ℕ) (
 
   pub done-missed : (e : Entry (ℕ × ℕ)) (es : Entries) → IsOffering q limit quantity before left trades (e ∷ es)
       → meets q.side (ranked q.side e.item.0) limit ≡ false → IsDone (e ∷ es)
-  done-missed e es h misses = tradable-missed q.side limit left (resting q.side e) (map (resting q.side) es) misses (in_order-ranked q.side (e ∷ es) h.sorted)
+  done-missed e es h misses = tradable-missed q.side limit left (resting q.side e) (map (resting q.side) es) misses (in_order-sorted q.side (e ∷ es) h.sorted)
 
   -- where the next order meets the limit, it is traded next
   module _ (e : Entry (ℕ × ℕ)) (es : Entries) (h : IsOffering q limit quantity before left trades (e ∷ es)) (wanted : 0 < left)

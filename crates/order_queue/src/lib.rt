@@ -2,11 +2,10 @@
 #![tactic(auto)]
 
 mod order;
-mod orders;
 mod queue;
 mod side;
 
 pub use order::{Order, OrderId, Trade};
 pub use queue::OrderQueue;
 pub use side::Side;
-pub use triple_ord::{P0, ReallocationError};
+pub use sorted_arena::{P0, ReallocationError};

@@ -1,8 +1,8 @@
 //! Orders and trades, as callers see them.
 
 use crate::side::Side;
+use sorted_arena::{BasePtr, P0};
 use std::marker::Model;
-use triple_ord::{BasePtr, P0};
 
 /// The name of a resting order.
 ///

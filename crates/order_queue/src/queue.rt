@@ -6,11 +6,10 @@ ghost use Rattle.order_queue.specs.Queue.{most_orders, first_of, order_of, trade
 ghost use Rattle.order_queue.specs.Queue.{Resting, IsSound, Rests, Updates};
 
 use crate::order::{Order, OrderId, Trade};
-use crate::orders::{Orders, put, ranked};
-use crate::side::Side;
+use crate::side::{Side, ranked};
+use sorted_arena::{P0, ReallocationError, SortedArena};
 use std::alloc::{AllocError, Allocator, Global};
 use std::marker::Model;
-use triple_ord::{P0, ReallocationError, SimpleOrdArena};
 
 /// The resting orders of one side of a book, in the order in which they trade: by price, and at equal prices by age.
 ///
@@ -22,7 +21,8 @@ use triple_ord::{P0, ReallocationError, SimpleOrdArena};
 #[derive(Drop)]
 pub struct OrderQueue<A: Allocator = Global> {
     side: Side,
-    orders: Orders<A>,
+    // what is left of each order, by the rank of its price
+    orders: SortedArena<u64, u64, P0, A>,
 }
 
 impl<A: Allocator> Model for OrderQueue<A> {
@@ -30,11 +30,11 @@ impl<A: Allocator> Model for OrderQueue<A> {
 
     ghost Value = { Queue };
 
-    ghost use Rattle.order_queue.specs.Layout.{queue_of, IsArenaOfOrders};
+    ghost use Rattle.order_queue.specs.Layout.{queue_of, AreLawful};
 
     ghost view = { λ q. queue_of q.side q.orders };
 
-    ghost invariant = { λ q. IsArenaOfOrders q.orders };
+    ghost invariant = { λ q. AreLawful q.orders.entries };
 }
 
 impl<A: Allocator> OrderQueue<A> {
@@ -49,7 +49,7 @@ impl<A: Allocator> OrderQueue<A> {
     {
         OrderQueue {
             side,
-            orders: SimpleOrdArena::new(alloc),
+            orders: SortedArena::new(alloc),
         }
     }
 
@@ -73,11 +73,11 @@ impl<A: Allocator> OrderQueue<A> {
         ensures { result ≡ first_of self.now.side self.now.orders }
     {
         let pointer = self.orders.first()?;
-        let order = self.orders.get(pointer)?;
+        let (rank, quantity) = self.orders.get(pointer)?;
         Some(Order {
             id: OrderId::new(self.side, pointer),
-            price: ranked(self.side, *order.k()),
-            quantity: *order.v(),
+            price: ranked(self.side, *rank),
+            quantity: *quantity,
         })
     }
 
@@ -85,10 +85,10 @@ impl<A: Allocator> OrderQueue<A> {
     pub fn get(&self, pointer: P0) -> Option<(u64, u64)>
         ensures { result ≡ order_of self.now.orders pointer }
     {
-        // with its length an arena tells what holds of its list
+        // with its length an arena tells what holds of it
         let _ = self.orders.len();
-        let order = self.orders.get(pointer)?;
-        Some((ranked(self.side, *order.k()), *order.v()))
+        let (rank, quantity) = self.orders.get(pointer)?;
+        Some((ranked(self.side, *rank), *quantity))
     }
 
     /// Puts an order behind all whose price is no worse, and returns its pointer, in O(log n), and O(n) where the arena grows.
@@ -106,7 +106,13 @@ impl<A: Allocator> OrderQueue<A> {
             → length self.old.orders ≡ self.old.capacity }
         ensures err { OnErr result (self.new ≡ self.old) }
     {
-        put(&mut self.orders, ranked(self.side, price), quantity)
+        // with its length an arena tells what holds of it
+        let _ = self.orders.len();
+        let pointer = match self.orders.insert(ranked(self.side, price), quantity) {
+            Ok(pointer) => pointer,
+            Err((_, refusal)) => return Err(refusal),
+        };
+        Ok(pointer)
     }
 
     /// Takes the order that the pointer names out, and returns its price and quantity, in O(log n).
@@ -119,10 +125,9 @@ impl<A: Allocator> OrderQueue<A> {
         ensures gone { OnSome result (self.new ≡ with_left self.old pointer) }
         ensures none { IfNone result (self.new ≡ self.old) }
     {
-        // with its length an arena tells what holds of its list
+        // with its length an arena tells what holds of it
         let _ = self.orders.len();
-        let pair = self.orders.remove(pointer).allow()?;
-        let (rank, quantity) = pair.into_k_v();
+        let (rank, quantity) = self.orders.remove(pointer)?;
         Some((ranked(self.side, rank), quantity))
     }
 
@@ -132,14 +137,14 @@ impl<A: Allocator> OrderQueue<A> {
         ensures { result ≡ traded self.now limit quantity }
     {
         let mut left = quantity;
-        for (_, order) in self.orders.iter_ordered() {
+        for (_, rank, offered) in self.orders.iter() {
             if left == 0 {
                 break;
             }
-            if !self.side.meets(ranked(self.side, *order.k()), limit) {
+            if !self.side.meets(ranked(self.side, *rank), limit) {
                 break;
             }
-            left -= left.min(*order.v());
+            left -= left.min(*offered);
         }
         quantity - left
     }
@@ -164,15 +169,15 @@ impl<A: Allocator> OrderQueue<A> {
     {
         let before = trades.len();
         let mut left = quantity;
-        for (pointer, order) in self.orders.iter_ordered() {
+        for (pointer, rank, offered) in self.orders.iter() {
             if left == 0 {
                 break;
             }
-            let price = ranked(self.side, *order.k());
+            let price = ranked(self.side, *rank);
             if !self.side.meets(price, limit) {
                 break;
             }
-            let quantity = left.min(*order.v());
+            let quantity = left.min(*offered);
             let order = OrderId::new(self.side, pointer);
             if trades
                 .push(Trade {
@@ -223,19 +228,17 @@ impl<A: Allocator> OrderQueue<A> {
             let _ = self.remove(first.id.pointer());
             return first.quantity;
         }
-        self.reduce(first.id.pointer(), first.quantity - quantity);
+        self.reduce(first, first.quantity - quantity);
         quantity
     }
 
     // Writes how much is left of the first order.
-    fn reduce(&mut self, pointer: P0, quantity: u64)
-        requires { 0 < quantity }
-        ensures { (x : Resting) (xs : List Resting) → self.old.orders ≡ x ∷ xs → pointer ≡ x.name
+    fn reduce(&mut self, first: Order, quantity: u64)
+        requires first { first_of self.old.side self.old.orders ≡ Some first }
+        requires some { 0 < quantity }
+        ensures { (x : Resting) (xs : List Resting) → self.old.orders ≡ x ∷ xs
             → self.new ≡ record self.old { orders = record x { quantity = quantity } ∷ xs } }
     {
-        let Some(order) = self.orders.get_mut(pointer) else {
-            return;
-        };
-        *order.v_mut() = quantity;
+        let _ = self.orders.set_value(first.id.pointer(), quantity);
     }
 }

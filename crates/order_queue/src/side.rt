@@ -1,7 +1,7 @@
 //! `Side`: buyers or sellers.
 
 ghost use Rattle.std.specs.Prelude.{◌≡◌};
-ghost use Rattle.order_queue.specs.Queue.{meets};
+ghost use Rattle.order_queue.specs.{Layout.ranked, Queue.meets};
 
 /// The side of an order. Buyers trade with sellers.
 #[derive(Clone, Copy, PartialEq, Eq, Debug)]
@@ -21,5 +21,15 @@ impl Side {
             Side::Buy => limit <= price,
             Side::Sell => price <= limit,
         }
+    }
+}
+
+/// The rank of a price on a side, where the lesser trades first, and likewise the price of a rank.
+pub(crate) fn ranked(side: Side, number: u64) -> u64
+    ensures { result ≡ ranked side number }
+{
+    match side {
+        Side::Buy => u64::MAX - number,
+        Side::Sell => number,
     }
 }

@@ -1,4 +1,4 @@
-use Rattle.order_queue.proofs.Leaving.{sound-found}
+use Rattle.order_queue.proofs.Naming.{sound-found}
 use Rattle.order_queue.proofs.queue.OrderQueue.len.Goals as goal
 
 pub returns-clause-sound : goal.returns-clause-sound

@@ -1,7 +1,7 @@
-use Rattle.std.proofs.Common.{◌≡◌, ℕ, ◌<◌, List, [], ◌∷◌, ◌++◌, length, take, Bool, true, false, Result, Ok, Err, OnErr, is_ok, is_err, if◌then◌else◌, refl, sym, ap, ◌∙◌, arith, rules}
+use Rattle.std.proofs.Common.{◌≡◌, ℕ, ◌<◌, List, [], ◌∷◌, ◌++◌, length, take, true, false, Result, Ok, Err, OnErr, is_ok, is_err, if◌then◌else◌, refl, ap, ◌∙◌, arith, rules}
 use Rattle.chain_base.specs.Chain.{Entry}
-use Rattle.order_queue.specs.{Layout.ranked, Layout.queue_of, declared.order.Trade.Trade, Queue.Queue, Queue.meets, declared.side.Side.Side}
-use Rattle.order_queue.proofs.Trading.{IsOffering, trade_of, offering-start, offering-next, left-done, trades-done, done-ended, done-filled, done-missed, room-wanted, front-kept}
+use Rattle.order_queue.specs.{Layout.ranked, Layout.queue_of, declared.order.Trade.Trade, Queue.Queue, Queue.meets}
+use Rattle.order_queue.proofs.Trading.{IsOffering, met, trade_of, offering-start, offering-next, left-done, trades-done, done-ended, done-filled, done-missed, room-wanted, front-kept}
 use Rattle.order_queue.proofs.queue.OrderQueue.offer.Goals as goal
 
 -- what a push leaves that went well or was refused
@@ -17,15 +17,11 @@ owed : {X E P : Type 0} (r : Result X E) → true ≡ is_err r → OnErr r P →
 owed (Ok x) refused fact = absurd (cc)
 owed (Err e) refused fact = fact
 
--- whether the order at a rank meets the limit
-met : (side : Side) (limit price rank first : ℕ) (b : Bool) → b ≡ meets side price limit → price ≡ ranked side rank → rank ≡ first → meets side (ranked side first) limit ≡ b
-met side limit price rank first b told priced same = sym (told ∙ ap (λ n. meets side n limit) (priced ∙ ap (ranked side) same))
-
 pub loop-pointer-init : goal.loop-pointer-init
 loop-pointer-init g c =
-    let same : c.into_iter-pointer-iterator.result ≡ c.self.inside.orders.list.entries = search rules in
+    let same : c.into_iter-pointer-iterator.result ≡ c.self.inside.orders.entries = search rules in
     record {
-      offering = rw (same, ← c.self.view_is) (offering-start c.self.inside.side c.self.inside.orders c.args.limit c.args.quantity c.args.trades.now.items c.self.invariant);
+      offering = rw (same, ← c.self.view_is) (offering-start c.self.inside.side c.self.inside.orders c.args.limit c.args.quantity c.args.trades.now.items c.iter-pointer-items.ensures.sound.sorted c.self.invariant);
       room = omega arith;
     }
 
@@ -53,11 +49,11 @@ pub returns-then-not-meets-clause-left : goal.returns-then-not-meets-clause-left
 returns-then-not-meets-clause-left g c =
     let side = c.self.inside.side in
     let q : Queue = queue_of side c.self.inside.orders in
-    let e : Entry (ℕ × ℕ) = record { index = c.in-Some.pointer.0; generation = c.in-Some.pointer.1; item = c.in-Some.order.now } in
+    let e : Entry (ℕ × ℕ) = record { index = c.in-Some.pointer.0; generation = c.in-Some.pointer.1; item = (c.in-Some.rank.now, c.in-Some.offered.now) } in
     let now : IsOffering q c.args.limit c.args.quantity c.args.trades.now.items c.loop-pointer.left c.loop-pointer.trades.items (e ∷ c.next.new.self) =
     rw (c.self.view_is, ← c.in-Some.ensures.steps) c.loop-pointer.invariant.offering in
-    let misses : meets side (ranked side c.in-Some.order.now.0) c.args.limit ≡ false =
-    met side c.args.limit c.ranked-price.result c.k.result.now c.in-Some.order.now.0 _ c.if-not-meets.ensures c.ranked-price.ensures c.k.ensures in
+    let misses : meets side (ranked side c.in-Some.rank.now) c.args.limit ≡ false =
+    met side c.args.limit c.ranked-price.result c.in-Some.rank.now _ c.if-not-meets.ensures c.ranked-price.ensures in
     rw (← c.self.view_is) (left-done q c.args.limit c.args.quantity c.args.trades.now.items c.loop-pointer.left c.loop-pointer.trades.items (e ∷ c.next.new.self) now
     (done-missed q c.args.limit c.args.quantity c.args.trades.now.items c.loop-pointer.left c.loop-pointer.trades.items e c.next.new.self now misses))
 
@@ -65,11 +61,11 @@ pub returns-then-not-meets-clause-trades : goal.returns-then-not-meets-clause-tr
 returns-then-not-meets-clause-trades g c =
     let side = c.self.inside.side in
     let q : Queue = queue_of side c.self.inside.orders in
-    let e : Entry (ℕ × ℕ) = record { index = c.in-Some.pointer.0; generation = c.in-Some.pointer.1; item = c.in-Some.order.now } in
+    let e : Entry (ℕ × ℕ) = record { index = c.in-Some.pointer.0; generation = c.in-Some.pointer.1; item = (c.in-Some.rank.now, c.in-Some.offered.now) } in
     let now : IsOffering q c.args.limit c.args.quantity c.args.trades.now.items c.loop-pointer.left c.loop-pointer.trades.items (e ∷ c.next.new.self) =
     rw (c.self.view_is, ← c.in-Some.ensures.steps) c.loop-pointer.invariant.offering in
-    let misses : meets side (ranked side c.in-Some.order.now.0) c.args.limit ≡ false =
-    met side c.args.limit c.ranked-price.result c.k.result.now c.in-Some.order.now.0 _ c.if-not-meets.ensures c.ranked-price.ensures c.k.ensures in
+    let misses : meets side (ranked side c.in-Some.rank.now) c.args.limit ≡ false =
+    met side c.args.limit c.ranked-price.result c.in-Some.rank.now _ c.if-not-meets.ensures c.ranked-price.ensures in
     rw (← c.self.view_is) (trades-done q c.args.limit c.args.quantity c.args.trades.now.items c.loop-pointer.left c.loop-pointer.trades.items (e ∷ c.next.new.self) now
     (done-missed q c.args.limit c.args.quantity c.args.trades.now.items c.loop-pointer.left c.loop-pointer.trades.items e c.next.new.self now misses))
 
@@ -77,18 +73,18 @@ pub loop-pointer-preserved : goal.loop-pointer-preserved
 loop-pointer-preserved g c =
     let side = c.self.inside.side in
     let q : Queue = queue_of side c.self.inside.orders in
-    let e : Entry (ℕ × ℕ) = record { index = c.in-Some.pointer.0; generation = c.in-Some.pointer.1; item = c.in-Some.order.now } in
+    let e : Entry (ℕ × ℕ) = record { index = c.in-Some.pointer.0; generation = c.in-Some.pointer.1; item = (c.in-Some.rank.now, c.in-Some.offered.now) } in
     let now : IsOffering q c.args.limit c.args.quantity c.args.trades.now.items c.loop-pointer.left c.loop-pointer.trades.items (e ∷ c.next.new.self) =
     rw (c.self.view_is, ← c.in-Some.ensures.steps) c.loop-pointer.invariant.offering in
     let wanted : 0 < c.loop-pointer.left = omega (arith, c.if-left-eq0.false) in
-    let hits : meets side (ranked side c.in-Some.order.now.0) c.args.limit ≡ true =
-    met side c.args.limit c.ranked-price.result c.k.result.now c.in-Some.order.now.0 _ c.if-not-meets.ensures c.ranked-price.ensures c.k.ensures in
+    let hits : meets side (ranked side c.in-Some.rank.now) c.args.limit ≡ true =
+    met side c.args.limit c.ranked-price.result c.in-Some.rank.now _ c.if-not-meets.ensures c.ranked-price.ensures in
     let trade : ◌≡◌ {A = Trade} (record { order = c.new-order.result; price = c.ranked-price.result; quantity = c.min-quantity.result }) (trade_of side c.loop-pointer.left e) =
-    rw (c.new-order.ensures, c.ranked-price.ensures, c.k.ensures, c.min-quantity.ensures, c.v.ensures) refl in
+    rw (c.new-order.ensures, c.ranked-price.ensures, c.min-quantity.ensures) refl in
     let added : c.push.new.self.items ≡ c.loop-pointer.trades.items ++ trade_of side c.loop-pointer.left e ∷ [] =
     pushed c.push.result _ _ _ c.if-is_err.ensures.value c.push.ensures.items ∙ ap (λ t. c.loop-pointer.trades.items ++ t ∷ []) trade in
     record {
-      offering = rw (added, c.min-quantity.ensures, c.v.ensures, ← c.self.view_is)
+      offering = rw (added, c.min-quantity.ensures, ← c.self.view_is)
           (offering-next q c.args.limit c.args.quantity c.args.trades.now.items c.loop-pointer.left c.loop-pointer.trades.items e c.next.new.self now wanted hits);
       room = omega (arith, c.loop-pointer.invariant.room, c.push.ensures.capacity);
     }
@@ -97,12 +93,12 @@ pub returns-then-is_err-clause-memory : goal.returns-then-is_err-clause-memory
 returns-then-is_err-clause-memory g c =
     let side = c.self.inside.side in
     let q : Queue = queue_of side c.self.inside.orders in
-    let e : Entry (ℕ × ℕ) = record { index = c.in-Some.pointer.0; generation = c.in-Some.pointer.1; item = c.in-Some.order.now } in
+    let e : Entry (ℕ × ℕ) = record { index = c.in-Some.pointer.0; generation = c.in-Some.pointer.1; item = (c.in-Some.rank.now, c.in-Some.offered.now) } in
     let now : IsOffering q c.args.limit c.args.quantity c.args.trades.now.items c.loop-pointer.left c.loop-pointer.trades.items (e ∷ c.next.new.self) =
     rw (c.self.view_is, ← c.in-Some.ensures.steps) c.loop-pointer.invariant.offering in
     let wanted : 0 < c.loop-pointer.left = omega (arith, c.if-left-eq0.false) in
-    let hits : meets side (ranked side c.in-Some.order.now.0) c.args.limit ≡ true =
-    met side c.args.limit c.ranked-price.result c.k.result.now c.in-Some.order.now.0 _ c.if-not-meets.ensures c.ranked-price.ensures c.k.ensures in
+    let hits : meets side (ranked side c.in-Some.rank.now) c.args.limit ≡ true =
+    met side c.args.limit c.ranked-price.result c.in-Some.rank.now _ c.if-not-meets.ensures c.ranked-price.ensures in
     rw (← c.self.view_is) (omega (
       arith,
       c.loop-pointer.invariant.room,

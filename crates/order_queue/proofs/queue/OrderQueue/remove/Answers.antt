@@ -1,32 +1,34 @@
-use Rattle.std.proofs.Common.{◌∙◌, sym, ap, is_some}
+use Rattle.std.proofs.Common.{◌∙◌, sym, ap, subst, ℕ, None, is_some}
 use Rattle.std.specs.Option.{option_map}
-use Rattle.order_queue.proofs.Leaving.{told, order_of-found, queue-removed, arena-removed, updates-removed}
+use Rattle.chain_base.specs.Chain.{IsDistinct}
+use Rattle.sorted_arena.specs.Sorted.{Sorted}
+use Rattle.order_queue.specs.Layout.{IsLawful}
+use Rattle.order_queue.proofs.Naming.{told, order_of-found, queue-without, recursion-without, updates-found}
 use Rattle.order_queue.proofs.queue.OrderQueue.remove.Goals as goal
 
-pub returns-in_err-pair-clause-value : goal.returns-in_err-pair-clause-value
-returns-in_err-pair-clause-value g c =
-    let none = sym c.remove.ensures.removal.value ∙ sym c.allow.ensures ∙ c.in_err-pair.was in
-    rw (← c.self.view_is) (c.from_residual.ensures ∙ sym (order_of-found c.self.inside.side _ c.len.ensures.sound.distinct _ ∙ ap (option_map (told c.self.inside.side)) none))
+pub returns-in_err-rank-clause-value : goal.returns-in_err-rank-clause-value
+returns-in_err-rank-clause-value g c =
+    rw (← c.self.view_is) (c.from_residual.ensures ∙ sym (order_of-found c.self.inside.side c.self.inside.orders.entries c.len.ensures.sound.distinct c.args.pointer
+    ∙ ap (option_map (told c.self.inside.side)) (sym c.in_err-rank.ensures.value)))
 
-pub returns-in_err-pair-clause-updates : goal.returns-in_err-pair-clause-updates
-returns-in_err-pair-clause-updates g c =
-    rw (← c.self.view_is) (updates-removed c.self.inside.side c.self.inside.orders c.remove.new.self c.args.pointer c.len.ensures.sound.distinct _ c.remove.ensures.removal.value c.remove.ensures.removal.removed c.remove.ensures.removal.invalid)
+pub returns-in_err-rank-clause-updates : goal.returns-in_err-rank-clause-updates
+returns-in_err-rank-clause-updates g c =
+    let distinct = c.len.ensures.sound.distinct in
+    let after = subst (λ (a : Sorted ℕ ℕ). IsDistinct a.entries) (sym c.in_err-rank.ensures.none) distinct in
+    rw (← c.self.view_is) (updates-found c.self.inside.side c.self.inside.orders c.remove.new.self c.args.pointer None distinct after c.in_err-rank.ensures.updates)
 
 pub invariant_of-self-2 : goal.invariant_of-self-2
-invariant_of-self-2 g c =
-    let some = sym c.allow.ensures ∙ c.in_ok-pair.was in
-    arena-removed c.self.inside.orders c.remove.new.self _ (rw some at c.remove.ensures.removal.removed) c.self.invariant
+invariant_of-self-2 g c = rw c.in_ok-rank.ensures.gone (recursion-without IsLawful c.self.inside.orders.entries c.args.pointer.0 c.self.invariant)
 
 pub returns-clause-value : goal.returns-clause-value
 returns-clause-value g c =
-    let some = sym c.remove.ensures.removal.value ∙ sym c.allow.ensures ∙ c.in_ok-pair.was in
-    rw (← c.self.view_is, c.ranked.ensures, c.into_k_v-rank.ensures) (sym (order_of-found c.self.inside.side _ c.len.ensures.sound.distinct _ ∙ ap (option_map (told c.self.inside.side)) some))
+    rw (← c.self.view_is, c.ranked.ensures) (sym (order_of-found c.self.inside.side c.self.inside.orders.entries c.len.ensures.sound.distinct c.args.pointer
+    ∙ ap (option_map (told c.self.inside.side)) (sym c.in_ok-rank.ensures.value)))
 
 pub returns-clause-updates : goal.returns-clause-updates
 returns-clause-updates g c =
-    rw (← c.self.view_is) (updates-removed c.self.inside.side c.self.inside.orders c.remove.new.self c.args.pointer c.len.ensures.sound.distinct _ c.remove.ensures.removal.value c.remove.ensures.removal.removed c.remove.ensures.removal.invalid)
+    rw (← c.self.view_is) (updates-found c.self.inside.side c.self.inside.orders c.remove.new.self c.args.pointer None c.len.ensures.sound.distinct c.in_ok-rank.ensures.sound.distinct c.in_ok-rank.ensures.updates)
 
 pub returns-clause-gone : goal.returns-clause-gone
 returns-clause-gone g c =
-    let some = sym c.allow.ensures ∙ c.in_ok-pair.was in
-    rw (← c.self.view_is) (queue-removed c.self.inside.side c.self.inside.orders c.remove.new.self c.args.pointer c.len.ensures.sound.distinct (ap is_some (sym c.remove.ensures.removal.value ∙ some)) (rw some at c.remove.ensures.removal.removed))
+    rw (← c.self.view_is, c.in_ok-rank.ensures.gone) (queue-without c.self.inside.side c.self.inside.orders c.args.pointer c.len.ensures.sound.distinct (ap is_some (sym c.in_ok-rank.ensures.value)))
