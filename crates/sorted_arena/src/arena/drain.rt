@@ -1,8 +1,9 @@
 //! Removals of all entries in a range. None of them takes memory, but for the vector of `drain_range`.
 
-ghost use Rattle.std.specs.Prelude.{◌≡◌, ◌+◌, ◌++◌, map, length, OnOk, OnErr};
+ghost use Rattle.std.specs.Prelude.{◌≡◌, ◌+◌, ◌≤◌, ◌++◌, map, length, vec_len, IsOk, OnOk, OnErr};
 ghost use Rattle.std.specs.Option.{option_map};
 ghost use Rattle.std.specs.Range.Bound.{bound_map};
+ghost use Rattle.std.specs.Vec.{vec_capacity};
 ghost use Rattle.triple_ord.specs.Gap.{first_of};
 ghost use Rattle.sorted_arena.specs.Range.{entries_between, entries_outside};
 ghost use Rattle.sorted_arena.specs.Sorted.{count, pointer_of, item_of, with_rest};
@@ -32,6 +33,9 @@ impl<K: Ord + Drop, V: Drop, P: BasePtr, A: Allocator> SortedArena<K, V, P, A> {
         ensures after { R.has_bounds range → OnOk result
             (self.new ≡ with_rest P.Gen.greatest self.old (entries_outside K.cmp
             (R.start_bound range) (R.end_bound range) self.old.entries)) }
+        ensures room { R.has_bounds range → vec_len drained.old + length (entries_between K.cmp
+            (R.start_bound range) (R.end_bound range) self.old.entries) ≤ vec_capacity drained.old
+            → IsOk result }
         ensures kept { OnErr result (drained.new.items ≡ drained.old.items) }
         ensures err { OnErr result (self.new ≡ self.old) }
     {
@@ -67,6 +71,9 @@ impl<K: Ord + Drop, V: Drop, P: BasePtr, A: Allocator> SortedArena<K, V, P, A> {
             (self.new ≡ with_rest P.Gen.greatest self.old (entries_outside K.cmp
             (bound_map (λ k. k.now) from.entry) (bound_map (λ k. k.now) until.entry)
             self.old.entries)) }
+        ensures room { vec_len drained.old + length (entries_between K.cmp
+            (bound_map (λ k. k.now) from.entry) (bound_map (λ k. k.now) until.entry)
+            self.old.entries) ≤ vec_capacity drained.old → IsOk result }
         ensures kept { OnErr result (drained.new.items ≡ drained.old.items) }
         ensures err { OnErr result (self.new ≡ self.old) }
     {

@@ -1,7 +1,7 @@
 //! Removals. None of them takes memory.
 
-ghost use Rattle.std.specs.Prelude.{◌≡◌, ◌≢◌, ◌+◌, ◌++◌, map, is_some, Some, None, OnOk, OnErr, IfSome, IfNone, OnSome};
-ghost use Rattle.std.specs.List.{All};
+ghost use Rattle.std.specs.Prelude.{◌≡◌, ◌≢◌, ◌+◌, ◌≤◌, ◌++◌, map, length, vec_len, IsOk, is_some, Some, None, OnOk, OnErr, IfSome, IfNone, OnSome};
+ghost use Rattle.std.specs.{List.All, Vec.vec_capacity};
 ghost use Rattle.std.specs.Option.{option_and_then};
 ghost use Rattle.std.specs.Ordering.{is_eq};
 ghost use Rattle.std.specs.declared.cmp.Ordering.TheVariants.{Greater};
@@ -142,6 +142,8 @@ impl<K: Ord, V, P: BasePtr, A: Allocator> SortedArena<K, V, P, A> {
             (entries_above K.cmp until.now self.old.entries)) }
         ensures left { OnOk result
             (All (λ e. K.cmp (key_of e) until.now ≡ Greater) self.new.entries) }
+        ensures room { vec_len popped.old + length (entries_until K.cmp until.now self.old.entries)
+            ≤ vec_capacity popped.old → IsOk result }
         ensures kept { OnErr result (popped.new.items ≡ popped.old.items) }
         ensures err { OnErr result (self.new ≡ self.old) }
     {

@@ -1,6 +1,6 @@
 //! Entries that move into another arena.
 
-ghost use Rattle.std.specs.Prelude.{◌≡◌, ◌+◌, map, IfOk, OnOk, OnErr};
+ghost use Rattle.std.specs.Prelude.{◌≡◌, ◌+◌, [], map, IfOk, IsOk, OnOk, OnErr};
 ghost use Rattle.std.specs.declared.ops.Bound.TheVariants.{Included, Excluded, Unbounded};
 ghost use Rattle.arena_base.specs.Generation.{first_generation};
 ghost use Rattle.sorted_arena.specs.Range.{entries_between};
@@ -28,6 +28,8 @@ impl<K: Ord + Drop, V: Drop, P: BasePtr, A: Allocator> SortedArena<K, V, P, A> {
             (self.new ≡ with_rest P.Gen.greatest self.old
             (entries_between K.cmp Unbounded (Excluded from.now) self.old.entries)) }
         ensures count { IfOk result (λ a. count self.new + count a ≡ count self.old) }
+        ensures none { entries_between K.cmp (Included from.now) Unbounded self.old.entries ≡ []
+            → IsOk result }
         ensures err { OnErr result (self.new ≡ self.old) }
     {
         // with its length an arena tells what holds of it

@@ -1,4 +1,4 @@
-use Rattle.std.proofs.Common.{◌≡◌, ◌∙◌, ◌++◌, List, map, sym, ap, subst}
+use Rattle.std.proofs.Common.{◌≡◌, ◌∙◌, ◌++◌, List, map, length, sym, ap, subst, arith}
 use Rattle.std.specs.{List.All, declared.cmp.Ordering.TheVariants.Greater}
 use Rattle.chain_base.specs.Chain.{Entry}
 use Rattle.sorted_arena.specs.Sorted.{Sorted, key_of, item_of, with_rest}
@@ -21,3 +21,7 @@ returns-clause-left g c =
     OnOk-followed c.drain_between.result (λ is. subst (λ (es : List (Entry (g.row.K.Denot × g.row.V.Denot))). All (λ e. g.K.Ord.cmp (key_of e) c.args.until.now ≡ Greater) es)
     (sym (ap (λ (a : Sorted g.row.K.Denot g.row.V.Denot). a.entries) is ∙ outside-above g.K.Ord.cmp c.args.until.now g.met.K.Ord.total c.args.self.now.entries c.len.ensures.sound.sorted))
     (above-greater g.K.Ord.cmp c.args.until.now g.met.K.Ord.total c.args.self.now.entries c.len.ensures.sound.sorted)) c.drain_between.ensures.after
+
+pub returns-clause-room : goal.returns-clause-room
+returns-clause-room g c fits =
+    c.drain_between.ensures.room (omega (arith, fits, ap length (until-between g.K.Ord.cmp c.args.until.now g.met.K.Ord.total c.args.self.now.entries c.len.ensures.sound.sorted)))

@@ -1,5 +1,7 @@
-use Rattle.std.proofs.Common.{◌∙◌, List, map, length, ap, subst, arith}
+use Rattle.std.proofs.Common.{◌≡◌, ◌∙◌, List, Err, map, length, ap, subst, arith}
 use Rattle.std.specs.declared.ops.Bound.TheVariants.{Included, Unbounded}
+use Rattle.arena_base.specs.declared.error.ReallocationError.{ReallocationError}
+use Rattle.arena_base.specs.declared.error.ReallocationError.TheVariants.{BeyondMaxCapacity, AllocError as NoMemory}
 use Rattle.chain_base.specs.Chain.{Entry}
 use Rattle.sorted_arena.specs.Range.{entries_between}
 use Rattle.sorted_arena.specs.Sorted.{item_of, with_rest, AreSorted}
@@ -52,3 +54,10 @@ pub returns-clause-count : goal.returns-clause-count
 returns-clause-count g c =
     let done = taking-done _ _ _ _ _ _ _ _ c.loop.invariant.taking (omega (arith, c.run_between-first.ensures.count, c.loop.auto.counter-end, c.loop-test.false)) in
     omega (arith, done.1, c.loop.invariant.moved)
+
+pub returns-in-Err-clause-none : goal.returns-in-Err-clause-none
+returns-in-Err-clause-none g c none = absurd (refused c.in-Err.field-0 c.in-Err.is)
+  where
+    refused : (e : ReallocationError) → c.reserve.result ≡ Err e → ⊥
+    refused BeyondMaxCapacity is = absurd (omega (arith, c.reserve.ensures.full.0 is, c.run_between-first.ensures.count, ap length none, ap length c.new-moved.ensures.entries))
+    refused NoMemory is = absurd (omega (arith, c.reserve.ensures.memory is, c.run_between-first.ensures.count, ap length none, ap length c.new-moved.ensures.entries))
