@@ -140,8 +140,9 @@ uint8_t topscedar_arena_pop_until(struct topscedar_arena *arena, int64_t key, st
 /* Runs a script on an empty arena, as the program `ordrun` does, and writes its answer into `out` as far as there is room.
  * `*answer_length` is the length of the whole answer: if it is more than `room`, call again with more.
  *
- * Returns the exit status of `ordrun`: 0 each command was answered, 2 a line of the script is wrong, 3 the script has more
- * than 1,048,576 bytes, 4 memory was refused. On 3 and 4 the answer is empty. */
+ * Returns the exit status of `ordrun`: 0 if each command was answered, 2 if a line of the script is wrong, 3 if the script has
+ * more than 1,048,576 bytes, 4 if memory was refused: on 3 and 4 the answer is empty. 6 if memory was refused while the answer
+ * was written: then it is a beginning of the whole answer. */
 uint8_t topscedar_run(const uint8_t *script, size_t script_length, uint8_t *out, size_t room, size_t *answer_length);
 
 #ifdef __cplusplus

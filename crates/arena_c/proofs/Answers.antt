@@ -1,5 +1,5 @@
 -- What the calls answer, from what was found in the arena.
-use Rattle.std.proofs.Common.{◌≡◌, ◌≢◌, ℕ, ℤ, Bool, true, false, List, [], ◌∷◌, length, Option, Some, None, is_some, Result, Ok, Err, IsSomeAnd, IfNone, OnSome, OnOk, ◌↔◌, refl, sym, ap, ◌∙◌, subst, arith, lit<}
+use Rattle.std.proofs.Common.{◌≡◌, ◌≢◌, ℕ, ℤ, Bool, true, List, [], ◌∷◌, length, Option, Some, None, is_some, Result, Ok, Err, IsSomeAnd, IfNone, OnSome, OnOk, ◌↔◌, refl, sym, ap, ◌∙◌, subst, arith, lit<}
 use Rattle.std.specs.Option.{option_map, option_and_then}
 use Rattle.std.specs.Ordering.{int_cmp, is_eq}
 use Rattle.std.specs.declared.cmp.Ordering.{Ordering}

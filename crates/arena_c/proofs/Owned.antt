@@ -4,7 +4,7 @@ use mathlib.Core.List.{[]}
 use mir.Syntax.{impl, tnil, dnil}
 use denote.Signature.{Slot, plain}
 use Rattle.std.specs.Prelude.{Option, Some, None, is_some, true}
-use Rattle.std_alloc.proofs.BoxSteps.Form.{Bx, R, P}
+use Rattle.std_alloc.proofs.BoxSteps.Form.{Bx}
 use Rattle.std_heap.specs.contracts.Global as heap
 use Rattle.std_heap.specs.contracts.GlobalAllocator.TheImpl.{ghosts, dict}
 use Rattle.std_heap.proofs.Global.TheLaws as heap_laws

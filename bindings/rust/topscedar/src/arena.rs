@@ -27,18 +27,31 @@ pub struct Entry {
 
 impl Pointer {
     pub(crate) fn of(raw: raw::Pointer) -> Option<Pointer> {
-        (raw.index != 0).then_some(Pointer { index: raw.index, generation: raw.generation })
+        (raw.index != 0).then_some(Pointer {
+            index: raw.index,
+            generation: raw.generation,
+        })
     }
 
     pub(crate) fn raw(self) -> raw::Pointer {
-        raw::Pointer { index: self.index, generation: self.generation }
+        raw::Pointer {
+            index: self.index,
+            generation: self.generation,
+        }
     }
 }
 
 impl Entry {
     pub(crate) fn of(raw: raw::Entry) -> Entry {
-        let pointer = Pointer { index: raw.pointer.index, generation: raw.pointer.generation };
-        Entry { pointer, key: raw.key, value: raw.value }
+        let pointer = Pointer {
+            index: raw.pointer.index,
+            generation: raw.pointer.generation,
+        };
+        Entry {
+            pointer,
+            key: raw.key,
+            value: raw.value,
+        }
     }
 }
 
@@ -65,10 +78,15 @@ impl OrderedArena {
     ///
     /// `NoMemory`.
     pub fn new() -> Result<OrderedArena, Error> {
-        let mut handle = raw::Handle { is_open: false, at: ptr::null_mut() };
+        let mut handle = raw::Handle {
+            is_open: false,
+            at: ptr::null_mut(),
+        };
         // Safety: a closed handle, which is moved only while it is not used.
         match unsafe { raw::topscedar_arena_open(&mut handle) } {
-            raw::OK => Ok(OrderedArena { handle: UnsafeCell::new(handle) }),
+            raw::OK => Ok(OrderedArena {
+                handle: UnsafeCell::new(handle),
+            }),
             _ => Err(Error::NoMemory),
         }
     }
@@ -142,7 +160,10 @@ impl OrderedArena {
         let mut pointer = raw::Pointer::default();
         // Safety: as in `found`.
         changed(unsafe { raw::topscedar_arena_insert(self.raw(), key, value, &mut pointer) })?;
-        Ok(Pointer { index: pointer.index, generation: pointer.generation })
+        Ok(Pointer {
+            index: pointer.index,
+            generation: pointer.generation,
+        })
     }
 
     /// Inserts an entry, as [`insert`](Self::insert) does, unless one has an equal key.
@@ -153,8 +174,13 @@ impl OrderedArena {
     pub fn insert_unique(&mut self, key: i64, value: u64) -> Result<Pointer, Error> {
         let mut pointer = raw::Pointer::default();
         // Safety: as in `found`.
-        changed(unsafe { raw::topscedar_arena_insert_unique(self.raw(), key, value, &mut pointer) })?;
-        Ok(Pointer { index: pointer.index, generation: pointer.generation })
+        changed(unsafe {
+            raw::topscedar_arena_insert_unique(self.raw(), key, value, &mut pointer)
+        })?;
+        Ok(Pointer {
+            index: pointer.index,
+            generation: pointer.generation,
+        })
     }
 
     /// Inserts pairs whose keys are in order behind all entries, in one call: all of them, or none. Amortized O(1) for each.
@@ -169,7 +195,14 @@ impl OrderedArena {
         let mut at = 0;
         // Safety: as in `found`, and the slices have the lengths that are passed.
         let status = unsafe {
-            raw::topscedar_arena_build(self.raw(), keys.as_ptr(), keys.len(), values.as_ptr(), values.len(), &mut at)
+            raw::topscedar_arena_build(
+                self.raw(),
+                keys.as_ptr(),
+                keys.len(),
+                values.as_ptr(),
+                values.len(),
+                &mut at,
+            )
         };
         match status {
             raw::OUT_OF_ORDER => Err(Error::OutOfOrder(at)),
@@ -190,7 +223,9 @@ impl OrderedArena {
     pub fn set_value(&mut self, pointer: Pointer, value: u64) -> Result<u64, Error> {
         let mut before = 0;
         // Safety: as in `found`.
-        changed(unsafe { raw::topscedar_arena_set_value(self.raw(), pointer.raw(), value, &mut before) })?;
+        changed(unsafe {
+            raw::topscedar_arena_set_value(self.raw(), pointer.raw(), value, &mut before)
+        })?;
         Ok(before)
     }
 
@@ -203,7 +238,9 @@ impl OrderedArena {
     pub fn rekey(&mut self, pointer: Pointer, key: i64) -> Result<i64, Error> {
         let mut before = 0;
         // Safety: as in `found`.
-        changed(unsafe { raw::topscedar_arena_rekey(self.raw(), pointer.raw(), key, &mut before) })?;
+        changed(unsafe {
+            raw::topscedar_arena_rekey(self.raw(), pointer.raw(), key, &mut before)
+        })?;
         Ok(before)
     }
 
@@ -297,7 +334,9 @@ impl Drop for OrderedArena {
 
 impl fmt::Debug for OrderedArena {
     fn fmt(&self, f: &mut fmt::Formatter<'_>) -> fmt::Result {
-        f.debug_map().entries(self.iter().map(|entry| (entry.key, entry.value))).finish()
+        f.debug_map()
+            .entries(self.iter().map(|entry| (entry.key, entry.value)))
+            .finish()
     }
 }
 

@@ -16,7 +16,11 @@ struct Batch {
 
 impl Batch {
     fn empty() -> Batch {
-        Batch { entries: [raw::Entry::default(); ROOM], filled: 0, given: 0 }
+        Batch {
+            entries: [raw::Entry::default(); ROOM],
+            filled: 0,
+            given: 0,
+        }
     }
 
     fn take(&mut self) -> Option<Entry> {
@@ -35,7 +39,11 @@ pub struct Iter<'a> {
 
 impl<'a> Iter<'a> {
     pub(crate) fn new(arena: &'a OrderedArena, first: Option<Entry>) -> Iter<'a> {
-        Iter { arena, rest: first.map(|entry| entry.pointer), batch: Batch::empty() }
+        Iter {
+            arena,
+            rest: first.map(|entry| entry.pointer),
+            batch: Batch::empty(),
+        }
     }
 
     fn fill(&mut self, from: Pointer) {
@@ -81,7 +89,12 @@ pub struct PopUntil<'a> {
 
 impl<'a> PopUntil<'a> {
     pub(crate) fn new(arena: &'a mut OrderedArena, until: i64) -> PopUntil<'a> {
-        PopUntil { arena, until, is_done: false, batch: Batch::empty() }
+        PopUntil {
+            arena,
+            until,
+            is_done: false,
+            batch: Batch::empty(),
+        }
     }
 
     fn fill(&mut self) {

@@ -29,7 +29,15 @@ pub fn run(script: &[u8]) -> (u8, Vec<u8>) {
         let mut length = 0;
         let room = out.len();
         // Safety: both slices have the lengths that are passed.
-        let status = unsafe { raw::topscedar_run(script.as_ptr(), script.len(), out.as_mut_ptr(), room, &mut length) };
+        let status = unsafe {
+            raw::topscedar_run(
+                script.as_ptr(),
+                script.len(),
+                out.as_mut_ptr(),
+                room,
+                &mut length,
+            )
+        };
         out.resize(length, 0);
         if length <= room {
             return (status, out);

@@ -36,11 +36,31 @@ extern "C" {
     pub fn topscedar_arena_length(arena: *mut Handle, length: *mut usize) -> u8;
     pub fn topscedar_arena_reserve(arena: *mut Handle, additional: usize) -> u8;
     pub fn topscedar_arena_clear(arena: *mut Handle) -> u8;
-    pub fn topscedar_arena_insert(arena: *mut Handle, key: i64, value: u64, pointer: *mut Pointer) -> u8;
-    pub fn topscedar_arena_insert_unique(arena: *mut Handle, key: i64, value: u64, pointer: *mut Pointer) -> u8;
+    pub fn topscedar_arena_insert(
+        arena: *mut Handle,
+        key: i64,
+        value: u64,
+        pointer: *mut Pointer,
+    ) -> u8;
+    pub fn topscedar_arena_insert_unique(
+        arena: *mut Handle,
+        key: i64,
+        value: u64,
+        pointer: *mut Pointer,
+    ) -> u8;
     pub fn topscedar_arena_get(arena: *mut Handle, pointer: Pointer, entry: *mut Entry) -> u8;
-    pub fn topscedar_arena_set_value(arena: *mut Handle, pointer: Pointer, value: u64, before: *mut u64) -> u8;
-    pub fn topscedar_arena_rekey(arena: *mut Handle, pointer: Pointer, key: i64, before: *mut i64) -> u8;
+    pub fn topscedar_arena_set_value(
+        arena: *mut Handle,
+        pointer: Pointer,
+        value: u64,
+        before: *mut u64,
+    ) -> u8;
+    pub fn topscedar_arena_rekey(
+        arena: *mut Handle,
+        pointer: Pointer,
+        key: i64,
+        before: *mut i64,
+    ) -> u8;
     pub fn topscedar_arena_remove(arena: *mut Handle, pointer: Pointer, entry: *mut Entry) -> u8;
     pub fn topscedar_arena_find(arena: *mut Handle, key: i64, entry: *mut Entry) -> u8;
     pub fn topscedar_arena_lower_bound(arena: *mut Handle, key: i64, entry: *mut Entry) -> u8;
@@ -74,5 +94,11 @@ extern "C" {
         room: usize,
         filled: *mut usize,
     ) -> u8;
-    pub fn topscedar_run(script: *const u8, length: usize, out: *mut u8, room: usize, answer_length: *mut usize) -> u8;
+    pub fn topscedar_run(
+        script: *const u8,
+        length: usize,
+        out: *mut u8,
+        room: usize,
+        answer_length: *mut usize,
+    ) -> u8;
 }

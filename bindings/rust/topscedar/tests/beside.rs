@@ -42,7 +42,10 @@ fn searches(random: &mut Random, arena: &OrderedArena, model: &Model) {
     let (lower, upper) = (model.lower(key), model.upper(key));
     assert_eq!(arena.lower_bound(key), model.at(lower));
     assert_eq!(arena.upper_bound(key), model.at(upper));
-    assert_eq!(arena.find(key), if lower < upper { model.at(lower) } else { None });
+    assert_eq!(
+        arena.find(key),
+        if lower < upper { model.at(lower) } else { None }
+    );
     assert_eq!(arena.first(), model.0.first().copied());
     assert_eq!(arena.last(), model.0.last().copied());
     assert_eq!(arena.len(), model.0.len());
@@ -50,7 +53,12 @@ fn searches(random: &mut Random, arena: &OrderedArena, model: &Model) {
     assert_eq!(arena.iter_from(key).collect::<Vec<_>>(), model.0[lower..]);
 }
 
-fn changes(random: &mut Random, arena: &mut OrderedArena, model: &mut Model, i: usize) -> Option<Pointer> {
+fn changes(
+    random: &mut Random,
+    arena: &mut OrderedArena,
+    model: &mut Model,
+    i: usize,
+) -> Option<Pointer> {
     let pointer = model.0[i].pointer;
     let key = random.key();
     match random.below(4) {
@@ -94,12 +102,20 @@ fn random_calls() {
         match random.below(12) {
             0..=3 => {
                 let pointer = arena.insert(key, value).unwrap();
-                model.insert(Entry { pointer, key, value });
+                model.insert(Entry {
+                    pointer,
+                    key,
+                    value,
+                });
             }
             4 => match arena.insert_unique(key, value) {
                 Ok(pointer) => {
                     assert_eq!(model.lower(key), model.upper(key));
-                    model.insert(Entry { pointer, key, value });
+                    model.insert(Entry {
+                        pointer,
+                        key,
+                        value,
+                    });
                 }
                 Err(error) => {
                     assert_eq!(error, Error::EqualKey);
@@ -107,12 +123,17 @@ fn random_calls() {
                 }
             },
             5 | 6 => searches(&mut random, &arena, &model),
-            7 | 8 if !model.0.is_empty() => stale = changes(&mut random, &mut arena, &mut model, i).or(stale),
+            7 | 8 if !model.0.is_empty() => {
+                stale = changes(&mut random, &mut arena, &mut model, i).or(stale)
+            }
             9 if !model.0.is_empty() => {
                 let pointer = model.0[i].pointer;
                 assert_eq!(arena.get(pointer), model.at(i));
                 assert_eq!(arena.next(pointer), model.at(i + 1));
-                assert_eq!(arena.previous(pointer), i.checked_sub(1).and_then(|i| model.at(i)));
+                assert_eq!(
+                    arena.previous(pointer),
+                    i.checked_sub(1).and_then(|i| model.at(i))
+                );
             }
             10 => {
                 let first = (!model.0.is_empty()).then(|| model.0.remove(0));
@@ -138,8 +159,17 @@ fn sorted_pairs() {
     let values: Vec<u64> = (0..1000).collect();
     let mut arena = OrderedArena::from_sorted(&keys, &values).unwrap();
     let pairs: Vec<_> = arena.iter().map(|entry| (entry.key, entry.value)).collect();
-    assert_eq!(pairs, keys.iter().copied().zip(values.iter().copied()).collect::<Vec<_>>());
-    assert_eq!(arena.extend_sorted(&[499, 498], &[0, 0]), Err(Error::OutOfOrder(1)));
+    assert_eq!(
+        pairs,
+        keys.iter()
+            .copied()
+            .zip(values.iter().copied())
+            .collect::<Vec<_>>()
+    );
+    assert_eq!(
+        arena.extend_sorted(&[499, 498], &[0, 0]),
+        Err(Error::OutOfOrder(1))
+    );
     assert_eq!(arena.extend_sorted(&[0], &[0]), Err(Error::OutOfOrder(0)));
     assert_eq!(arena.extend_sorted(&[500], &[]), Err(Error::LengthsDiffer));
     assert_eq!(arena.len(), 1000);
@@ -164,6 +194,13 @@ fn scripts() {
     assert_eq!(status, 0);
     assert!(String::from_utf8(answer).unwrap().contains("30:2"));
     assert_eq!(run(b"nonsense\n").0, 2);
-    assert_eq!(run(&b"insert 1 1\nlist\n".repeat(300)).1.iter().filter(|byte| **byte == b'\n').count(), 600);
+    assert_eq!(
+        run(&b"insert 1 1\nlist\n".repeat(300))
+            .1
+            .iter()
+            .filter(|byte| **byte == b'\n')
+            .count(),
+        600
+    );
     assert_eq!(run(&[b'\n'; 1_048_577]), (3, Vec::new()));
 }

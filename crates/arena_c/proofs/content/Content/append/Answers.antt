@@ -1,4 +1,4 @@
-use Rattle.std.proofs.Common.{rules, ◌≡◌, ◌<◌, ◌∙◌, ◌+◌, ap, subst, ℤ, pos, get_or, w64, to_z, of_z, length, arith}
+use Rattle.std.proofs.Common.{rules, ◌≡◌, ◌<◌, ◌∙◌, subst, ℤ, pos, get_or, w64, to_z, of_z, length, arith}
 use Rattle.std.specs.Ordering.{int_cmp}
 use Rattle.sorted_arena.specs.Sorted.{Inserts, count}
 use Rattle.arena_c.specs.Shown.{most}

@@ -1,7 +1,7 @@
-use Rattle.std.proofs.Common.{◌≡◌, ◌<◌, ◌∙◌, ◌+◌, refl, sym, ap, subst, None, Some, List, ℤ, ℕ, length, take, drop, arith}
-use Rattle.chain_base.specs.Chain.{Entry, IsDistinct, first_pointer, from_index}
+use Rattle.std.proofs.Common.{◌∙◌, ◌+◌, refl, sym, ap, subst, drop, arith}
+use Rattle.chain_base.specs.Chain.{IsDistinct, first_pointer, from_index}
 use Rattle.sorted_arena.specs.Sorted.{next_of}
-use Rattle.arena_c.specs.Shown.{Arena, entry_found, shown_entry, numbers_of}
+use Rattle.arena_c.specs.Shown.{Arena, entry_found, shown_entry}
 use Rattle.arena_c.proofs.Answers.{own-numbers}
 use Rattle.arena_c.proofs.Runs.{drop-none, drop-some, run-done, run-first, run-step, written-step}
 use Rattle.arena_c.proofs.content.Content.fill.Goals as goal

@@ -1,4 +1,4 @@
-use Rattle.std.proofs.Common.{◌≡◌, ◌∙◌, sym, ap, ℤ, ℕ}
+use Rattle.std.proofs.Common.{◌∙◌, sym, ap, ℤ, ℕ}
 use Rattle.std.specs.Option.{option_map}
 use Rattle.sorted_arena.specs.Sorted.{last_item}
 use Rattle.sorted_arena.proofs.Cutting.{last-named}

@@ -1,4 +1,4 @@
-use Rattle.std.proofs.Common.{◌≡◌, ◌<◌, ◌∙◌, ◌+◌, ◌++◌, ◌∷◌, [], refl, sym, ap, subst, None, Some, List, ℤ, ℕ, length, take, drop, append_assoc, arith, w64, to_z, of_z}
+use Rattle.std.proofs.Common.{◌≡◌, ◌∙◌, ◌+◌, ◌++◌, ◌∷◌, [], refl, sym, ap, Some, List, ℤ, ℕ, take, drop, append_assoc, arith, w64, to_z, of_z}
 use Rattle.std.specs.Ordering.{int_cmp}
 use Rattle.chain_base.specs.Chain.{Entry, first_pointer}
 use Rattle.sorted_arena.specs.Sorted.{behind_first, entries_until, first_item_until}

@@ -15,11 +15,11 @@ use contract.Monad.{fact}
 use contract.BorrowLft.{◌⊑◌}
 use contract.Running.{tables}
 use denote.Exit.{no}
-use denote.RattleType.{RattleType, owns}
-use denote.Signature.{types_at, plain}
+use denote.RattleType.{RattleType}
+use denote.Signature.{plain}
 use denote.RawPtr.{block_ptr}
 use denote.Steps.{nothing, only, heard}
-use denote.Param.{layout, bounded}
+use denote.Param.{bounded}
 use denote.Triple.Spec.{triple_of}
 use denote.Triple.Call.{calls_at_last}
 use denote.Triple.Table.{framed}

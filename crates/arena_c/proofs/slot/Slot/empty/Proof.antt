@@ -1,22 +1,20 @@
 -- A slot with no address and this allocator owns nothing else.
-use Rattle.std.proofs.Common.{◌≡◌, List, [], ◌∷◌, ◌++◌, refl, sym, ap, ◌∙◌, subst}
+use Rattle.std.proofs.Common.{List, [], ◌∷◌, ◌++◌, refl, sym, subst}
 use mir.Val.{Val, vstruct, of_list}
 use base.Logic.{SProp, ent, emp, id⊢}
 use base.Fml.{ftrue, fsep}
 use prog.Wp.{WpFn}
-use types.Kit.{Item, ‵, raw, ◌⊛◌, ◌$◌, ◌∵◌, !, qed, by, move, drop, use1, join, split, fsplit, fjoin, fpack, feq_i, rewrite, suffices, done}
-use types.Run.{stop, fld, no_more, and_then, of_opd, lit, returns, enter}
-use types.ByLocal.{alloc_all, pass_all, free_all, look_at, get, get_in, sets}
-use types.Part.{whole, sub, agg}
-use contract.Monad.{fact}
+use types.Kit.{‵, raw, ◌⊛◌, ◌$◌, ◌∵◌, !, qed, move, drop, use1, join, split, fsplit, fjoin, fpack, feq_i, suffices, done}
+use types.Run.{no_more, and_then, of_opd, lit, returns, enter}
+use types.ByLocal.{alloc_all, pass_all, free_all, look_at, get, sets}
+use types.Part.{agg}
 use contract.Running.{tables}
 use denote.Exit.{yes}
 use denote.Signature.{type_at}
-use denote.Steps.{nothing, heard}
+use denote.Steps.{nothing}
 use denote.Triple.Walked.{says, Stays, stay_dropped, walk_of, ends_at, Goes-dropped}
 use Rattle.std.proofs.raw_atomic.Walks.{proved_at}
 use Rattle.std_alloc.proofs.BoxSteps.Form as box
-use Rattle.std_alloc.proofs.BoxSteps.Steps.{box_out, box_in}
 use Rattle.std.proofs.Common.{lit<}
 use Rattle.std.proofs.alloc.Calls.{handle_tells}
 use Rattle.std.specs.Prelude.{None}
@@ -28,7 +26,6 @@ use denote.Struct.Owning.{shape}
 use Rattle.std_alloc.proofs.ResultValues.{and_tt}
 use Rattle.std_heap.specs.contracts.Global as heap
 use Rattle.arena_c.proofs.Owned.{E, AnAllocator}
-use Rattle.arena_c.specs.contracts.slot.Slot as slot
 use Rattle.arena_c.specs.contracts.slot.Slot.empty.{ended, clauses, signature}
 use Rattle.arena_c.specs.contracts.slot.Slot.empty.Key.{name as #self}
 use Rattle.arena_c.proofs.slot.Slot.empty.Statement.{statement}

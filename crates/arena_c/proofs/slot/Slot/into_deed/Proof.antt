@@ -1,11 +1,11 @@
 -- Two fields move, and what a full slot owns goes with them.
-use Rattle.std.proofs.Common.{◌≡◌, List, [], ◌∷◌, ◌++◌, refl, sym, ap, ◌∙◌, subst}
-use mir.Val.{Val, vstruct, of_list}
-use base.Logic.{SProp, ent, emp, id⊢}
+use Rattle.std.proofs.Common.{◌≡◌, List, [], ◌∷◌, ◌++◌, refl, sym, subst}
+use mir.Val.{Val}
+use base.Logic.{SProp, ent, id⊢}
 use base.Fml.{ftrue, fsep}
 use prog.Wp.{WpFn}
-use types.Kit.{Item, ‵, raw, ◌⊛◌, ◌$◌, ◌∵◌, !, qed, by, move, drop, use1, join, split, fsplit, fjoin, fpack, feq_i, rewrite, suffices, done}
-use types.Run.{stop, fld, no_more, and_then, of_opd, lit, returns, enter}
+use types.Kit.{‵, raw, ◌⊛◌, ◌$◌, ◌∵◌, !, qed, move, drop, use1, join, split, fsplit, fjoin, rewrite, suffices, done}
+use types.Run.{stop, fld, no_more, and_then, of_opd, returns, enter}
 use types.ByLocal.{alloc_all, pass_all, free_all, look_at, get, get_in, sets}
 use types.Part.{whole, sub, agg}
 use contract.Monad.{fact}
@@ -17,7 +17,7 @@ use denote.Triple.Walked.{says, Stays, stay_dropped, walk_of, ends_at, Goes-drop
 use Rattle.std.proofs.raw_atomic.Walks.{proved_at}
 use Rattle.std_alloc.proofs.BoxSteps.Form as box
 use Rattle.std_alloc.proofs.BoxSteps.Steps.{box_out, box_in}
-use Rattle.std.specs.Prelude.{Option, Some, is_some, true}
+use Rattle.std.specs.Prelude.{Option, is_some, true}
 use Rattle.arena_c.proofs.Owned.{E, ASlot, held_value}
 use Rattle.arena_c.specs.contracts.slot.Slot as slot
 use Rattle.arena_c.specs.contracts.slot.Slot.into_deed.{ended, clauses, signature}
