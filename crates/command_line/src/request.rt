@@ -1,8 +1,7 @@
 //! The arguments: none, or `--help` alone.
 
-use std::env;
 use std::env::Env;
-use std::io;
+use std::{env, io};
 
 /// The exit status on wrong usage.
 pub const WRONG_USAGE: u8 = 64;
