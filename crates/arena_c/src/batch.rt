@@ -18,7 +18,7 @@ use crate::run::first_fall;
 use crate::status::{CLOSED, NOT_FOUND, OK, OUT_OF_ORDER};
 use std::alloc::Global;
 
-/// Inserts pairs whose keys are in order behind all entries. There are as many pairs as the shorter array has items. One comparison of
+/// Inserts pairs whose keys are in order behind all entries. There are as many pairs as the shorter array has items. Two comparisons of
 /// keys and amortized O(1) for each.
 ///
 /// `OUT_OF_ORDER` if a key is smaller than the one before it, or the first one than the last key of the arena: `at` is its index then.
