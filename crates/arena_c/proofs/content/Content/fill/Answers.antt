@@ -30,7 +30,7 @@ loop-i-preserved c =
     let s = run-step a distinct c.args.first.0 n e (ap (entry_found a) (sym c.loop-i.invariant.next) ∙ sym c.entry_found.ensures ∙ c.in-Some.is) in
     let after = drop-some run (drop (n + 1) run) s.entry n s.cut in
     record {
-      next = own-numbers c.next-next.result ∙ c.next-next.ensures ∙ ap (λ (b : Arena). next_of b.entries c.p0.result) c.self-in-loop-i.view_is ∙ ap (next_of a.entries) c.p0.ensures ∙ s.next;
+      next = own-numbers c.next-next.result ∙ c.next-next.ensures.value ∙ ap (λ (b : Arena). next_of b.entries c.p0.result) c.self-in-loop-i.view_is ∙ ap (next_of a.entries) c.p0.ensures ∙ s.next;
       written = written-step shown_entry run (drop (n + 1) run) c.args.entries.now c.loop-i.entries n s.entry e s.cut s.shown c.loop-i.invariant.written (omega (arith, c.loop-i-test.true));
       reached = omega (arith, after);
     }
