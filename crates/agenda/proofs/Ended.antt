@@ -3,7 +3,7 @@ use Rattle.std.proofs.Common.{◌≡◌, ◌≢◌, ℕ, ◌<◌, ◌≤◌, ◌
 use Rattle.std.proofs.{lemmas.Bool.Decides.eqb_tells, lemmas.List.Elements.All-from_recursion, lemmas.List.Elements.recursion_from_All}
 use Rattle.std.specs.List.{AllByRecursion}
 use Rattle.agenda.specs.Agenda.{Scheduled, Agenda, is_named_by, job_of, without, with_left, generation_after, Schedules, Reschedules, MovesDeadline}
-use Rattle.agenda.specs.Tickets.{Step, IsStep, stays, comes, leaves, moves, renews, IsRun, HasNoLaterTicket, HasEnded, KeepsEnded, EndedTicketLaw}
+use Rattle.agenda.specs.Tickets.{Step, IsStep, stays, comes, leaves, moves, renews, empties, resizes, IsRun, HasNoLaterTicket, HasEnded, KeepsEnded, EndedTicketLaw}
 use Rattle.agenda.proofs.Naming.{one_or_other, job_of-first, job_of-behind, job_of-without_other, job_of-between_other, updates-scheduled}
 
 -- where the generations don't begin again, the next one is greater
@@ -115,6 +115,18 @@ module _ {J : Type 0} where
       let left : Agenda J = with_left old (without old.jobs t) in
       goes-then old left new (goes-left old t (ap is_some h.named) (omega (arith, counted, h.put.generation))) (goes-put left u d h.left.1 new h.put)
 
+  -- all jobs leave
+  goes-emptied : (a : Agenda J) → a.generation ≤ generation_after a.generation → Goes a (with_left a [])
+  goes-emptied a counted = record {
+    rises = counted;
+    named = λ u found. absurd (cc);
+    ended = λ u was none. after-greater a.generation counted;
+  }
+
+  -- the capacity changes
+  goes-resized : (a : Agenda J) (capacity : ℕ) → Goes a (record a { capacity = capacity })
+  goes-resized a capacity = record { rises = omega arith; named = λ t there. inl there; ended = λ t there none. absurd (cc) }
+
   -- one call, and a run of them
   goes-by : (old new : Agenda J) → old.generation ≤ new.generation → Step old new → Goes old new
   goes-by old new counted (stays same) = subst (λ (a : Agenda J). Goes old a) (sym same) (goes-nowhere old)
@@ -123,6 +135,9 @@ module _ {J : Type 0} where
       subst (λ (a : Agenda J). Goes old a) (sym after) (goes-left old t there (omega (arith, counted, ap (λ (a : Agenda J). a.generation) after)))
   goes-by old new counted (moves t d h) = goes-moved old t d new h
   goes-by old new counted (renews t u d h) = goes-renewed old t u d new counted h
+  goes-by old new counted (empties after) =
+      subst (λ (a : Agenda J). Goes old a) (sym after) (goes-emptied old (omega (arith, counted, ap (λ (a : Agenda J). a.generation) after)))
+  goes-by old new counted (resizes capacity after) = subst (λ (a : Agenda J). Goes old a) (sym after) (goes-resized old capacity)
 
   goes-step : (old new : Agenda J) → old.generation ≤ new.generation → IsStep old new → Goes old new
   unfolding IsStep

@@ -1,5 +1,6 @@
 -- Lemmas of this crate.
 pub mod Naming
+pub mod Room
 pub mod Steps
 pub mod Leaving
 pub mod Deadlines

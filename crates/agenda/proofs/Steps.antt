@@ -1,7 +1,7 @@
 -- That each call is one step of an agenda.
-use Rattle.std.proofs.Common.{◌≡◌, ℕ, IsSome}
+use Rattle.std.proofs.Common.{◌≡◌, ℕ, [], IsSome}
 use Rattle.agenda.specs.Agenda.{Agenda, job_of, without, with_left, Schedules, Reschedules, MovesDeadline}
-use Rattle.agenda.specs.Tickets.{IsStep, stays, comes, leaves, moves, renews}
+use Rattle.agenda.specs.Tickets.{IsStep, stays, comes, leaves, moves, renews, empties, resizes}
 
 module _ {J : Type 0} (old new : Agenda J) where
   pub step-stays : new ≡ old → IsStep old new
@@ -23,3 +23,11 @@ module _ {J : Type 0} (old new : Agenda J) where
   pub step-renews : (t u : ℕ × ℕ) (d : ℕ) → Reschedules old t u d new → IsStep old new
   unfolding IsStep
   step-renews t u d h = renews t u d h
+
+  pub step-empties : new ≡ with_left old [] → IsStep old new
+  unfolding IsStep
+  step-empties after = empties after
+
+  pub step-resizes : (capacity : ℕ) → new ≡ record old { capacity = capacity } → IsStep old new
+  unfolding IsStep
+  step-resizes capacity after = resizes capacity after

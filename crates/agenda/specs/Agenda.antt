@@ -1,6 +1,6 @@
 -- What an agenda is: one list of jobs, each with its ticket and its deadline, in the order in which they leave.
-use Rattle.std.specs.Prelude.{◌≡◌, ◌≢◌, ℕ, ◌≤◌, ◌<◌, ◌*◌, min, max, ◌==◌, ◌&&◌, leb, nat_lt, if◌then◌else◌, Bool, List, [], ◌∷◌, ◌++◌, length, Option, Some, None}
-use Rattle.std.specs.{Option.option_map, List.All}
+use Rattle.std.specs.Prelude.{◌≡◌, ◌≢◌, ℕ, ◌+◌, ◌≤◌, ◌<◌, ◌*◌, min, max, ◌==◌, ◌&&◌, leb, nat_lt, if◌then◌else◌, Bool, List, [], ◌∷◌, ◌++◌, length, Option, Some, None}
+use Rattle.std.specs.{Option.option_map, List.All, Borrow.Bor}
 use Rattle.arena_base.specs.Generation.{next_generation}
 
 -- a job on the agenda: the ticket that names it, which is an index and a generation; its deadline; and the job itself
@@ -24,6 +24,10 @@ most_jobs = 4294967294
 abbrev pub grown : ℕ → ℕ
 grown capacity = min most_jobs (max 4 (2 * capacity))
 
+-- the capacity after room for so many jobs was made: if it is too small, it grows at least as for one more job
+abbrev pub capacity_for : ℕ → ℕ → ℕ
+capacity_for capacity needed = if nat_lt capacity needed then max needed (grown capacity) else capacity
+
 -- the generation after g: one more, and 2 after the greatest number of 64 bits
 abbrev pub generation_after : ℕ → ℕ
 generation_after g = next_generation (Some 18446744073709551615) g
@@ -42,10 +46,23 @@ module _ {J : Type 0} where
   abbrev pub count : Agenda J → ℕ
   count a = length a.jobs
 
+  -- so many more jobs fit without growing
+  abbrev pub HasRoomFor : ℕ → Agenda J → Type 0
+  HasRoomFor n a = count a + n ≤ a.capacity
+
   -- the jobs without the one that a ticket names
   abbrev pub without : List (Scheduled J) → ℕ × ℕ → List (Scheduled J)
   without [] t = []
   without (x ∷ xs) t = if is_named_by t x then xs else x ∷ without xs t
+
+  -- the first job
+  abbrev pub first_job : List (Scheduled J) → Option (Scheduled J)
+  first_job [] = None
+  first_job (x ∷ xs) = Some x
+
+  -- a job as it is shown: its ticket, its deadline, and a reference to it
+  abbrev pub shown_job : (ℕ × ℕ) × ℕ × Bor J → Scheduled J
+  shown_job x = record { ticket = x.0; deadline = x.1; job = x.2.now }
 
   -- the deadline of the first job
   abbrev pub first_deadline : List (Scheduled J) → Option ℕ

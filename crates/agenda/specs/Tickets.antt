@@ -3,13 +3,16 @@ use Rattle.std.specs.Prelude.{◌≡◌, ℕ, ◌<◌, ◌≤◌, List, [], ◌�
 use Rattle.std.specs.List.{All}
 use Rattle.agenda.specs.Agenda.{Agenda, job_of, without, with_left, Schedules, Reschedules, MovesDeadline}
 
--- What one call does to an agenda: nothing, or one job comes, leaves, or gets another deadline, under its ticket or under a new one.
+-- What one call does to an agenda: nothing; one job comes, leaves, or gets another deadline, under its ticket or under a new one; all jobs
+-- leave; or the capacity changes.
 pub data Step {J : Type 0} (old new : Agenda J) : Type 0 where
   stays : new ≡ old → Step old new
   comes : (t : ℕ × ℕ) (deadline : ℕ) (job : J) → Schedules old t deadline job new → Step old new
   leaves : (t : ℕ × ℕ) → IsSome (job_of old.jobs t) → new ≡ with_left old (without old.jobs t) → Step old new
   moves : (t : ℕ × ℕ) (deadline : ℕ) → MovesDeadline old t deadline new → Step old new
   renews : (t u : ℕ × ℕ) (deadline : ℕ) → Reschedules old t u deadline new → Step old new
+  empties : new ≡ with_left old [] → Step old new
+  resizes : (capacity : ℕ) → new ≡ record old { capacity = capacity } → Step old new
 
 module _ {J : Type 0} where
   -- the same as one word, so that a caller's proof hands it to the law and doesn't go through the cases

@@ -1,18 +1,23 @@
 //! `Agenda`: jobs by deadline.
 
-ghost use Rattle.std.specs.Prelude.{◌≡◌, ◌==◌, ◌↔◌, ◌+◌, ◌≤◌, [], Err, Some, None};
+ghost use Rattle.std.specs.Prelude.{◌≡◌, ◌==◌, ◌↔◌, ◌+◌, ℕ, ◌≤◌, ◌<◌, [], Err, Some, None, IsOk, map};
 ghost use Rattle.std.specs.Prelude.{IfOk, OnOk, IfErr, OnErr, IfSome, IfNone, OnSome};
 ghost use Rattle.std.specs.{Prelude.is_some, Option.option_map, Bool.OnTrue, Bool.OnFalse};
 ghost use Rattle.agenda.specs.Agenda.{most_jobs, count, job_of, without, with_left, first_deadline, first_due, behind_first};
-ghost use Rattle.agenda.specs.Agenda.{IsSound, Schedules, Reschedules, MovesDeadline};
+ghost use Rattle.agenda.specs.Agenda.{IsSound, HasRoomFor, Schedules, Reschedules, MovesDeadline};
 ghost use Rattle.agenda.specs.Agenda.{Updates, Leaves, Moves};
+ghost use Rattle.agenda.specs.Layout.{scheduled};
 ghost use Rattle.agenda.specs.Tickets.{IsStep, HasNoLaterTicket};
+
+mod debug;
+mod look;
+mod room;
 
 use crate::jobs::{Jobs, put, put_within};
 use crate::ticket::Ticket;
 use std::alloc::{Allocator, Global};
 use std::marker::Model;
-use triple_ord::{ReallocationError, SimpleOrdArena};
+use triple_ord::{Iter, OrdPair, P0, ReallocationError, SimpleOrdArena};
 
 /// Jobs by deadline. Jobs with equal deadlines leave in the order of scheduling.
 ///
@@ -78,6 +83,13 @@ impl<J, A: Allocator> Agenda<J, A> {
         ensures { result ≡ (count self.now == 0) }
     {
         self.jobs.is_empty()
+    }
+
+    // The entries of the ordered arena.
+    pub(crate) fn entries(&self) -> Iter<'_, P0, OrdPair<u64, J>, A>
+        ensures { map scheduled result ≡ self.now.jobs }
+    {
+        self.jobs.iter_ordered()
     }
 
     /// Returns the deadline of the first job, in O(1). `None` if there are no jobs.
@@ -154,6 +166,8 @@ impl<J: Drop, A: Allocator> Agenda<J, A> {
             → count self.old ≡ self.old.capacity }
         ensures err { OnErr result (self.new ≡ self.old) }
         ensures generation { self.new.generation ≡ self.old.generation }
+        ensures fits { count self.old < self.old.capacity → IsOk result }
+        ensures room { (n : ℕ) → HasRoomFor (n + 1) self.old → HasRoomFor n self.new }
         ensures step { IsStep self.old self.new }
     {
         let pointer = put(&mut self.jobs, deadline, job)?;

@@ -3,10 +3,12 @@
 #![tactic(auto)]
 
 mod agenda;
+mod iter;
 mod jobs;
 pub mod laws;
 mod ticket;
 
 pub use agenda::Agenda;
+pub use iter::Iter;
 pub use ticket::Ticket;
 pub use triple_ord::ReallocationError;

@@ -1,4 +1,5 @@
 //! Uses of `agenda`, as a caller writes them: each with the clauses that its user wants, proved from the contracts alone.
 #![tactic(auto)]
 
+pub mod periodic;
 pub mod reminders;

@@ -1,6 +1,7 @@
 //! `Calendar`: which word holds at which time.
 
 use std::alloc::{AllocError, Global};
+use std::collections::HashMap;
 use timeline::Timeline;
 
 /// Which word holds at which time. A timeline copies its values, so it holds the place of a word among all that were ever set.
@@ -8,6 +9,8 @@ use timeline::Timeline;
 pub struct Calendar {
     pub times: Timeline<u64>,
     pub words: Vec<String>,
+    // the place of each word
+    places: HashMap<String, u64>,
 }
 
 impl Calendar {
@@ -16,16 +19,24 @@ impl Calendar {
         Calendar {
             times: Timeline::new(alloc),
             words: Vec::new(alloc),
+            places: HashMap::new(alloc),
         }
     }
 
-    /// The place of a word, behind all others where it is new.
+    /// The place of a word, behind all others if it is new. On `Err` nothing has changed.
     pub fn place_of(&mut self, alloc: Global, word: &str) -> Result<u64, AllocError> {
-        if let Some(place) = self.words.iter().position(|known| known.as_str() == word) {
-            return Ok(place as u64);
+        if let Some(place) = self.places.get(word) {
+            return Ok(*place);
         }
         let place = self.words.len() as u64;
-        self.words.push(String::from_str(alloc, word)?)?;
+        self.words.reserve(1)?;
+        let copy = String::from_str(alloc, word)?;
+        let key = String::from_str(alloc, word)?;
+        if self.places.insert(key, place).is_err() {
+            return Err(AllocError);
+        }
+        // there is room for it
+        let _ = self.words.push(copy);
         Ok(place)
     }
 

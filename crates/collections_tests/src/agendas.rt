@@ -188,3 +188,62 @@ fn moving_asks_for_no_memory(rt: HostRuntime) {
     drop(rest);
     assert!(rt; are_right(&mut letters, &mut tickets, &AFTER));
 }
+
+/// Schedules so many letters, and answers whether all found room.
+fn all_fit(letters: &mut Letters<&LocalHeap>, count: usize) -> bool {
+    for _ in 0..count {
+        if letters.schedule(3, 'r').is_err() {
+            return false;
+        }
+    }
+    true
+}
+
+#[test]
+fn a_reservation_is_room_enough(rt: HostRuntime) {
+    let mut met = [false; 2];
+    for units in 1..60usize {
+        let heap = LocalHeap::new(rt.alloc(), units * 16).expect(&rt, "a heap");
+        let mut letters: Letters<&LocalHeap> = Agenda::new(&heap);
+        if letters.reserve(5).is_ok() {
+            let rest = rest_of(rt.alloc(), &heap).expect(&rt, "memory");
+            assert!(rt; all_fit(&mut letters, 5) && letters.capacity() == 5);
+            letters.clear();
+            assert!(rt; letters.is_empty() && all_fit(&mut letters, 5));
+            drop(rest);
+            met[0] = true;
+        } else {
+            assert!(rt; (letters.len(), letters.capacity()) == (0, 0));
+            met[1] = true;
+        }
+    }
+    assert!(rt; met == [true, true]);
+}
+
+#[test]
+fn reservations_of_one_grow_as_jobs_do(rt: HostRuntime) {
+    let mut letters = Letters::new(rt.alloc());
+    let mut growths = 0usize;
+    for _ in 0..100usize {
+        let before = letters.capacity();
+        assert!(rt; letters.reserve(1).is_ok() && letters.schedule(1, 'a').is_ok());
+        if letters.capacity() != before {
+            growths += 1;
+        }
+    }
+    // 4, 8, 16, 32, 64, 128
+    assert!(rt; growths == 6);
+    assert!(rt; letters.reserve(usize::MAX) == Err(ReallocationError::BeyondMaxCapacity));
+}
+
+#[test]
+fn a_clone_has_the_same_tickets(rt: HostRuntime) {
+    let mut letters = Letters::new(rt.alloc());
+    let early = letters.schedule(1, 'a').expect(&rt, "a ticket");
+    let late = letters.schedule(2, 'b').expect(&rt, "a ticket");
+    let copy = letters.try_clone().expect(&rt, "a clone");
+    letters.clear();
+    assert!(rt; !letters.contains(early) && copy.contains(early) && copy.contains(late));
+    let again = Ticket::new(late.index(), late.generation());
+    assert!(rt; again == late && copy.get(again) == Some((2, &'b')));
+}

@@ -161,13 +161,40 @@ fn is_made(beside: &mut Beside, call: Call) -> bool {
     }
 }
 
-/// Whether agenda and list have as many jobs, and the same deadline first.
+/// Whether the agenda shows just the jobs of the list, in its order, and by their tickets.
+fn show_alike(beside: &Beside) -> bool {
+    let mut place = 0usize;
+    for (ticket, deadline, letter) in beside.letters.iter() {
+        let Some(job) = beside.jobs.get(place) else {
+            return false;
+        };
+        let is_named = beside.letters.get(ticket) == Some((deadline, letter));
+        if *job
+            != (Job {
+                ticket,
+                deadline,
+                letter: *letter,
+            })
+            || !is_named
+        {
+            return false;
+        }
+        place = place.saturating_add(1);
+    }
+    place == beside.jobs.len()
+}
+
+/// Whether agenda and list have the same jobs, and the same one first.
 fn are_alike(beside: &Beside) -> bool {
-    let first = match beside.jobs.first() {
-        Some(job) => Some(job.deadline),
+    let first = match beside.letters.peek() {
+        Some((ticket, _, _)) => Some(ticket),
         None => None,
     };
-    beside.letters.len() == beside.jobs.len() && beside.letters.next_deadline() == first
+    let wanted = match beside.jobs.first() {
+        Some(job) => Some(job.ticket),
+        None => None,
+    };
+    first == wanted && beside.letters.len() == beside.jobs.len() && show_alike(beside)
 }
 
 /// Whether all jobs leave the agenda as they stand in the list.

@@ -1,0 +1,44 @@
+//! Jobs by their tickets, and the next one, without taking them off.
+
+ghost use Rattle.std.specs.Prelude.{◌≡◌, IfNone, IsSomeAnd, is_some};
+ghost use Rattle.std.specs.Option.{option_map};
+ghost use Rattle.agenda.specs.Agenda.{count, job_of, first_job, shown_job};
+
+use super::Agenda;
+use crate::ticket::Ticket;
+use std::alloc::Allocator;
+
+impl<J, A: Allocator> Agenda<J, A> {
+    /// Returns whether `ticket` names a job, in O(1).
+    pub fn contains(&self, ticket: Ticket) -> bool
+        ensures { result ≡ is_some (job_of self.now.jobs ticket) }
+    {
+        // with its length an arena tells what holds of its list
+        let _ = self.jobs.len();
+        self.jobs.contains(ticket.pointer)
+    }
+
+    /// Returns the deadline and the job of `ticket`, in O(1). `None` if the ticket names no job.
+    pub fn get(&self, ticket: Ticket) -> Option<(u64, &J)>
+        ensures { option_map (λ x. (x.0, x.1.now)) result ≡ job_of self.now.jobs ticket }
+    {
+        // with its length an arena tells what holds of its list
+        let _ = self.jobs.len();
+        let pair = self.jobs.get(ticket.pointer)?;
+        let (deadline, job) = pair.k_v();
+        Some((*deadline, job))
+    }
+
+    /// Returns the ticket, the deadline and the job of the first job, in O(1). `None` if there are no jobs.
+    pub fn peek(&self) -> Option<(Ticket, u64, &J)>
+        ensures value { option_map shown_job result ≡ first_job self.now.jobs }
+        ensures none { IfNone result (count self.now ≡ 0) }
+    {
+        // with its length an arena tells what holds of its list
+        let _ = self.jobs.len();
+        let first = self.jobs.first()?;
+        let pair = self.jobs.get(first)?;
+        let (deadline, job) = pair.k_v();
+        Some((Ticket { pointer: first }, *deadline, job))
+    }
+}

@@ -1,0 +1,77 @@
+//! Capacity, clearing and clones.
+
+ghost use Rattle.std.specs.Prelude.{◌≡◌, ◌↔◌, ◌+◌, ◌<◌, [], Err, IfOk, IsOk, OnOk, OnErr};
+ghost use Rattle.agenda.specs.Agenda.{most_jobs, count, capacity_for, with_left, HasRoomFor};
+ghost use Rattle.agenda.specs.Tickets.{IsStep};
+
+use super::Agenda;
+use std::alloc::{AllocError, Allocator};
+use triple_ord::ReallocationError;
+
+/// The greatest number of jobs: as many as tickets have indexes.
+const MOST_JOBS: usize = 4294967294;
+
+impl<J, A: Allocator> Agenda<J, A> {
+    /// Makes room for `additional` more jobs: scheduling them will not fail. O(capacity) if the agenda grows, else O(1).
+    ///
+    /// If it grows, it grows at least as much as for one more job, so that repeated reservations cost amortized O(1) for each job.
+    ///
+    /// # Errors
+    ///
+    /// The agenda is unchanged.
+    /// - `BeyondMaxCapacity`: there would be more than 4,294,967,294 jobs.
+    /// - `AllocError`: growing failed.
+    pub fn reserve(&mut self, additional: usize) -> Result<(), ReallocationError>
+        ensures jobs { self.new.jobs ≡ self.old.jobs }
+        ensures generation { self.new.generation ≡ self.old.generation }
+        ensures capacity { OnOk result
+            (self.new.capacity ≡ capacity_for self.old.capacity (count self.old + additional)) }
+        ensures room { OnOk result (HasRoomFor additional self.new) }
+        ensures full { (result ≡ Err ReallocationError.BeyondMaxCapacity)
+            ↔ (most_jobs < count self.old + additional) }
+        ensures memory { result ≡ Err ReallocationError.AllocError
+            → self.old.capacity < count self.old + additional }
+        ensures err { OnErr result (self.new ≡ self.old) }
+        ensures step { IsStep self.old self.new }
+    {
+        // with its length an arena tells what holds of its list
+        let Some(needed) = self.jobs.len().checked_add(additional) else {
+            return Err(ReallocationError::BeyondMaxCapacity);
+        };
+        let capacity = self.jobs.capacity();
+        if needed <= capacity {
+            return Ok(());
+        }
+        let grown = capacity.saturating_mul(2).max(4).min(MOST_JOBS);
+        self.jobs.reallocate_min_capacity(needed.max(grown))
+    }
+}
+
+impl<J: Drop, A: Allocator> Agenda<J, A> {
+    /// Removes and drops all jobs, in O(capacity). Their tickets end. The capacity stays.
+    pub fn clear(&mut self)
+        ensures after { self.new ≡ with_left self.old [] }
+        ensures count { count self.new ≡ 0 }
+        ensures step { IsStep self.old self.new }
+    {
+        let _ = self.jobs.clear();
+    }
+}
+
+impl<J: Clone + Drop, A: Allocator + Copy> Agenda<J, A> {
+    /// Returns a clone on the same allocator: the same jobs under the same tickets. A clone of a job has to equal it. O(capacity).
+    ///
+    /// # Errors
+    ///
+    /// `AllocError`: memory for the jobs, or for the clone of a job, is refused.
+    pub fn try_clone(&self) -> Result<Self, AllocError>
+        requires clones { (x y : J) → J.is_clone x y → y ≡ x }
+        ensures jobs { IfOk result (λ a. a.jobs ≡ self.now.jobs) }
+        ensures generation { IfOk result (λ a. a.generation ≡ self.now.generation) }
+        ensures none { count self.now ≡ 0 → IsOk result }
+    {
+        Ok(Agenda {
+            jobs: self.jobs.clone()?,
+        })
+    }
+}

@@ -1,0 +1,77 @@
+//! `Iter`: the jobs of an agenda, in the order in which they leave.
+
+ghost use Rattle.std.specs.Prelude.{◌≡◌, Some, IfSome, length};
+ghost use Rattle.std.specs.Iterator.{YieldsFirstBy, UpTo, item_count};
+ghost use Rattle.std.specs.Iterator.SizeHint.{IsWithinCount};
+ghost use Rattle.agenda.specs.Agenda.{shown_job};
+
+use crate::agenda::Agenda;
+use crate::ticket::Ticket;
+use std::alloc::{Allocator, Global};
+use std::marker::Model;
+use triple_ord::{Iter as Entries, OrdPair, P0};
+
+/// An iterator over the tickets, deadlines and jobs of an agenda, in the order in which the jobs leave. Each step is O(1).
+#[derive(Drop)]
+pub struct Iter<'a, J, A: Allocator = Global> {
+    pub(crate) entries: Entries<'a, P0, OrdPair<u64, J>, A>,
+}
+
+impl<'a, J, A: Allocator> Model for Iter<'a, J, A> {
+    ghost use Rattle.std.specs.Prelude.{List, map};
+    ghost use Rattle.agenda.specs.Agenda.{Scheduled};
+    ghost use Rattle.agenda.specs.Layout.{scheduled};
+
+    ghost Value = { List (Scheduled J) };
+
+    ghost view = { λ i. map scheduled i.entries };
+}
+
+impl<J, A: Allocator> Agenda<J, A> {
+    /// Returns an iterator over all jobs, in the order in which they leave.
+    pub fn iter(&self) -> Iter<'_, J, A>
+        ensures { result ≡ self.now.jobs }
+    {
+        Iter {
+            entries: self.entries(),
+        }
+    }
+}
+
+impl<'a, J, A: Allocator> Iterator for Iter<'a, J, A> {
+    type Item = (Ticket, u64, &'a J);
+
+    ghost next_gives = { YieldsFirstBy shown_job (λ left. left) };
+
+    ghost remaining = { item_count (λ left. left) };
+
+    fn next(&mut self) -> Option<(Ticket, u64, &'a J)> {
+        match self.entries.next() {
+            Some((pointer, pair)) => {
+                let (deadline, job) = pair.k_v();
+                Some((Ticket { pointer }, *deadline, job))
+            }
+            None => None,
+        }
+    }
+
+    fn size_hint(&self) -> (usize, Option<usize>)
+        ensures exact { result ≡ (length self.now, Some (length self.now)) }
+        ensures lower { IsWithinCount result.0 (item_count (λ left. left) self.now) }
+        ensures upper { IfSome result.1 (UpTo (item_count (λ left. left) self.now)) }
+    {
+        self.entries.size_hint()
+    }
+}
+
+impl<'a, J, A: Allocator> IntoIterator for &'a Agenda<J, A> {
+    type Item = (Ticket, u64, &'a J);
+
+    type IntoIter = Iter<'a, J, A>;
+
+    ghost into_iter_gives = { λ a i. i ≡ a.now.jobs };
+
+    fn into_iter(self) -> Iter<'a, J, A> {
+        self.iter()
+    }
+}
