@@ -228,7 +228,7 @@ fn reservations_of_one_grow_as_jobs_do(rt: HostRuntime) {
         let before = letters.capacity();
         assert!(rt; letters.reserve(1).is_ok() && letters.schedule(1, 'a').is_ok());
         if letters.capacity() != before {
-            growths += 1;
+            growths = growths.wrapping_add(1);
         }
     }
     // 4, 8, 16, 32, 64, 128
