@@ -1,8 +1,8 @@
 //! A leaderboard: players by their scores.
 
-ghost use Rattle.std.specs.Prelude.{◌≡◌, ◌≢◌, [], Some, IfOk, OnOk, IfSome, IsSomeAnd, OnErr, map, take, reverse, length, fold, min, ◌+◌, ◌-◌, ◌^◌};
+ghost use Rattle.std.specs.Prelude.{◌≡◌, ◌≢◌, ◌==◌, ◌&&◌, [], Some, IfOk, OnOk, IfSome, IsSomeAnd, OnErr, map, take, reverse, length, fold, min, ◌+◌, ◌-◌, ◌^◌};
 ghost use Rattle.std.specs.Option.{option_map};
-ghost use Rattle.std.specs.Ordering.{nat_cmp};
+ghost use Rattle.std.specs.{Ordering.nat_cmp, Cmp.Lexicographic.pointwise};
 ghost use Rattle.std.specs.declared.ops.Bound.TheVariants.{Included, Excluded, Unbounded};
 ghost use Rattle.std.specs.declared.cmp.Ordering.TheVariants.{Greater};
 ghost use Rattle.sorted_arena.specs.{Range.entries_between, Merge.merged};
@@ -93,7 +93,10 @@ pub fn copy_of(board: &Leaderboard) -> Result<Leaderboard, AllocError>
 }
 
 /// Returns whether two boards have the same players with the same scores, in the same order.
-pub fn are_same(one: &Leaderboard, other: &Leaderboard) -> bool {
+pub fn are_same(one: &Leaderboard, other: &Leaderboard) -> bool
+    ensures { result ≡ pointwise (λ p q. (p.0 == q.0) && (p.1 == q.1))
+        (map item_of one.now.entries) (map item_of other.now.entries) }
+{
     one == other
 }
 
