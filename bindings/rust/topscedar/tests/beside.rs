@@ -204,3 +204,30 @@ fn scripts() {
     );
     assert_eq!(run(&[b'\n'; 1_048_577]), (3, Vec::new()));
 }
+
+extern "C" {
+    fn getrlimit(resource: i32, limit: *mut [u64; 2]) -> i32;
+    fn setrlimit(resource: i32, limit: *const [u64; 2]) -> i32;
+}
+
+/// The limit on a process's address space, as Linux numbers the limits.
+#[cfg(target_os = "linux")]
+const ADDRESS_SPACE: i32 = 9;
+
+#[test]
+#[cfg(target_os = "linux")]
+fn refused_memory() {
+    let mut arena = OrderedArena::new().unwrap();
+    let pointer = arena.insert(1, 1).unwrap();
+    let mut limit = [0; 2];
+    // Safety: each call reads or writes the two words that it is handed.
+    unsafe {
+        assert_eq!(getrlimit(ADDRESS_SPACE, &mut limit), 0);
+        assert_eq!(setrlimit(ADDRESS_SPACE, &[1 << 33, limit[1]]), 0);
+    }
+    let refused = arena.reserve(4_000_000_000);
+    // Safety: as above.
+    unsafe { assert_eq!(setrlimit(ADDRESS_SPACE, &limit), 0) };
+    assert_eq!(refused, Err(Error::NoMemory));
+    assert_eq!(arena.get(pointer).unwrap().key, 1);
+}
