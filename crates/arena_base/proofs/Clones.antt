@@ -1,17 +1,17 @@
--- What follows of a clone: its calls, told of another closure; its pointers; a clone with the same items. Then how far a clone has come.
+-- Facts about clones: their calls in terms of another closure, their pointers, and clones with the same items. Then the state halfway
+-- through a clone.
 use Rattle.arena_base.proofs.Words.{◌≡◌, ℕ, zero, suc, ◌+◌, ◌<◌, ◌≤◌, Option, Some, None, List, [], ◌∷◌, ◌++◌, length, get_or, replicate, take, ◌-◌, refl, arith, drop, map, sym, ap, ◌∙◌, reverse, max, Result, Ok, Err, map-append}
 use Rattle.arena_base.proofs.Words.{length-map, drop_more, append_assoc, map_push, append-nil, get_or-drop, map-id, FoldsTo-push, none-some, AllocError, OnOk, OnErr, FoldsTo, Arena, vacant_from, resized, greatest_occupied, arena_capacity}
 use Rattle.arena_base.proofs.Words.{IsLawful, FindSame, item_if, CloneStep, IsClone, IsRefusedClone, StopsAtRefusal, Grants, with_items, taken_over, HasSamePointers, Slot, entry_in, vacant_slots, arena_of, entries_from, entries_rising}
 use Rattle.arena_base.proofs.Steps.{AreLawful, lawful-some, current, Sound, capacity-is, get_or-padded, resized-cons, resized-same, resized-again, entries-padded, relisted, relisted-sound}
 use Rattle.arena_base.proofs.{Words.chained_keeps, Words.ClonesSlots, Words.Inside, Words.Generations, Words.Indexes, Words.Occupied, Words.Vacant, Slots.era, Slots.entries, Slots.greatest_occupied-above, Slots.none-from_generation}
 
--- the calls of the closure at these entries, from one state to another
+-- the calls of the closure for these entries, from one state to another
 abbrev pub Calls : {P U T F : Type 0} (numbers : P → ℕ × ℕ) (step : F → P → U → T → F → Type 0)
     → F × List T → List (ℕ × ℕ × U) → F × List T → Type 0
 Calls numbers step s entries t = FoldsTo (CloneStep numbers step) s entries t
 
--- Calls of one kind are calls of another: `state`, `from` and `to` give the other's states, the items that it is shown and those
--- that it makes.
+-- Calls of one kind are calls of another: `state`, `from` and `to` map the states, the items shown and the items made.
 module _ {P W X U T M F : Type 0} (numbers : P → ℕ × ℕ) (below : M → P → W → X → M → Type 0) (above : F → P → U → T → F → Type 0)
     (state : M → F) (from : W → U) (to : X → T)
     (like : (m : M) (p : P) (w : W) (x : X) (n : M) → below m p w x n → above (state m) p (from w) (to x) (state n)) where
@@ -30,7 +30,7 @@ module _ {P W X U T M F : Type 0} (numbers : P → ℕ × ℕ) (below : M → P 
         clones-retold es calls.0.0 n calls.0.1 ys calls.2,
       )
 
--- The same of calls the last of which was refused.
+-- The same for calls the last of which was refused.
 module _ {P W X U T M F : Type 0} (numbers : P → ℕ × ℕ) (below : M → P → W → Result X AllocError → M → Type 0) (above : F → P → U → Result T AllocError → F → Type 0)
     (state : M → F) (from : W → U) (to : X → T)
     (grants : (m : M) (p : P) (w : W) (x : X) (n : M) → below m p w (Ok x) n → above (state m) p (from w) (Ok (to x)) (state n))
@@ -67,7 +67,7 @@ module _ {P U T M F : Type 0} (numbers : P → ℕ × ℕ) (below : M → P → 
   clone-restated m source old new n c =
       (state n, record { items = c.items; calls = clones-restated (entries_rising source 0) m n c.items c.calls; after = c.after })
 
--- the same of a refusal
+-- the same for a refusal
 module _ {P U T M F : Type 0} (numbers : P → ℕ × ℕ) (below : M → P → U → Result T AllocError → M → Type 0) (above : F → P → U → Result T AllocError → F → Type 0) (state : M → F)
     (like : (m : M) (p : P) (u : U) (r : Result T AllocError) (n : M) → below m p u r n → above (state m) p u r (state n)) where
   pub stops-restated : (m : M) (es : List (ℕ × ℕ × U)) (n : M) → StopsAtRefusal numbers below m es n → StopsAtRefusal numbers above (state m) es (state n)
@@ -78,7 +78,7 @@ module _ {P U T M F : Type 0} (numbers : P → ℕ × ℕ) (below : M → P → 
       → (last : F) × IsRefusedClone numbers above (state m) source old new last
   refusal-restated m source old new n c = (state n, record { stops = stops-restated m (entries_rising source 0) n c.stops; after = c.after })
 
--- each call keeps something of what it is shown
+-- each call keeps something of the item that it is shown
 module _ {P F W X K : Type 0} (numbers : P → ℕ × ℕ) (step : F → P → W → X → F → Type 0) (see : W → K) (keep : X → K)
     (keeps : (f : F) (p : P) (u : W) (x : X) (g : F) → step f p u x g → keep x ≡ see u) where
   pub clones-keep : (es : List (ℕ × ℕ × W)) (f g : F) (xs ys : List X) → Calls numbers step (f, xs) es (g, ys)
@@ -106,14 +106,14 @@ with_items-same i [] = refl
 with_items-same i (s ∷ slots) = grind (arith, with_items-same (i + 1) slots)
 
 module _ {T U : Type 0} where
-  -- with as many items as entries, each entry has one
+  -- if there are as many items as entries, each entry has one
   with_items-era : (slots : List (Option (ℕ × U))) (items : List T) (i k : ℕ) → length items ≡ length (entries_from i slots)
       → era (get_or (with_items slots items) k None) ≡ era (get_or slots k None)
   with_items-era (None ∷ slots) items i (suc k) count = with_items-era slots items (i + 1) k count
   with_items-era (Some e ∷ slots) (item ∷ items) i (suc k) count = with_items-era slots items (i + 1) k (omega arith)
   with_items-era slots items i k count = grind arith
 
--- its pointers are the source's
+-- a clone has the pointers of its source
 module _ {P U T F : Type 0} (numbers : P → ℕ × ℕ) (step : F → P → U → T → F → Type 0) (f : F) (source : Arena U) (old new : Arena T) (last : F) where
   pub clone-pointers : IsClone numbers step f source old new last → HasSamePointers new source
   clone-pointers c = λ p.
@@ -128,7 +128,7 @@ module _ {P U T F : Type 0} (numbers : P → ℕ × ℕ) (step : F → P → U �
       ∙ same (λ k past. none-from_generation _ (told k ∙ ap era (above k (omega arith)))) p.0) ∙ told p.0 in
       grind (arith, kept)
 
--- a clone by a closure that answers the item that it is shown
+-- a clone by a closure that returns the item that it is shown
 module _ {P U F : Type 0} (numbers : P → ℕ × ℕ) (step : F → P → U → U → F → Type 0) (answers : (f : F) (p : P) (u : U) (x : U) (g : F) → step f p u x g → x ≡ u)
     (f : F) (source old new : Arena U) (made : (last : F) × IsClone numbers step f source old new last) where
   abbrev c : IsClone numbers step f source old new made.0
@@ -142,7 +142,7 @@ module _ {P U F : Type 0} (numbers : P → ℕ × ℕ) (step : F → P → U →
       ap (item_if p.1) (ap (λ ss. get_or ss p.0 None) after.slots ∙ same (λ k h. greatest_occupied-above source.slots k (omega arith)) p.0)
 
 module _ {X : Type 0} where
-  -- where no slot has an entry, none is cloned
+  -- if no slot has an entry, there is none to clone
   entries-none : (i : ℕ) (slots : List (Option (ℕ × X))) → ((k : ℕ) → get_or slots k None ≡ None) → entries_from i slots ≡ []
   entries-none i (None ∷ slots) none = entries-none (i + 1) slots (λ k. none (suc k))
   entries-none i slots none = let first = none 0 in cc
@@ -234,7 +234,7 @@ module _ {P T U G F : Type 0} {numbers : P → ℕ × ℕ} {number : G → ℕ} 
     called = called;
   }
 
--- an entry with another item has the generation of the source's
+-- with other items, the entries keep lawful generations
 with_items-lawful : {T U : Type 0} (greatest : Option ℕ) (slots : List (Option (ℕ × U))) (items : List T)
     → AreLawful greatest slots → AreLawful greatest (with_items slots items)
 with_items-lawful greatest (None ∷ slots) items lawful (suc k) e is = with_items-lawful greatest slots items (λ j. lawful (suc j)) k e is
@@ -242,7 +242,7 @@ with_items-lawful greatest (Some s ∷ slots) (item ∷ items) lawful zero e is 
 with_items-lawful greatest (Some s ∷ slots) (item ∷ items) lawful (suc k) e is = with_items-lawful greatest slots items (λ j. lawful (suc j)) k e is
 with_items-lawful greatest slots items lawful k e is = absurd (none-some e is)
 
--- The slots that a clone leaves in memory, and the arena that they are: vacant ones come behind those that were cloned.
+-- The slots that a clone leaves in memory, and their arena: vacant slots follow the cloned ones.
 module _ {P T A U Inx Gen F : Type 0} (numbers : P → ℕ × ℕ) (gen : Generations Gen) (inx : Indexes Inx) (step : F → P → U → Result T AllocError → F → Type 0)
     (s : Inside P T A Inx Gen) (copies next : List (Slot T Gen)) (generation : Gen) (listed : List Inx)
     (all : map inx.number listed ≡ reverse (vacant_slots 1 next)) (a : Arena T) (seen : current gen inx s ≡ a)
@@ -260,7 +260,7 @@ module _ {P T A U Inx Gen F : Type 0} (numbers : P → ℕ × ℕ) (gen : Genera
   is : entries gen.number next ≡ resized n (entries gen.number copies)
   is = entries-padded gen.number n copies next padded within
 
-  -- where the slots are those that the contract names
+  -- if the slots are those that the contract names
   taken_over-view : (made : List (Option (ℕ × T))) → None ∷ entries gen.number next ≡ resized (n + 1) made → after ≡ taken_over source a made
   taken_over-view made shape =
       let same : n ≡ max (arena_capacity a) (greatest_occupied source.slots) = omega (arith, capacity-is gen inx s a seen, room) in

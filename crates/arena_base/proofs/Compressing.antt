@@ -1,20 +1,20 @@
--- How far a compression has come.
+-- The state halfway through a compression.
 use Rattle.arena_base.proofs.Words.{◌≡◌, ℕ, zero, suc, ◌+◌, ◌<◌, ◌≤◌, Option, Some, None, List, [], ◌∷◌, ◌++◌, length, get_or, set, replicate, ◌-◌, refl, arith, drop, map, sym, ap, ◌∙◌, chained_keeps, length-set, length-append, length-map}
 use Rattle.arena_base.proofs.Words.{length-replicate, drop_more, drop_all, set_at, get_or_at, append_assoc, map_push, length_push, append-nil, map-id, none-some, map-map, FoldsTo, Slot, Occupied, Vacant, Arena, resized, HoldsSame}
 use Rattle.arena_base.proofs.Words.{CompressionStep, IsCompression, compressed, items_rising, IsLawfulGeneration, entry_in, slot_entry, entries_from, entries_rising, Inside, Generations, Indexes, CompressesSlots}
 use Rattle.arena_base.proofs.{Steps.AreLawful, Steps.lawful-some, Steps.stored, Steps.current, Steps.resized-cons, Steps.entries-padded, Slots.entries}
 
--- the calls of the closure at these entries, from one state to another
+-- the calls of the closure for these entries, from one state to another
 abbrev pub Calls : {P T F : Type 0} (numbers : P → ℕ × ℕ) (step : F → P → T → P → T → F → Type 0) (g : ℕ)
     → F × List T → List (ℕ × ℕ × T) → F × List T → Type 0
 Calls numbers step g s entries t = FoldsTo (CompressionStep numbers step g) s entries t
 
 module _ {P T G F : Type 0} (numbers : P → ℕ × ℕ) (number : G → ℕ) (step : F → P → T → P → T → F → Type 0) (generation : G) where
-  -- the calls at the entries of these slots, of which the first has index i
+  -- the calls for the entries of these slots, the first of which has index i
   abbrev CallsAt : F × List T → ℕ → List (Slot T G) → F × List T → Type 0
   CallsAt s i slots t = Calls numbers step (number generation) s (entries_from i (entries number slots)) t
 
-  -- the items that came to the first slots, the slots that were vacated, and those that are still to come
+  -- the items moved to the first slots, the vacated slots, and the slots still to come
   pub record CompressedBelow (first : F) (old : List (Slot T G)) (f : F) (slots : List (Slot T G)) (from to : ℕ) : Type 0 where
     pub items : List T
     pub gap : ℕ
@@ -65,11 +65,11 @@ module _ {P T G F : Type 0} {numbers : P → ℕ × ℕ} {number : G → ℕ} {s
     at_from now read =
         sym (get_or_at before (get_or old from Vacant) (drop (from + 1) old) now from length-before) ∙ (ap (λ xs. get_or xs from now) (sym opened) ∙ sym read)
 
-    -- the slots once the slot is vacated
+    -- the slots after the slot is vacated
     emptied : set slots from Vacant ≡ done ++ (Vacant ∷ (replicate b.gap Vacant ++ drop (from + 1) old))
     emptied = ap (λ xs. set xs from Vacant) opened ∙ rw (set_at before _ _ Vacant from length-before, append_assoc, vacated)
 
-    -- the slot that the item comes to is vacant
+    -- the slot that the item moves to is vacant
     pub compressed-free : (x : Slot T G) → x ≡ get_or (set slots from Vacant) to x → x ≡ Vacant
     compressed-free x read = read ∙ (ap (λ xs. get_or xs to x) emptied ∙ get_or_at done Vacant (replicate b.gap Vacant ++ drop (from + 1) old) x to length-done)
 
@@ -122,7 +122,7 @@ module _ {P T G F : Type 0} {numbers : P → ℕ × ℕ} {number : G → ℕ} {s
               ));
             }
 
--- Calls of one kind are calls of another: `state` and `item` give the other's states and items.
+-- Calls of one kind are calls of another: `state` and `item` map the states and the items.
 module _ {P X T M F : Type 0} (numbers : P → ℕ × ℕ) (below : M → P → X → P → X → M → Type 0) (above : F → P → T → P → T → F → Type 0)
     (g : ℕ) (state : M → F) (item : X → T)
     (like : (m : M) (p : P) (x : X) (q : P) (y : X) (n : M) → below m p x q y n → above (state m) p (item x) q (item y) (state n)) where
@@ -159,7 +159,7 @@ module _ {P T M F : Type 0} (numbers : P → ℕ × ℕ) (below : M → P → T 
       let calls = calls-retold numbers below above g state (λ x. x) like (entries_rising old 0) m c.last [] c.items c.calls in
       record { items = c.items; last = state c.last; calls = rw (map-id (entries_rising old 0), map-id c.items) at calls; after = c.after }
 
--- where each answer is the item that was shown, the items are those that were there
+-- if each call returns the item that it is shown, the items stay the same
 module _ {P F T : Type 0} (numbers : P → ℕ × ℕ) (step : F → P → T → P → T → F → Type 0) (g : ℕ)
     (answers : (f : F) (p : P) (item : T) (q : P) (new : T) (f' : F) → step f p item q new f' → new ≡ item) where
   pub compressed-given_back : (f : F) (old new : Arena T) → IsCompression numbers step g f old new

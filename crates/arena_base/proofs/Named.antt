@@ -1,4 +1,4 @@
--- The pointers that name something: as many as there are entries, and each once among the pointers by rising index.
+-- The pointers that name something: there are as many as entries, and each occurs once among the pointers by rising index.
 use Rattle.arena_base.proofs.Words.{◌≡◌, ℕ, zero, suc, ◌+◌, ◌<◌, Option, Some, None, List, [], ◌∷◌, cond, length, get_or, is_some, count_by, arith, refl, common_steps}
 use Rattle.arena_base.proofs.Words.{Arena, item_if, item_of, pointers_from}
 use Rattle.std.proofs.Common.{zero-add}

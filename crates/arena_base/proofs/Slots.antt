@@ -1,10 +1,10 @@
--- Slots by index and in memory: entries that are read or written, the greatest index with an entry, and the vacant indexes.
+-- Slots by index and in memory: reads and writes of entries, the greatest occupied index, and the vacant indexes.
 use Rattle.arena_base.proofs.Words.{◌==◌, inl, inr, ◌≡◌, ℕ, zero, suc, ◌+◌, ◌<◌, ◌≤◌, true, Option, Some, None, List, [], ◌∷◌, ◌++◌, cond, eqb, length, get_or, set, replicate, is_some, count_by, take, ◌-◌, refl, arith, ◌≢◌, drop, map, sym}
 use Rattle.arena_base.proofs.Words.{ap, ◌∙◌, false, unwrap_or, take_at, take-take, get_or-take, get_or_push, cases_eq, ne_eqb, sum_by-cons, sum_by-append, none-some, list_any, option_map, Arena, vacant_from, times, greatest_occupied}
 use Rattle.arena_base.proofs.Words.{IsLastEntry, Slot, entry_in, vacant_slots, slot_entry, with_slot_item, index_number, Occupied, Vacant}
 
 module _ {X : Type 0} where
-  -- an entry is counted, a slot without one is not
+  -- an entry counts one, a vacant slot none
   pub count_by-cons : (s : Option X) (slots : List (Option X)) → count_by is_some (s ∷ slots) ≡ cond (is_some s) 1 0 + count_by is_some slots
   count_by-cons s slots = sum_by-cons (λ x. cond (is_some x) 1 0) s slots
 
@@ -20,7 +20,7 @@ module _ {X : Type 0} where
   any-none (None ∷ slots) free = any-none slots (λ k. free (suc k))
   any-none slots free = let first = free 0 in cc
 
-  -- an index with an entry, beyond which there is none, is the greatest
+  -- an occupied index beyond which there is no entry is the greatest
   greatest_occupied-is : (slots : List (Option X)) (i : ℕ) → is_some (get_or slots i None) ≡ true
       → ((k : ℕ) → i < k → get_or slots k None ≡ None) → greatest_occupied slots ≡ i
   greatest_occupied-is [] i there above = cc
@@ -32,16 +32,16 @@ module _ {X : Type 0} where
   abbrev pub era : Option (ℕ × X) → Option ℕ
   era o = option_map (λ e. e.0) o
 
-  -- what has a generation is an entry
+  -- a slot with a generation has an entry
   pub entry-from_generation : (o : Option (ℕ × X)) (g : ℕ) → era o ≡ Some g → (x : X) × (o ≡ Some (g, x))
   entry-from_generation None g is = absurd (none-some g is)
   entry-from_generation (Some e) g is = (e.1, grind arith)
 
-  -- what has none is no entry
+  -- a slot without one has no entry
   pub none-from_generation : (o : Option (ℕ × X)) → era o ≡ None → o ≡ None
   none-from_generation o is = grind arith
 
-  -- it is within the slots
+  -- the greatest occupied index is within the slots
   pub greatest_occupied-below : (slots : List (Option X)) → greatest_occupied slots ≤ length slots - 1
   greatest_occupied-below (s ∷ (s' ∷ slots)) = grind (arith, greatest_occupied-below (s' ∷ slots))
   greatest_occupied-below slots = omega arith
@@ -50,12 +50,12 @@ module _ {X : Type 0} where
   none_counted [] h = refl
   none_counted (s ∷ slots) h = grind (arith, none_counted slots, count_by-cons s slots)
 
-  -- where no entry is counted, the greatest index is 0
+  -- if no entry is counted, the greatest occupied index is 0
   pub greatest_occupied-none : (slots : List (Option X)) → count_by is_some slots ≡ 0 → greatest_occupied slots ≡ 0
   greatest_occupied-none [] h = refl
   greatest_occupied-none (s ∷ slots) h = grind (arith, none_counted slots, count_by-cons s slots)
 
-  -- where there is no entry, none is counted
+  -- if there is no entry, none is counted
   pub counted_none : (slots : List (Option X)) → ((k : ℕ) → get_or slots k None ≡ None) → count_by is_some slots ≡ 0
   counted_none (None ∷ slots) free = omega (arith, count_by-cons None slots, counted_none slots (λ k. free (suc k)))
   counted_none slots free = let first = free 0 in cc
@@ -83,7 +83,7 @@ module _ {T G : Type 0} (number : G → ℕ) where
   abbrev pub entries : List (Slot T G) → List (Option (ℕ × T))
   entries slots = map (entry_in number) slots
 
-  -- what a slot says by index, also beyond the last
+  -- the slot at each index, also beyond the last
   pub get_or-entries : (slots : List (Slot T G)) (k : ℕ) → get_or (entries slots) k None ≡ entry_in number (get_or slots k Vacant)
   get_or-entries (s ∷ slots) (suc k) = get_or-entries slots k
   get_or-entries slots k = refl
@@ -91,13 +91,13 @@ module _ {T G : Type 0} (number : G → ℕ) where
   pub entry-none : (s : Slot T G) → entry_in number s ≡ None → s ≡ Vacant
   entry-none s is = grind arith
 
-  -- the vacant slots in memory are the vacant ones by index
+  -- the vacant slots in memory are the vacant slots by index
   pub vacant_slots-from : (from : ℕ) (slots : List (Slot T G)) → vacant_slots from slots ≡ vacant_from from (entries slots)
   vacant_slots-from from [] = refl
   vacant_slots-from from (s ∷ slots) = grind (arith, vacant_slots-from (from + 1) slots)
 
 module _ {T G : Type 0} where
-  -- the vacant slots stand behind those that have entries
+  -- the first `full` slots are occupied, so the vacant ones are behind them
   pub vacant_slots-full : (from full : ℕ) (slots : List (Slot T G)) → ((k : ℕ) → k < full → get_or slots k Vacant ≢ Vacant)
       → vacant_slots from slots ≡ vacant_slots (from + full) (drop full slots)
   vacant_slots-full from (suc full) (Occupied item era ∷ slots) occupied =
@@ -123,7 +123,7 @@ pub times-append : (n : ℕ) (ms ns : List ℕ) → times n (ms ++ ns) ≡ times
 times-append n ms ns = sum_by-append (λ x. cond (x == n) 1 0) ms ns
 
 module _ {X : Type 0} where
-  -- slots are vacant or have entries
+  -- each slot is vacant or occupied
   pub length-vacant_from : (from : ℕ) (slots : List (Option X)) → count_by is_some slots + length (vacant_from from slots) ≡ length slots
   length-vacant_from from [] = refl
   length-vacant_from from (s ∷ slots) = grind (arith, length-vacant_from (from + 1) slots, count_by-cons s slots)
@@ -134,11 +134,11 @@ module _ {X : Type 0} where
   length-vacant_from-padded from (suc more) [] = omega (arith, length-vacant_from-padded (from + 1) more [])
   length-vacant_from-padded from more (s ∷ slots) = grind (arith, length-vacant_from-padded (from + 1) more slots)
 
-  -- index i is that of a vacant slot, where the first slot has index `from`
+  -- index i names a vacant slot, if the first slot has index `from`
   abbrev pub VacantAt : ℕ → List (Option X) → ℕ → Type 0
   VacantAt from slots i = (k : ℕ) × (i ≡ from + k) × (k < length slots) × (get_or slots k None ≡ None)
 
-  -- an index that is listed as vacant is one
+  -- an index listed as vacant names a vacant slot
   pub vacant_from-vacant : (from : ℕ) (slots : List (Option X)) (i : ℕ) → 0 < times i (vacant_from from slots) → VacantAt from slots i
   vacant_from-vacant from [] i h = absurd (omega arith)
   vacant_from-vacant from (None ∷ slots) i h =
@@ -180,26 +180,26 @@ module _ {X : Type 0} where
     vacant_from-above from (Some s ∷ slots) e = omega (arith, vacant_from-above (from + 1) slots e)
     vacant_from-above from slots e = grind arith
 
-    -- below the first that is listed every index has an entry
+    -- every index below the first listed one is occupied
     pub vacant_from-least : (from : ℕ) (slots : List (Option X)) (k : ℕ) → vacant_from from slots ≡ i ∷ rest
         → from + k < i → is_some (get_or slots k None) ≡ true
     vacant_from-least from (Some s ∷ slots) (suc k) e before = vacant_from-least (from + 1) slots k e (omega arith)
     vacant_from-least from slots k e before = grind arith
 
-    -- filling the first that is listed leaves the others, in their order
+    -- filling the first listed slot leaves the others in their order
     pub vacant_from-filled_first : (from : ℕ) (slots : List (Option X)) (k : ℕ) (entry : X) → i ≡ from + k
         → vacant_from from slots ≡ i ∷ rest → vacant_from from (set slots k (Some entry)) ≡ rest
     vacant_from-filled_first from (Some s ∷ slots) zero entry at e = absurd (omega (arith, vacant_from-above (from + 1) slots e))
     vacant_from-filled_first from (Some s ∷ slots) (suc k) entry at e = vacant_from-filled_first (from + 1) slots k entry (omega arith) e
     vacant_from-filled_first from slots k entry at e = grind arith
 
-  -- where no slot is vacant, each has an entry
+  -- if no slot is vacant, all are occupied
   all-occupied : (from : ℕ) (slots : List (Option X)) (k : ℕ) → length (vacant_from from slots) ≡ 0 → k < length slots
       → is_some (get_or slots k None) ≡ true
   all-occupied from (Some e ∷ slots) (suc k) none within = all-occupied (from + 1) slots k none (omega arith)
   all-occupied from slots k none within = grind arith
 
-  -- the same by index, where index 0 has none
+  -- the same by index, if index 0 is vacant
   pub full-occupied : (slots : List (Option X)) → take 1 slots ≡ None ∷ [] → count_by is_some slots ≡ length slots - 1
       → (i : ℕ) → 0 < i → i ≤ length slots - 1 → is_some (get_or slots i None) ≡ true
   full-occupied (None ∷ slots) begins full (suc k) above within =

@@ -1,5 +1,5 @@
--- Each step on the vector of slots and the stack of vacant indexes is the step of the arena that contracts name, and what is true of every
--- arena stays so. In the first part the slots are those from index 1 on.
+-- Each step on the vector of slots and the stack of vacant indexes is a step of the arena in contracts, and keeps it sound. In the first
+-- part the slots are those from index 1 on.
 use Rattle.arena_base.proofs.Words.{inl, inr, ◌≡◌, ℕ, zero, suc, ◌+◌, ◌<◌, ◌≤◌, true, Option, Some, None, List, [], ◌∷◌, ◌++◌, cond, length, get_or, set, replicate, is_some, take, ◌-◌, refl, arith, ◌≢◌, drop, map, sym, ap, ◌∙◌, subst}
 use Rattle.arena_base.proofs.Words.{add-one, reverse, slice_get, cases_eq, false≢true, eq-eqb, get_or-take, length-set, length-append, get_or-set_same, get_or-set_other, map-append, take-map, take_all, length-map, length-replicate}
 use Rattle.arena_base.proofs.Words.{length-take, ext_get_or, get_or_past, map_push, take_more, map-set, get_or-map, reverse-append, reverse-reverse, set-set, set_comm, get_or_default, sum_by-set, none-some, same_Some, slice_get_within}
@@ -30,8 +30,8 @@ module _ {T : Type 0} where
 
   module _ {most : ℕ} {greatest : Option ℕ} {slots : List (Option (ℕ × T))} {vacant : List ℕ} {generation : ℕ} {maximum : Option ℕ}
       (sound : IsSound most greatest (arena slots vacant generation maximum)) where
-    -- Another slot at a place. The list of vacant indexes changes with it: before one or the other, the place's own index stands
-    -- if the slot is vacant.
+    -- Another slot at a position. The list of vacant indexes changes with it: on each side of the equation, the position's own index
+    -- comes first if that slot is vacant.
     module _ (k : ℕ) (new : Option (ℕ × T)) (listed : List ℕ) (within : k < length slots)
         (lawful : ForSome new (λ e. IsLawfulGeneration greatest e.0))
         (turn : vacant_from (k + 1) (get_or slots k None ∷ []) ++ listed ≡ vacant_from (k + 1) (new ∷ []) ++ vacant) where
@@ -57,7 +57,7 @@ module _ {T : Type 0} where
             omega (arith, sound.counted, counts, own, put, before, after, length-set slots k new, ap length turn, length-append {A = ℕ});
       }
 
-  -- the index that is taken next is that of a vacant slot
+  -- the index that is taken next names a vacant slot
   module _ {most : ℕ} {greatest : Option ℕ} {slots : List (Option (ℕ × T))} {i : ℕ} {rest : List ℕ} {generation : ℕ} {maximum : Option ℕ}
       (sound : IsSound most greatest (arena slots (i ∷ rest) generation maximum)) where
     pub first-vacant : IsVacant (arena slots (i ∷ rest) generation maximum) i
@@ -66,7 +66,7 @@ module _ {T : Type 0} where
         let at = vacant_from-vacant 1 slots i (omega (arith, sound.vacant_listed i)) in let next : i ≡ suc at.0 = omega (arith, at.1) in
         record { above = omega (arith, next); within = omega (arith, next, at.2); free = rw next at.3 }
 
-  -- an entry in its slot
+  -- an entry is put in its slot
   module _ {most : ℕ} {greatest : Option ℕ} {slots : List (Option (ℕ × T))} (k : ℕ) {rest : List ℕ} {generation : ℕ} {maximum : Option ℕ}
       (sound : IsSound most greatest (arena slots ((k + 1) ∷ rest) generation maximum)) (item : T) where
     abbrev pub filled : Arena T
@@ -106,7 +106,7 @@ module _ {P T A Inx Gen : Type 0} (gen : Generations Gen) (inx : Indexes Inx) (s
   abbrev pub stored : List (Slot T Gen) → List Inx → Arena T
   stored slots stack = arena_of gen.number slots (map inx.number stack) s.generation s.maximum
 
-  -- the arena with its own
+  -- the arena with its own slots and stack
   abbrev pub current : Arena T
   current = stored s.slots.items s.vacant.items
 
@@ -117,7 +117,7 @@ module _ {P T A Inx Gen : Type 0} (gen : Generations Gen) (inx : Indexes Inx) (s
     pub capacity-is : arena_capacity a ≡ length s.slots.items
     capacity-is = rw (← view) (omega (arith, length-map s.slots.items (entry_in gen.number)))
 
-    -- the place of an entry, found in what is inside
+    -- the position of an entry, found in the fields
     pub found-viewed : (k i : ℕ) → record { number : i ≡ k + 1; within : k < arena_capacity current }
         → record { number : i ≡ k + 1; within : k < arena_capacity a }
     found-viewed k i at = record { number = at.number; within = rw (← view) at.within }
@@ -144,7 +144,7 @@ module _ {P T A Inx Gen : Type 0} (gen : Generations Gen) (inx : Indexes Inx) (s
       inside-entries : k < length (entries gen.number s.slots.items)
       inside-entries = omega (arith, inside, length-map s.slots.items (entry_in gen.number))
 
-      -- an entry is written over an entry
+      -- an entry is written over another
       module _ (x : Slot T Gen) (f : ℕ × T → ℕ × T) (is : entry_in gen.number x ≡ option_map f (slot a i)) where
         pub written : stored (set s.slots.items k x) s.vacant.items ≡ with_slot a i (option_map f (slot a i))
         written = rw (← is, ← view, found.number, add-one, map-set) refl
@@ -162,7 +162,7 @@ module _ {P T A Inx Gen : Type 0} (gen : Generations Gen) (inx : Indexes Inx) (s
           → entry_in gen.number x ≡ option_map (λ e. (a.generation, e.1)) (slot a i)
       renewed old x was is = rw (is, read old was, ← view) (grind arith)
 
-      -- an entry is taken out, and its index put on the stack
+      -- an entry is taken out, and its index is pushed on the stack
       module _ (x : Slot T Gen) (empty : x ≡ Vacant) (stack : List Inx) (j : Inx) (same : inx.number j ≡ i)
           (pushed : stack ≡ s.vacant.items ++ j ∷ []) where
         pub taken : stored (set s.slots.items k x) stack ≡ freed a i
@@ -196,7 +196,7 @@ get_or-padded [] (suc m) (suc k) d = get_or-padded [] m k d
 get_or-padded (x ∷ xs) m (suc k) d = get_or-padded xs m k d
 get_or-padded xs m k d = refl
 
--- as many as are missing were added
+-- slots are padded to the wanted number
 pub length-padded : {X : Type 0} (n : ℕ) (xs padded : List X) (d : X)
     → padded ≡ xs ++ replicate (n - length xs) d → length xs ≤ n → length padded ≡ n
 length-padded {X = X} n xs padded d is fits =
@@ -215,24 +215,24 @@ module _ {X : Type 0} (n : ℕ) (slots : List (Option X)) where
   get_or-resized_past : (k : ℕ) → n ≤ k → get_or (resized n slots) k None ≡ None
   get_or-resized_past k past = get_or_past (resized n slots) k None (omega (arith, length-resized))
 
-  -- as many slots, with the same at each place
+  -- a list of this length with the same slot at each position
   pub resized-is : (ys : List (Option X)) → length ys ≡ n → ((k : ℕ) → k < n → get_or ys k None ≡ get_or slots k None) → ys ≡ resized n slots
   resized-is ys long same =
       ext_get_or None ys (resized n slots) (long ∙ sym length-resized)
       (λ k below. same k (omega arith) ∙ sym (get_or-resized k (omega arith)))
 
-  -- slots to which vacant ones were added, and from which those beyond were cut off
+  -- vacant slots were added, and those beyond were cut off
   pub resized-padded : take n (slots ++ replicate (n - length slots) None) ≡ resized n slots
   resized-padded =
       let padded = slots ++ replicate {A = Option X} (n - length slots) None in
       resized-is (take n padded) (omega (arith, length-take {A = Option X}, length-append {A = Option X}, length-replicate {A = Option X}))
       (λ k below. get_or-take n padded k None below ∙ get_or-padded slots (n - length slots) k None)
 
-  -- an entry stood there before
+  -- a resized list has no new entries
   pub resized-some : (k : ℕ) (e : X) → get_or (resized n slots) k None ≡ Some e → get_or slots k None ≡ Some e
   resized-some k e is = grind (arith, get_or-resized k, get_or-resized_past k)
 
-  -- where no entry is lost, each index has what it had
+  -- if no entry is lost, each index keeps its slot
   pub resized-same : ((k : ℕ) → n ≤ k → get_or slots k None ≡ None) → (i : ℕ) → get_or (resized n slots) i None ≡ get_or slots i None
   resized-same none i = grind (arith, get_or-resized i, get_or-resized_past i, none i)
 
@@ -254,7 +254,7 @@ module _ {T G : Type 0} (number : G → ℕ) (n : ℕ) (slots padded : List (Slo
     beyond : (k : ℕ) → n ≤ k → get_or (entries number slots) k None ≡ None
     beyond k past = greatest_occupied-above (None ∷ entries number slots) (suc k) (omega arith)
 
-    -- slots beyond the greatest index with an entry, and slots that were added, are vacant
+    -- the slots beyond the greatest occupied index, and those that were added, are vacant
     pub padded-vacant : AllVacantFrom n padded
     padded-vacant = λ k past.
         rw is (get_or-padded slots (n - length slots) k Vacant
@@ -267,7 +267,7 @@ module _ {T G : Type 0} (number : G → ℕ) (n : ℕ) (slots padded : List (Slo
         let same = resized-same n (entries number slots) beyond k in
         false≢true (ap is_some (sym none ∙ (ap (λ ss. get_or ss k None) (entries-resized (take n padded) refl) ∙ same)) ∙ there)
 
--- the vacant indexes are listed anew
+-- the vacant indexes are listed again
 module _ {T Inx Gen : Type 0} (gen : Generations Gen) (inx : Indexes Inx) (next : List (Slot T Gen)) (listed : List Inx) (generation : Gen)
     (maximum : Option ℕ) (all : map inx.number listed ≡ reverse (vacant_slots 1 next)) where
   abbrev pub listed_anew : Arena T
@@ -291,24 +291,24 @@ module _ {T Inx Gen : Type 0} (gen : Generations Gen) (inx : Indexes Inx) (next 
       counted = omega (arith, count_by-cons None (resized n slots), length-vacant_from 1 (resized n slots));
     })
 
--- a greater capacity leaves a slot vacant
+-- after growing, a slot is vacant
 pub resized-room : {X : Type 0} (n : ℕ) (slots : List (Option X)) → take 1 slots ≡ None ∷ [] → length slots - 1 < n
     → 0 < length (vacant_from 1 (drop 1 (resized (n + 1) slots)))
 resized-room n (None ∷ slots) begins more = rw resized-cons (omega (arith, length-vacant_from-padded 1 (n - length slots) (take n slots)))
 resized-room n slots begins more = absurd (cc)
 
--- slots of which none has an entry: n were added to none
+-- slots made by adding n vacant ones to none
 pub entries-made : {T G : Type 0} (number : G → ℕ) (n : ℕ) (next : List (Slot T G)) → next ≡ [] ++ replicate (n - 0) Vacant
     → entries number next ≡ resized n []
 entries-made number n next is = entries-padded number n [] next is (omega arith)
 
--- Two entries whose slots change places and whose generations are then put back have exchanged their items.
+-- Two entries whose slots are swapped, and whose generations are then put back, have swapped their items.
 
--- later writes to the same two places alone count
+-- only the later writes to the same two positions count
 set-twice : {X : Type 0} (xs : List X) (p q : ℕ) (a b c d : X) → set (set (set (set xs p a) q b) p c) q d ≡ set (set xs p c) q d
 set-twice {X = X} xs p q a b c d = grind (arith, set-set {A = X}, set_comm {A = X})
 
--- a slot of which the generation is known
+-- a slot whose generation is known
 module _ {T G : Type 0} (xs : List (Slot T G)) (k : ℕ) (within : k < length xs) where
   occupied-by : (s : Slot T G) (era : G) → s ≡ get_or xs k s → option_map (λ e. e.0) (slot_entry s) ≡ Some era
       → (item : T) × ((d : Slot T G) → get_or xs k d ≡ Occupied item era)
@@ -317,7 +317,7 @@ module _ {T G : Type 0} (xs : List (Slot T G)) (k : ℕ) (within : k < length xs
       (item, λ d. get_or_default xs k d (Occupied item old) within ∙ (sym is ∙ same))
   occupied-by Vacant era is at = cc
 
--- Slots xs, of which p and q have entries, become ys by an exchange; then s1 is written to p, and s2 to q.
+-- Slots xs, with entries at p and q, become ys by a swap; then s1 is written to p, and s2 to q.
 pub record IsExchange {T G : Type 0} (xs ys : List (Slot T G)) (p q : ℕ) (sp sq y1 y2 s1 s2 : Slot T G) (gp gq : G) : Type 0 where
   pub p_within : p < length xs
   pub q_within : q < length xs
@@ -342,7 +342,7 @@ module _ {T G : Type 0} {xs ys : List (Slot T G)} {p q : ℕ} {sp sq y1 y2 s1 s2
   other : (item : T) × ((d : Slot T G) → get_or xs q d ≡ Occupied item gq)
   other = occupied-by xs q h.q_within sq gq h.q_is h.q_era
 
-  -- each place has the other's item
+  -- each position has the other's item
   exchanged : set (set ys p s1) q s2 ≡ set (set xs p (Occupied other.0 gp)) q (Occupied one.0 gq)
   exchanged =
       let first : s1 ≡ Occupied other.0 gp = h.first ∙ ap (λ s. with_slot_generation s gp) (h.first_old ∙ (h.p_after y1 ∙ other.1 y1)) in

@@ -16,7 +16,7 @@ module _ {T : Type 0} where
       rw (take_more slots i None within) (pointers_from-append 0 (take i slots) (get_or slots i None ∷ [])
       ∙ ap (λ n. pointers_from 0 (take i slots) ++ pointers_from n (get_or slots i None ∷ [])) here)
 
-  -- downwards, over a slot without an entry and over an entry
+  -- a step down, over a vacant slot and over an entry
   module _ (slots : List (Option (ℕ × T))) (i k : ℕ) (next : i ≡ k + 1) (within : i < length slots) where
     pub falling-none : option_map (λ (e : ℕ × T). e.0) (get_or slots i None) ≡ None
         → reverse (pointers_from 0 (take (i + 1) slots)) ≡ reverse (pointers_from 0 (take (k + 1) slots))
@@ -28,7 +28,7 @@ module _ {T : Type 0} where
         let found = entry-from_generation (get_or slots i None) g is in
         rw (← next, pointers_from-next slots i within, found.1, reverse-append)
 
-  -- the first entry that comes stands at its index
+  -- the first entry to come is at its index
   module _ (e : ℕ × ℕ × T) (rest : List (ℕ × ℕ × T)) where
     entries_from-first : (from : ℕ) (slots : List (Option (ℕ × T))) → entries_from from slots ≡ e ∷ rest
         → (k : ℕ) × (e.0 ≡ from + k) × (get_or slots k None ≡ Some (e.1, e.2))
@@ -41,7 +41,7 @@ module _ {T : Type 0} where
         let first = entries_from-first i (drop i a.slots) is in
         ap (λ n. get_or a.slots n None) first.1 ∙ (sym (get_or-drop i a.slots first.0 None) ∙ first.2)
 
-  -- the first entry that comes has been removed
+  -- the first entry to come was removed
   module _ (greatest : Option ℕ) (a : Arena T) (i : ℕ) {b : Arena T} {n j g : ℕ} {item x : T}
       (is : entries_rising a i ≡ (j, g, x) ∷ entries_rising a (n + 1)) (next : n ≡ j) (there : item_of a (j, g) ≡ Some item)
       (gone : b ≡ removed greatest a j) where

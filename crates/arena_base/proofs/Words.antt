@@ -1,4 +1,4 @@
--- The words of std and of the definitions that the proofs of this crate speak with.
+-- The words of std and the definitions that the proofs of this crate use.
 pub use Rattle.std.proofs.Common.{◌==◌, inl, inr, ◌≡◌, ℕ, zero, suc, ◌+◌, ◌<◌, ◌≤◌, true, Option, Some, None, List, [], ◌∷◌, ◌++◌, cond}
 pub use Rattle.std.proofs.Common.{eqb, length, get_or, set, replicate, is_some, count_by, take, ◌-◌, refl, arith, ◌≢◌, drop, map, sym, ap}
 pub use Rattle.std.proofs.Common.{◌∙◌, subst, add-one, reverse, false, unwrap_or, slice_get, max, min, Result, Ok, Err, rules, vec_len}

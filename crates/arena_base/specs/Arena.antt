@@ -1,10 +1,10 @@
--- An arena as contracts see it: its slots by index, and the order in which the vacant ones are taken.
+-- An arena as contracts see it: its slots by index, and its free list.
 use Rattle.std.specs.Prelude.{◌≡◌, ◌≢◌, ◌⊎◌, ℕ, ◌+◌, ◌-◌, ◌*◌, ◌<◌, ◌≤◌, Option, Some, None, List, [], ◌∷◌, ◌++◌, ◌==◌, min, max, if◌then◌else◌, is_some, length, take, drop, replicate, count_by, slice_get, slice_index_or, slice_set, IsSome}
 use Rattle.std.specs.{Option.option_map, Option.ForSome, List.list_any}
 use Rattle.arena_base.specs.Generation.{first_generation, next_generation, IsLawfulGeneration}
 
--- The slots stand at their indexes: a `Some` is an entry, with its generation and its item. Index 0 has none.
--- `vacant` has the vacant indexes in the order in which insertions take them.
+-- The slots at their indexes: `Some` is an entry, with its generation and its item. Slot 0 is vacant.
+-- `vacant` is the free list: insertions take its indexes in this order.
 pub record Arena (T : Type 0) : Type 0 where
   pub slots : List (Option (ℕ × T))
   pub vacant : List ℕ
@@ -12,7 +12,7 @@ pub record Arena (T : Type 0) : Type 0 where
   pub maximum : Option ℕ
 
 module _ {X : Type 0} where
-  -- the indexes of the vacant slots, where the first has index `from`
+  -- the indexes of the vacant slots, if the first slot has index `from`
   abbrev pub vacant_from : ℕ → List (Option X) → List ℕ
   vacant_from from [] = []
   vacant_from from (None ∷ slots) = from ∷ vacant_from (from + 1) slots
@@ -27,11 +27,11 @@ module _ {X : Type 0} where
   greatest_occupied [] = 0
   greatest_occupied (slot ∷ slots) = if list_any is_some slots then greatest_occupied slots + 1 else 0
 
-  -- the slots, made n in number: those beyond are gone, new ones are vacant
+  -- the first n slots, with vacant ones added if there are fewer
   abbrev pub resized : ℕ → List (Option X) → List (Option X)
   resized n slots = take n slots ++ replicate (n - length slots) None
 
--- how often n stands in the list
+-- how often n occurs in the list
 abbrev pub times : ℕ → List ℕ → ℕ
 times n ns = count_by (λ m. m == n) ns
 
@@ -41,11 +41,11 @@ limit_of most None = most
 limit_of most (Some maximum) = min maximum most
 
 module _ {T : Type 0} where
-  -- generation and item of the entry at index i
+  -- the generation and the item of the entry at index i
   abbrev pub slot : Arena T → ℕ → Option (ℕ × T)
   slot a i = slice_index_or a.slots i None
 
-  -- the item of an entry, where the entry has generation g
+  -- the item of an entry, if its generation is g
   abbrev pub item_if : ℕ → Option (ℕ × T) → Option T
   item_if g None = None
   item_if g (Some e) = if e.0 == g then Some e.1 else None
@@ -58,27 +58,27 @@ module _ {T : Type 0} where
   abbrev pub FindSame : Arena T → Arena T → Type 0
   FindSame a b = (p : ℕ × ℕ) → item_of a p ≡ item_of b p
 
-  -- every pointer finds the same in both, but this one
+  -- every other pointer finds the same in both
   abbrev pub FindSameBut : ℕ × ℕ → Arena T → Arena T → Type 0
   FindSameBut p a b = (q : ℕ × ℕ) → (q.0 ≢ p.0) ⊎ (q.1 ≢ p.1) → item_of a q ≡ item_of b q
 
-  -- how many entries there are
+  -- the number of entries
   abbrev pub arena_len : Arena T → ℕ
   arena_len a = count_by is_some a.slots
 
-  -- how many entries there is room for
+  -- how many entries fit without growing
   abbrev pub arena_capacity : Arena T → ℕ
   arena_capacity a = length a.slots - 1
 
-  -- how far the capacity can grow, where `most` is the greatest index of an entry
+  -- the greatest capacity that the arena may have; `most` is the greatest index of an entry
   abbrev pub arena_limit : ℕ → Arena T → ℕ
   arena_limit most a = limit_of most a.maximum
 
-  -- the index that the next insertion takes, where one is vacant
+  -- the index that the next insertion takes; None if no slot is vacant
   abbrev pub next_index : Arena T → Option ℕ
   next_index a = slice_get a.vacant 0
 
-  -- all vacant slots count as never used: insertions take the least index first
+  -- the free list is ascending, as if no slot had been used: insertions take the least index first
   abbrev pub IsFresh : Arena T → Type 0
   IsFresh a = a.vacant ≡ vacant_indexes a.slots
 
@@ -92,8 +92,8 @@ module _ {T : Type 0} where
     pub within : i ≤ arena_capacity a
     pub free : slot a i ≡ None
 
-  -- what is true of every arena, in whatever order it takes its vacant slots: `most` is the greatest index of an entry,
-  -- `greatest` stands for the generations
+  -- What holds of every arena, whatever the order of its free list. `most` is the greatest index of an entry, `greatest` describes the
+  -- generations.
   pub record IsLawful (most : ℕ) (greatest : Option ℕ) (a : Arena T) : Type 0 where
     pub begins : take 1 a.slots ≡ None ∷ []
     pub within_capacity : arena_len a ≤ arena_capacity a
@@ -101,7 +101,7 @@ module _ {T : Type 0} where
     pub generation_lawful : IsLawfulGeneration greatest a.generation
     pub entries_lawful : (i : ℕ) → ForSome (slot a i) (λ e. IsLawfulGeneration greatest e.0)
 
-  -- what is true of every arena of this crate: besides, its vacant slots are those that are listed
+  -- What holds of every arena of this crate. In addition, the free list has exactly the vacant indexes.
   pub record IsSound (most : ℕ) (greatest : Option ℕ) (a : Arena T) : Type 0 where
     pub begins : take 1 a.slots ≡ None ∷ []
     pub within_limit : arena_capacity a ≤ arena_limit most a
@@ -124,11 +124,11 @@ module _ {T : Type 0} where
     pub entry : generation_at a i ≡ Some g
     pub greatest : (k : ℕ) → i < k → slot a k ≡ None
 
-  -- an arena without entries and without room
+  -- an arena without entries and with capacity 0
   abbrev pub new_arena : Option ℕ → Arena T
   new_arena greatest = record { slots = None ∷ []; vacant = []; generation = first_generation greatest; maximum = None }
 
-  -- a with this in the slot at index i
+  -- a with s in the slot at index i
   abbrev pub with_slot : Arena T → ℕ → Option (ℕ × T) → Arena T
   with_slot a i s = record a { slots = slice_set a.slots i s }
 
@@ -136,7 +136,7 @@ module _ {T : Type 0} where
   abbrev pub with_item : Arena T → ℕ → T → Arena T
   with_item a i item = with_slot a i (option_map (λ e. (e.0, item)) (slot a i))
 
-  -- a after an insertion of the item, where `vacant` are the vacant indexes
+  -- a after an insertion of the item, if `vacant` is the free list
   abbrev pub with_entry_at : Arena T → List ℕ → T → Arena T
   with_entry_at a [] item = a
   with_entry_at a (i ∷ rest) item = record a { slots = slice_set a.slots i (Some (a.generation, item)); vacant = rest }
@@ -149,11 +149,11 @@ module _ {T : Type 0} where
   abbrev pub raised : Option ℕ → Arena T → Arena T
   raised greatest a = record a { generation = next_generation greatest a.generation }
 
-  -- a without the entry at index i, which the next insertion takes
+  -- a without the entry at index i, which is now first in the free list
   abbrev pub freed : Arena T → ℕ → Arena T
   freed a i = record a { slots = slice_set a.slots i None; vacant = i ∷ a.vacant }
 
-  -- a with the next generation and without the entry at index i, which the next insertion takes
+  -- a with the next generation and without the entry at index i, which is now first in the free list
   abbrev pub removed : Option ℕ → Arena T → ℕ → Arena T
   removed greatest a i = raised greatest (freed a i)
 
@@ -162,15 +162,15 @@ module _ {T : Type 0} where
   renewed greatest a i = let next = next_generation greatest a.generation in
       record a { slots = slice_set a.slots i (option_map (λ e. (next, e.1)) (slot a i)); generation = next }
 
-  -- a with this capacity, all its vacant slots counting as never used
+  -- a with capacity n and an ascending free list
   abbrev pub with_capacity : Arena T → ℕ → Arena T
   with_capacity a n = record a { slots = resized (n + 1) a.slots; vacant = vacant_indexes (resized (n + 1) a.slots) }
 
-  -- a without entries, all its slots counting as never used
+  -- a without entries and with an ascending free list
   abbrev pub emptied : Arena T → Arena T
   emptied a = let slots = replicate (length a.slots) None in record a { slots = slots; vacant = vacant_indexes slots }
 
-  -- a with the next generation and without entries, all its slots counting as never used
+  -- a with the next generation, without entries and with an ascending free list
   abbrev pub cleared : Option ℕ → Arena T → Arena T
   cleared greatest a = raised greatest (emptied a)
 
@@ -184,15 +184,15 @@ module _ {T : Type 0} where
   with_item_of (Some e) None = Some e
   with_item_of (Some e) (Some other) = Some (e.0, other.1)
 
-  -- a with the items at indexes i and j in each other's place
+  -- a with the items at indexes i and j swapped
   abbrev pub swapped : Arena T → ℕ → ℕ → Arena T
   swapped a i j = with_slot (with_slot a i (with_item_of (slot a i) (slot a j))) j (with_item_of (slot a j) (slot a i))
 
-  -- a, grown where it has no vacant slot
+  -- a, grown if it has no vacant slot
   abbrev pub with_room : ℕ → Arena T → Arena T
   with_room most a = if is_some (next_index a) then a else with_capacity a (grown_capacity most a)
 
-  -- the arena `new` is `old` with the item inserted, under index i and generation g
+  -- `new` is `old` with `item` inserted at index i with generation g
   pub record IsInsertion (old new : Arena T) (item : T) (i g : ℕ) : Type 0 where
     pub next : next_index old ≡ Some i
     pub vacant : IsVacant old i
@@ -201,7 +201,7 @@ module _ {T : Type 0} where
     pub after : new ≡ with_entry old item
     pub fresh : IsFresh old → IsFresh new
 
-  -- the arenas hold the same, whatever the order in which they take their vacant slots
+  -- the arenas hold the same, whatever the order of their free lists
   pub record HoldsSame (a b : Arena T) : Type 0 where
     pub slots : a.slots ≡ b.slots
     pub generation : a.generation ≡ b.generation

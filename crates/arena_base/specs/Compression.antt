@@ -1,25 +1,25 @@
--- What a compression makes of an arena: its items lie at the indexes from 1 on, in the order of their old indexes.
+-- A compression: the items move to the indexes from 1 on, in index order.
 use Rattle.std.specs.Prelude.{◌≡◌, ℕ, ◌+◌, Bool, false, if◌then◌else◌, Option, Some, None, List, [], ◌∷◌, ◌++◌, length, map}
 use Rattle.std.specs.List.{FoldsTo}
 use Rattle.arena_base.specs.{Generation.first_generation, Generation.next_generation, Generation.overflows_after, Arena.Arena, Arena.HoldsSame, Arena.resized, Arena.vacant_indexes, Walk.entries_rising}
 
--- the generation after a compression: the first where it is reset, else the next
+-- the generation after a compression: the first if it is reset, else the next
 abbrev pub compressed_generation : Option ℕ → Bool → ℕ → ℕ
 compressed_generation greatest reset g = if reset then first_generation greatest else next_generation greatest g
 
--- a compression begins the generations again: never where it resets them
+-- whether the generations overflow in a compression; never if they are reset
 abbrev pub compression_overflows : Option ℕ → Bool → ℕ → Bool
 compression_overflows greatest reset g = if reset then false else overflows_after greatest g
 
--- a with these items at the indexes from 1 on, all with generation g, which is the arena's; its vacant slots count as never used
+-- a with these items at the indexes from 1 on, all with generation g, which becomes the arena's; its free list is ascending
 abbrev pub compressed : {T : Type 0} → Arena T → ℕ → List T → Arena T
 compressed a g items = let slots = resized (length a.slots) (None ∷ map (λ item. Some (g, item)) items) in
     record a { slots = slots; vacant = vacant_indexes slots; generation = g }
 
--- P reads pointers as index and generation; `step` is what a call of the closure may do; g is the new generation
+-- `numbers` reads a pointer as index and generation; `step` is what a call of the closure may do; g is the new generation
 module _ {P T F : Type 0} (numbers : P → ℕ × ℕ) (step : F → P → T → P → T → F → Type 0) (g : ℕ) where
-  -- The closure was called with the entry's pointer, its item and its new pointer, and what it returned came behind the items so far.
-  -- A state is the closure with the items so far.
+  -- The closure was called with the entry's pointer, its item and its new pointer, and its result was added behind the items so far. A
+  -- state is the closure and the items so far.
   pub record CompressionStep (s : F × List T) (e : ℕ × ℕ × T) (t : F × List T) : Type 0 where
     pub from : P
     pub to : P
@@ -31,7 +31,7 @@ module _ {P T F : Type 0} (numbers : P → ℕ × ℕ) (step : F → P → T →
     pub called : step s.0 from e.2 to item t.0
     pub behind : t.1 ≡ s.1 ++ item ∷ []
 
-  -- the closure was called at each entry by rising index, each time in the state in which the call before had left it
+  -- the closure was called for each entry by rising index, each time in the state that the call before left
   pub record IsCompression (f : F) (old new : Arena T) : Type 0 where
     pub items : List T
     pub last : F

@@ -1,10 +1,9 @@
--- What a clone and a compression do to the slots in memory. No public clause cites this file.
+-- What a clone and a compression do to the slots in memory. No public clause uses this file.
 use Rattle.std.specs.{Prelude.◌≡◌, Prelude.ℕ, Prelude.◌-◌, Prelude.◌≤◌, Prelude.List, Prelude.[], Prelude.◌∷◌, Prelude.◌++◌, Prelude.length, Prelude.map, Prelude.replicate, Prelude.Option, Prelude.None, List.FoldsTo}
 use Rattle.arena_base.specs.{declared.slot.Slot.TheVariants.Occupied, declared.slot.Slot.TheVariants.Vacant, Clone.CloneStep, Clone.with_items, Compression.CompressionStep, declared.slot.Slot.Slot, Walk.entries_from, Slot.entry_in}
 
 module _ {P T U G F : Type 0} (numbers : P → ℕ × ℕ) (number : G → ℕ) (step : F → P → U → T → F → Type 0) where
-  -- There are clones of all entries in the slots, and the calls left the closure as `last`; behind these the source has vacant slots
-  -- alone.
+  -- The slots are clones of the source's, and the calls left the closure as `last`. The source's other slots, behind these, are vacant.
   pub record ClonesSlots (f : F) (source : List (Option (ℕ × U))) (slots : List (Slot T G)) (last : F) : Type 0 where
     pub items : List T
     pub calls : FoldsTo (CloneStep numbers step) (f, []) (entries_from 0 source) (last, items)
@@ -12,7 +11,7 @@ module _ {P T U G F : Type 0} (numbers : P → ℕ × ℕ) (number : G → ℕ) 
     pub after : with_items source items ≡ None ∷ map (entry_in number) slots ++ replicate vacant_behind None
 
 module _ {P T G F : Type 0} (numbers : P → ℕ × ℕ) (number : G → ℕ) (step : F → P → T → P → T → F → Type 0) (generation : G) where
-  -- the entries of all slots came to the first ones, the others are vacant
+  -- the entries of all slots moved to the first ones, and the others are vacant
   pub record CompressesSlots (f : F) (old new : List (Slot T G)) : Type 0 where
     pub items : List T
     pub last : F

@@ -1,24 +1,24 @@
-//! `Advancer`: going through a collection without borrowing it.
+//! `Advancer`: walks over a collection that don't borrow it.
 ghost use Rattle.std.specs.Prelude.{Option, IsNone};
 
-/// Goes through a collection, which may be changed between two steps.
+/// A walk over a collection, which may change between two steps.
 pub trait Advancer<C> {
-    /// What each step gives.
+    /// What a step returns.
     type Item;
 
-    // a step over the collection gave this, and left the advancer so
+    // A step over the collection may return this and leave this advancer.
     ghost advance_gives: { Self → C → Option Self.Item → Self → Type 0 };
 
-    // the advancer gives nothing, whatever comes into the collection
+    // The advancer never returns anything, whatever is added to the collection.
     ghost has_ended: { Self → Type 0 };
 
-    /// The next item of the collection, as it is now; `None` where nothing is left. An advancer that has ended stays so.
+    /// Returns the next item of the collection as it is now; `None` if nothing is left. An advancer that has ended stays ended.
     fn advance(&mut self, collection: &C) -> Option<Self::Item>
         ensures step { advance_gives self.old collection.now result self.new }
         ensures nothing { has_ended self.old → IsNone result }
         ensures ended { has_ended self.old → has_ended self.new };
 
-    /// An advancer that gives nothing, ever.
+    /// Creates an advancer that never returns anything.
     fn empty() -> Self
         ensures { has_ended result };
 }

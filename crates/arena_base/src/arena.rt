@@ -1,4 +1,4 @@
-//! `Arena`: entries in slots of one vector, with a stack of the vacant ones.
+//! `Arena`: entries in the slots of one vector, with a stack of the vacant slots.
 ghost use Rattle.std.specs.Prelude.{◌≡◌, ◌==◌, ◌+◌, ◌<◌, ◌≤◌, ◌↔◌};
 ghost use Rattle.arena_base.specs.Generation.{IsLawfulGeneration, overflows_after};
 ghost use Rattle.arena_base.specs.Invalidation.{is_overflow};
@@ -26,26 +26,26 @@ use std::marker::Model;
 use std::mem::size_of;
 pub use walks::PtrAdvancer;
 
-/// Entries that are found by pointers: an index, and the generation that the arena had when the entry came.
+/// A generational arena. A pointer is an index and the generation that the arena had when the entry was inserted.
 ///
-/// An entry that goes away raises the generation, so that its pointer isn't valid for the next entry at that index.
-/// An insertion takes the slot that was freed last, else the least that was never used.
+/// A removal raises the generation, so the pointer of a removed entry isn't valid for the next entry at that index. An insertion takes
+/// the slot that was freed last, else the least slot never used.
 ///
-/// The calls take this arena's pointer type alone: where `arena` is an `Arena<P0, u64>` and `q` a `Q0`, `arena.get(q)` doesn't
-/// compile, with `error[mismatched-types]: expected `P0`, found `Q0``.
+/// The calls take only this arena's pointer type. If `arena` is an `Arena<P0, u64>` and `q` a `Q0`, `arena.get(q)` doesn't compile:
+/// `error[mismatched-types]: expected `P0`, found `Q0``.
 #[derive(Drop)]
 pub struct Arena<P: BasePtr, T, A: Allocator = Global> {
     slots: Vec<Slot<T, P::Gen>, A>,
-    // The indexes without an entry. The last is taken next. It has room for all, so that a removal needs no memory.
+    // The free list: all indexes without an entry; the last is taken next. It has room for all indexes, so a removal needs no memory.
     vacant: Vec<VacantInx<P>, A>,
     generation: P::Gen,
     maximum: Option<usize>,
 }
 
-// A vacant slot is listed by its index.
+// The free list names a vacant slot by its index.
 type VacantInx<P> = <P as BasePtr>::Inx;
 
-// So the list takes no more for each than an index: a byte in an arena of bytes, half a word in the usual one.
+// So each element takes no more than an index: a byte in an arena of bytes, half a word in the usual one.
 const _: () = prove!(size_of::<VacantInx<P8>>() == 1);
 
 const _: () = prove!(size_of::<VacantInx<P0>>() == 4);
@@ -69,7 +69,7 @@ impl<P: BasePtr, T, A: Allocator> Model for Arena<P, T, A> {
 }
 
 impl<P: BasePtr, T, A: Allocator> Arena<P, T, A> {
-    /// How many entries there is room for before the arena has to grow.
+    /// Returns how many entries the arena holds without growing.
     pub fn capacity(&self) -> usize
         ensures value { result ≡ arena_capacity self.now }
         ensures sound { IsSound P.Inx.most P.Gen.greatest self.now }
@@ -78,14 +78,14 @@ impl<P: BasePtr, T, A: Allocator> Arena<P, T, A> {
         self.slots.len()
     }
 
-    /// The maximum that was set. The capacity never goes beyond it, nor beyond what the pointers' indexes can name.
+    /// Returns the maximum that was set, if any. The capacity never exceeds it, nor the greatest index of an entry.
     pub fn max_capacity(&self) -> Option<usize>
         ensures { result ≡ self.now.maximum }
     {
         self.maximum
     }
 
-    /// How many entries there are.
+    /// Returns the number of entries.
     pub fn len(&self) -> usize
         ensures value { result ≡ arena_len self.now }
         ensures sound { IsSound P.Inx.most P.Gen.greatest self.now }
@@ -94,14 +94,14 @@ impl<P: BasePtr, T, A: Allocator> Arena<P, T, A> {
         self.slots.len() - self.vacant.len()
     }
 
-    /// Whether there is no entry.
+    /// Returns whether there are no entries.
     pub fn is_empty(&self) -> bool
         ensures { result ≡ (arena_len self.now == 0) }
     {
         self.len() == 0
     }
 
-    /// The generation that the next entry gets.
+    /// Returns the generation that the next entry gets.
     pub fn generation(&self) -> P::Gen
         ensures value { P.Gen.number result ≡ self.now.generation }
         ensures lawful { IsLawfulGeneration P.Gen.greatest self.now.generation }
@@ -109,10 +109,9 @@ impl<P: BasePtr, T, A: Allocator> Arena<P, T, A> {
         self.generation
     }
 
-    /// The allocator's handle that the arena keeps for its growths.
+    /// Returns the allocator handle that the arena keeps for growing.
     ///
-    /// It has no clause and needs none: an arena's value in contracts has no allocator, and a clause can't tell two handles of one type
-    /// apart.
+    /// It has no clause: an arena's value in contracts has no allocator, and a clause can't distinguish two handles of one type.
     pub fn alloc(&self) -> A
     where
         A: Copy,
@@ -120,7 +119,7 @@ impl<P: BasePtr, T, A: Allocator> Arena<P, T, A> {
         *self.slots.allocator()
     }
 
-    /// Sets the generation, which has to be lawful, and leaves each entry its own.
+    /// Sets the generation, which must be lawful. Entries keep theirs.
     pub fn set_generation(&mut self, generation: P::Gen)
         requires { IsLawfulGeneration P.Gen.greatest (P.Gen.number generation) }
         ensures { self.new ≡ record self.old { generation = P.Gen.number generation } }
@@ -128,7 +127,7 @@ impl<P: BasePtr, T, A: Allocator> Arena<P, T, A> {
         self.generation = generation;
     }
 
-    /// Raises the generation, and leaves each entry its own. After the greatest comes the first again, which is an overflow.
+    /// Raises the generation. Entries keep theirs. After the greatest comes the first again, which is an overflow.
     pub fn inc_generation(&mut self) -> InvalidationOption<()>
         ensures after { self.new ≡ raised P.Gen.greatest self.old }
         ensures overflow { is_overflow result ≡ overflows_after P.Gen.greatest self.old.generation }
@@ -142,7 +141,7 @@ impl<P: BasePtr, T, A: Allocator> Arena<P, T, A> {
         }
     }
 
-    // How far the capacity may grow.
+    // The greatest capacity that the arena may have.
     fn limit(&self) -> usize
         ensures value { result ≡ arena_limit P.Inx.most self.now }
         ensures within { arena_capacity self.now ≤ arena_limit P.Inx.most self.now }

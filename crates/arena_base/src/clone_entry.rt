@@ -7,17 +7,17 @@ use crate::map_entry::Calls;
 use crate::ptr::BasePtr;
 use std::alloc::AllocError;
 
-/// What makes an item of an entry's pointer and a reference to its item, as a closure `FnMut(P, &U) -> Result<T, AllocError>` does.
+/// Makes an item from an entry's pointer and a reference to its item, as a closure `FnMut(P, &U) -> Result<T, AllocError>` does.
 ///
-/// A container over an arena writes its own, which hands its part of the item on to that of its caller.
+/// A container over an arena implements it anew, and passes the inner item on to its caller's implementation.
 pub trait CloneEntry<P: BasePtr, U, T> {
-    // it may be called
+    // It may be called.
     ghost callable: { Self → Type 0 };
 
-    // a call in this state, with this pointer and this item, may answer this and leave this state
+    // A call in this state, with this pointer and this item, may return this and leave this state.
     ghost step: { Self → P → U → Result T AllocError → Self → Type 0 };
 
-    /// The item of the entry's clone, or `AllocError` where it was refused memory for it.
+    /// Returns the item of the entry's clone, or `AllocError` if memory for it is refused.
     fn clone_entry(&mut self, p: P, item: &U) -> Result<T, AllocError>
         requires { callable self.old }
         ensures step { step self.old p item.now result self.new }
@@ -35,7 +35,7 @@ impl<P: BasePtr, U, T, F: FnMut(P, &U) -> T> CloneEntry<P, U, T> for Calls<F> {
     }
 }
 
-/// A closure that may be refused memory, as what makes the items of a clone.
+/// A closure that makes the items of a clone, and may be refused memory.
 #[derive(Drop)]
 pub struct TryCalls<F> {
     pub f: F,

@@ -1,32 +1,32 @@
-//! The refusals of calls that need room.
+//! The errors of calls that need room.
 use thiserror::Error;
 
-/// Why a change of the capacity was refused. Nothing has changed then.
+/// Why a change of the capacity failed. The arena is unchanged.
 #[derive(Debug, Clone, Copy, PartialEq, Eq, Drop, Error)]
 pub enum ReallocationError {
-    /// The wanted capacity is beyond the maximum, or beyond what the pointers' indexes can name.
+    /// The requested capacity is beyond the maximum, or beyond the greatest index of an entry.
     #[error("the capacity would go beyond its maximum")]
     BeyondMaxCapacity,
-    /// The memory was refused.
+    /// Memory was refused.
     #[error("out of memory")]
     AllocError,
 }
 
-/// Why an insertion was refused. Nothing has changed then, and the item is dropped.
+/// Why an insertion failed. The arena is unchanged, and the item is dropped.
 #[derive(Debug, Clone, Copy, PartialEq, Eq, Drop, Error)]
 pub enum InsertionError {
-    /// There is no vacant slot, and the call doesn't grow.
+    /// No slot is vacant, and the call doesn't grow.
     #[error("no room within the capacity")]
     NotWithinCapacity,
-    /// There is no vacant slot, and the capacity is at its maximum.
+    /// No slot is vacant, and the capacity is at its limit.
     #[error("no room within the maximum capacity")]
     BeyondMaxCapacity,
-    /// There is no vacant slot, and the memory for more was refused.
+    /// No slot is vacant, and growing failed.
     #[error("out of memory")]
     AllocError,
 }
 
-/// A maximum below the capacity was refused. Nothing has changed then.
+/// The requested maximum is below the capacity. The arena is unchanged.
 #[derive(Debug, Clone, Copy, PartialEq, Eq, Drop, Error)]
 #[error("the maximum is below the capacity")]
 pub struct MaxCapacityReductionError;

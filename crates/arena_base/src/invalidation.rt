@@ -1,13 +1,13 @@
-//! The results of calls that end or renew a pointer, and so raise the arena's generation.
+//! Results of calls that end or renew a pointer, and so raise the arena's generation.
 ghost use Rattle.std.specs.Prelude.{◌≡◌, ◌↔◌, IsSome, MatchOption, IfSome, Some};
 ghost use Rattle.std.specs.Option.{ForSome};
 
-/// The result of a call that was given a pointer.
+/// The result of a call on a pointer.
 #[derive(Debug, Clone, Copy, PartialEq, Eq, Drop)]
 pub enum InvalidationResult<T> {
-    /// The pointer was valid, and its generation won't come again yet.
+    /// The pointer was valid, and the generations didn't overflow.
     Success(T),
-    /// The pointer was valid, and the generations began again: old pointers may become valid.
+    /// The pointer was valid, and the generations overflowed: old pointers may become valid again.
     GenerationOverflow(T),
     /// The pointer named no entry, and nothing changed.
     InvalidPtr,
@@ -16,16 +16,16 @@ pub enum InvalidationResult<T> {
 /// The result of a call that always succeeds.
 #[derive(Debug, Clone, Copy, PartialEq, Eq, Drop)]
 pub enum InvalidationOption<T> {
-    /// The old generation won't come again yet.
+    /// The generations didn't overflow.
     Success(T),
-    /// The generations began again: old pointers may become valid.
+    /// The generations overflowed: old pointers may become valid again.
     GenerationOverflow(T),
 }
 
 impl<T> InvalidationResult<T> {
     ghost use Rattle.arena_base.specs.Invalidation.{valid_value, has_overflowed, allowed_value, is_overflow};
 
-    /// The value, whether or not the generations began again; `None` for an invalid pointer.
+    /// Returns the value, with or without an overflow; `None` for an invalid pointer.
     pub fn allow(self) -> Option<T>
         ensures { result ≡ valid_value self }
     {
@@ -37,7 +37,7 @@ impl<T> InvalidationResult<T> {
         }
     }
 
-    /// The same result of another value.
+    /// Applies `f` to the value, if any. An overflow stays one.
     pub fn map<U, F: FnOnce(T) -> U + Drop>(self, f: F) -> InvalidationResult<U>
         requires { ForSome (valid_value self) (F.pre f) }
         ensures value { MatchOption (valid_value self) (result ≡ InvalidationResult.InvalidPtr)
@@ -54,7 +54,7 @@ impl<T> InvalidationResult<T> {
         }
     }
 
-    /// The result for a pointer that is known to have been valid.
+    /// Converts the result for a pointer that is known to have been valid.
     pub fn unwrap(self) -> InvalidationOption<T>
         requires { IsSome (valid_value self) }
         ensures value { valid_value self ≡ Some (allowed_value result) }
@@ -73,7 +73,7 @@ impl<T> InvalidationResult<T> {
 impl<T> InvalidationOption<T> {
     ghost use Rattle.arena_base.specs.Invalidation.{valid_value, has_overflowed, allowed_value, is_overflow};
 
-    /// The same result, as that of a call that was given a valid pointer.
+    /// Converts the result to that of a call on a valid pointer.
     pub fn valid(self) -> InvalidationResult<T>
         ensures value { valid_value result ≡ Some (allowed_value self) }
         ensures overflow { has_overflowed result ≡ is_overflow self }
@@ -86,7 +86,7 @@ impl<T> InvalidationOption<T> {
         }
     }
 
-    /// The value, whether or not the generations began again.
+    /// Returns the value, with or without an overflow.
     pub fn allow(self) -> T
         ensures { result ≡ allowed_value self }
     {
@@ -97,7 +97,7 @@ impl<T> InvalidationOption<T> {
         }
     }
 
-    /// The same result of another value.
+    /// Applies `f` to the value. An overflow stays one.
     pub fn map<U, F: FnOnce(T) -> U>(self, f: F) -> InvalidationOption<U>
         requires { F.pre f (allowed_value self) }
         ensures value { F.post f (allowed_value self) (allowed_value result) }

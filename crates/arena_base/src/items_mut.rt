@@ -1,26 +1,26 @@
-//! `ItemsMut`: references to items that go out to be written, and how they come back.
+//! `ItemsMut`: references to items for writing, and what a write changes.
 ghost use Rattle.std.specs.Prelude.{◌≡◌, ℕ, Option, Some, is_some, IsSome};
 ghost use Rattle.std.specs.Option.{option_copied_mut, option_map};
 ghost use Rattle.std.specs.Borrow.{sem, Lends, LendsIf, follows_if, name_if_some};
 
 use crate::ptr::{BasePtr, BasePtrGen, BasePtrInx};
 
-/// Containers whose entries are found by index, and whose items can be written there.
+/// Containers that find entries by index and let their items be written.
 ///
-/// An item that was written is the entry's afterwards, and nothing else has changed. Each call takes O(1) in an arena, a chain
-/// arena, a tree and an ordered arena.
+/// A written item becomes the entry's, and nothing else changes. Each call takes O(1) in an arena, a chain arena, a tree and an ordered
+/// arena.
 pub trait ItemsMut<P: BasePtr, T> {
-    // generation and item of the entry at an index
+    // Generation and item of the entry at an index.
     ghost entry_at: { Self → ℕ → Option (ℕ × T) };
 
-    // the container with another item in the entry at an index
+    // The container with another item in the entry at an index.
     ghost written: { Self → ℕ → T → Self };
 
-    /// Whether there is an entry at the index.
+    /// Returns whether index `i` has an entry.
     fn contains_inx(&self, i: P::Inx) -> bool
         ensures { result ≡ is_some (entry_at self.now (P.Inx.number i)) };
 
-    /// Generation and item of the entry at an index that has one; the item may be written.
+    /// Returns the generation and the item of the entry at index `i`, which must have one. The item may be written.
     fn pair_mut(&mut self, i: P::Inx) -> (P::Gen, &mut T)
         requires { IsSome (entry_at self.old (P.Inx.number i)) }
         ensures* writes_back { sem 𝓛
@@ -28,7 +28,7 @@ pub trait ItemsMut<P: BasePtr, T> {
         ensures value { entry_at self.old (P.Inx.number i)
             ≡ Some (P.Gen.number result.0, result.1.now) };
 
-    /// The item at the index, to be written.
+    /// Returns the item at index `i` for writing; `None` if there is none.
     final fn item_at_mut(&mut self, i: P::Inx) -> Option<&mut T>
         ensures* writes_back { sem 𝓛
             (LendsIf Self.row T.row self.entry result
@@ -43,10 +43,10 @@ pub trait ItemsMut<P: BasePtr, T> {
         }
     }
 
-    /// Generation and item of the entry at the index; the item may be written.
+    /// Returns the generation and the item of the entry at index `i`; `None` if there is none. The item may be written.
     ///
-    /// What is written is the entry's item afterwards, and nothing else has changed. A caller's generated proof hears of that from
-    /// `pair_mut` and `item_at_mut`, and not from here.
+    /// A written item becomes the entry's, and nothing else changes. A caller's generated proof learns this from `pair_mut` and
+    /// `item_at_mut`, not from this call.
     final fn get_inx_mut(&mut self, i: P::Inx) -> Option<(P::Gen, &mut T)>
         ensures* writes_back { sem 𝓛 (follows_if Self.row T.row self.entry.ghost_name
             (name_if_some (λ e. e.1.ghost_name) result)
@@ -63,7 +63,7 @@ pub trait ItemsMut<P: BasePtr, T> {
     }
 }
 
-// Whether there is an entry at the index, and the container again, as the same reference.
+// Whether index `i` has an entry, and the container again, as the same reference.
 fn occupied<S: ItemsMut<P, T>, P: BasePtr, T>(items: &mut S, i: P::Inx) -> (bool, &mut S)
     ensures same_reference { result.1.ghost_name ≡ items.entry.ghost_name }
     ensures same { result.1.now ≡ items.old }

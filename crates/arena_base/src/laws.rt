@@ -1,4 +1,4 @@
-//! The laws of a finite map, of every arena: a call on one pointer leaves every other pointer what it finds.
+//! The laws of every arena as a finite map: a call on one pointer doesn't change what every other pointer finds.
 ghost use Rattle.std.specs.Prelude.{◌≡◌, ◌≢◌, ◌⊎◌, ℕ, IsTrue, true, false, Some, None, is_some, IsSome, IfSome, IfNone, OnOk, OnErr, length, if◌then◌else◌};
 ghost use Rattle.arena_base.specs.Arena.{item_of, FindSame, FindSameBut};
 ghost use Rattle.arena_base.specs.Generation.{next_generation};
@@ -8,14 +8,14 @@ use crate::error::ReallocationError;
 use crate::ptr::BasePtr;
 use crate::traits::{ArenaCloneFromWith, ArenaTrait};
 
-/// An empty arena. No pointer names anything in it.
+/// Creates an empty arena. No pointer names anything in it.
 pub fn make<P: BasePtr, T, A: ArenaTrait<P, T>>(alloc: A::Alloc) -> A
     ensures { (p : ℕ × ℕ) → item_of (A.content result) p ≡ None }
 {
     A::new(alloc)
 }
 
-/// How many pointers name something. The list of these pointers has each of them once, and no other.
+/// Returns how many pointers name something. The list of these pointers has each of them once, and no other.
 pub fn count<P: BasePtr, T, A: ArenaTrait<P, T>>(arena: &A) -> usize
     ensures count { result ≡ length (pointers (A.content arena.now)) }
     ensures named { (p : ℕ × ℕ) → times_named p (pointers (A.content arena.now))
@@ -24,13 +24,13 @@ pub fn count<P: BasePtr, T, A: ArenaTrait<P, T>>(arena: &A) -> usize
     arena.len()
 }
 
-/// No two pointers with the same index name something.
+/// At most one pointer of an index names something.
 pub fn one_pointer<P: BasePtr, T, A: ArenaTrait<P, T>>(arena: &A)
     ensures { (p q : ℕ × ℕ) → IsSome (item_of (A.content arena.now) p)
         → IsSome (item_of (A.content arena.now) q) → p.0 ≡ q.0 → p.1 ≡ q.1 }
 {}
 
-/// Takes out what the pointer names. Afterwards it names nothing. Where it named nothing, nothing changes.
+/// Removes and returns what `p` names. Afterwards `p` names nothing. If `p` is stale, nothing changes.
 pub fn take<P: BasePtr, T, A: ArenaTrait<P, T>>(arena: &mut A, p: P) -> Option<T>
     ensures taken { result ≡ item_of (A.content arena.old) (P.numbers p) }
     ensures gone { item_of (A.content arena.new) (P.numbers p) ≡ None }
@@ -40,8 +40,7 @@ pub fn take<P: BasePtr, T, A: ArenaTrait<P, T>>(arena: &mut A, p: P) -> Option<T
     arena.remove(p).allow()
 }
 
-/// Puts an item in the place of the one that the pointer names, which is dropped. It returns whether there was one; where
-/// there was none, nothing changes.
+/// Replaces the item of `p` with `item` and drops the old one. Returns whether `p` named an item; if not, nothing changes.
 pub fn put<P: BasePtr, T: Drop, A: ArenaTrait<P, T>>(arena: &mut A, p: P, item: T) -> bool
     ensures found { result ≡ is_some (item_of (A.content arena.old) (P.numbers p)) }
     ensures written { IsTrue result → item_of (A.content arena.new) (P.numbers p) ≡ Some item }
@@ -57,10 +56,9 @@ pub fn put<P: BasePtr, T: Drop, A: ArenaTrait<P, T>>(arena: &mut A, p: P, item: 
     true
 }
 
-/// Gives what the pointer names a new pointer, at the same index and with the raised generation. Where it named nothing,
-/// nothing changes.
+/// Gives the entry of `p` a new pointer, with the same index and the raised generation. If `p` is stale, nothing changes.
 ///
-/// The old pointer names nothing afterwards, unless the raised generation is its own, as it always is for the type `()`.
+/// Afterwards the old pointer names nothing, unless the raised generation is its own, as it always is for the type `()`.
 pub fn renew<P: BasePtr, T, A: ArenaTrait<P, T>>(arena: &mut A, p: P) -> Option<P>
     ensures found { is_some result ≡ is_some (item_of (A.content arena.old) (P.numbers p)) }
     ensures index { IfSome result (λ q. (P.numbers q).0 ≡ (P.numbers p).0) }
@@ -85,8 +83,8 @@ pub fn empty<P: BasePtr, T: Drop, A: ArenaTrait<P, T>>(arena: &mut A)
     let _ = arena.clear();
 }
 
-/// Copies the source into another arena, whose own entries are dropped. Afterwards every pointer finds in it what it finds in
-/// the source. Where that is refused, nothing changes.
+/// Copies the source into another arena, whose own entries are dropped. Afterwards every pointer finds in it what it finds in the source.
+/// On `Err`, nothing changes.
 pub fn copy<P: BasePtr, T: Copy + Drop, S: ArenaTrait<P, T>, A: ArenaCloneFromWith<P, T>>(
     source: &S,
     arena: &mut A,

@@ -1,4 +1,4 @@
-//! Generational arenas: entries at small numbers, found again by pointers that notice when their entry is gone.
+//! Generational arenas: entries at small indexes, found by pointers that detect when their entry is gone.
 #![tactic(auto)]
 
 mod advancer;

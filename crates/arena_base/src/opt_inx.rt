@@ -1,4 +1,4 @@
-//! `OptInx`: an optional index in the room of an index.
+//! `OptInx`: an optional index in the space of an index.
 ghost use Rattle.std.specs.Prelude.{◌≡◌, None};
 ghost use Rattle.std.specs.Option.{option_map};
 ghost use Rattle.arena_base.specs.Pointer.{named_of};
@@ -7,9 +7,9 @@ use crate::ptr::{BasePtr, BasePtrInx};
 use std::fmt;
 use std::marker::Model;
 
-/// An index or none, in the room of an index: an `Option` of one would take twice as much.
+/// An index or none, in the space of an index. An `Option` would take twice as much.
 ///
-/// Index 0 names no entry, and stands for none.
+/// Index 0 names no entry, so it represents none.
 #[derive(Clone, Drop)]
 pub struct OptInx<P: BasePtr> {
     inx: P::Inx,
@@ -25,7 +25,7 @@ impl<P: BasePtr> Model for OptInx<P> {
 }
 
 impl<P: BasePtr> OptInx<P> {
-    /// An index or none. Index 0 is none.
+    /// Creates an optional index. Index 0 becomes none.
     pub fn new(inx: Option<P::Inx>) -> Self
         ensures { result ≡ named_of (option_map P.Inx.number inx) }
     {
@@ -34,7 +34,7 @@ impl<P: BasePtr> OptInx<P> {
         }
     }
 
-    /// None.
+    /// Creates an optional index that is none.
     pub fn none() -> Self
         ensures { result ≡ None }
     {
@@ -43,7 +43,7 @@ impl<P: BasePtr> OptInx<P> {
         }
     }
 
-    /// The index, if there is one.
+    /// Returns the index, if any.
     pub fn get(&self) -> Option<P::Inx>
         ensures value { option_map P.Inx.number result ≡ self.now }
         ensures named { named_of self.now ≡ self.now }
@@ -56,7 +56,7 @@ impl<P: BasePtr> OptInx<P> {
     }
 }
 
-/// As an `Option` of the index's number.
+/// Prints an `Option` of the index's number.
 impl<P: BasePtr> fmt::Debug for OptInx<P> {
     fn fmt<W: fmt::Write>(&self, f: &mut fmt::Formatter<W>) -> fmt::Result {
         self.get().and_then(P::Inx::try_into_usize).fmt(f)

@@ -1,4 +1,4 @@
-//! Pointers into an arena: an index, and a generation that tells whose index it was.
+//! Pointers into an arena: an index, and a generation that distinguishes the entries of that index.
 ghost use Rattle.std.specs.Prelude.{◌≡◌, ◌==◌, ◌+◌, ◌<◌, ◌≤◌, ◌^◌, ◌↔◌, ◌&&◌, ℕ, Bool, Option, Some, None, IsTrue, IsSome, IfSome, refl};
 ghost use Rattle.arena_base.specs.Generation.{invalid_generation, first_generation, next_generation, overflows_after, IsLawfulGeneration};
 ghost use Rattle.arena_base.specs.Pointer.{index_number};
@@ -11,116 +11,116 @@ pub use pointers::{P0, P8, PN, Q0};
 use std::fmt::Debug;
 use std::hash::Hash;
 
-/// The index part of a pointer, as an arena needs it.
+/// The index part of a pointer, as arenas need it.
 ///
-/// Index 0 names nothing, and neither does the greatest index: entries have the indexes from 1 to `limit()`.
+/// Index 0 and the greatest index name nothing: entries have the indexes from 1 to `limit()`.
 pub trait BasePtrInx: Copy + Eq {
-    // the index as a number
+    // The index as a number.
     ghost number: { Self → ℕ };
 
-    // the greatest index that an entry may have
+    // The greatest index that an entry may have.
     ghost most: { ℕ };
 
-    /// The index as a number; `None` for 0.
+    /// Returns the index as a number; `None` for 0.
     fn try_into_usize(self) -> Option<usize>
         ensures { result ≡ index_number (number self) };
 
-    /// The index with this number; `None` for 0 and beyond `limit()`.
+    /// Returns the index with number `n`; `None` if `n` is 0 or beyond `limit()`.
     fn try_from_usize(n: usize) -> Option<Self>
         ensures variant { IsSome result ↔ (0 < n × n ≤ most) }
         ensures value { IfSome result (λ i. number i ≡ n) };
 
-    /// The index 0, which names nothing.
+    /// Returns index 0, which names nothing.
     fn zero() -> Self
         ensures { number result ≡ 0 };
 
-    /// The greatest index that an entry may have, one less than the greatest of the type.
+    /// Returns the greatest index that an entry may have: the greatest of the type less one.
     fn limit() -> usize
         ensures { result ≡ most };
 
-    // indexes with one number are one index
+    // Indexes with the same number are equal.
     ghost one_each: { (i j : Self) → number i ≡ number j → i ≡ j };
 
-    // `==` compares the numbers
+    // `==` compares the numbers.
     ghost eq_is: { (i j : Self) → Self.PartialEq.eq i j ≡ (number i == number j) };
 
-    // a position after that of the greatest index still has a number
+    // The number after the greatest index fits in 64 bits.
     ghost fits: { most + 1 < 2 ^ 64 };
 }
 
-/// The generation part of a pointer, as an arena needs it.
+/// The generation part of a pointer, as arenas need it.
 ///
-/// Generation 0 is unused and 1 belongs to invalid pointers: entries have the generations from `two()` on. After the greatest
-/// comes `two()` again. The type `()` has one generation, which never changes.
+/// Generation 0 is unused and 1 belongs to invalid pointers, so entries have the generations from `two()` on. After the greatest comes
+/// `two()` again. The type `()` has one generation, which never changes.
 pub trait BasePtrGen: Copy + Eq {
-    // the generation as a number, 0 for `()`
+    // The generation as a number; 0 for `()`.
     ghost number: { Self → ℕ };
 
-    // the greatest generation of a type of numbers
+    // The greatest generation of a number type; `None` for `()`.
     ghost greatest: { Option ℕ };
 
-    /// The generation of invalid pointers.
+    /// Returns the generation of invalid pointers.
     fn one() -> Self
         ensures { number result ≡ invalid_generation greatest };
 
-    /// The generation of a fresh arena.
+    /// Returns the generation of a new arena.
     fn two() -> Self
         ensures value { number result ≡ first_generation greatest }
         ensures lawful { IsLawfulGeneration greatest (number result) };
 
-    /// The next generation, and whether it begins again at `two()`.
+    /// Returns the next generation, and whether it starts again at `two()`.
     fn generational_inc(self) -> (Self, bool)
         requires { IsLawfulGeneration greatest (number self) }
         ensures next { number result.0 ≡ next_generation greatest (number self) }
         ensures lawful { IsLawfulGeneration greatest (number result.0) }
         ensures overflow { result.1 ≡ overflows_after greatest (number self) };
 
-    /// Whether an entry or an arena may have this generation: false for 0 and 1.
+    /// Returns whether an entry or an arena may have this generation. In a number type, 0 and 1 are excluded.
     fn is_lawful(self) -> bool
         ensures { IsTrue result ↔ IsLawfulGeneration greatest (number self) };
 
-    // generations with one number are one generation
+    // Generations with the same number are equal.
     ghost one_each: { (g h : Self) → number g ≡ number h → g ≡ h };
 
-    // `==` compares the numbers
+    // `==` compares the numbers.
     ghost eq_is: { (g h : Self) → Self.PartialEq.eq g h ≡ (number g == number h) };
 }
 
-/// A pointer to an entry of an arena: the entry's index, and the generation that the entry has.
+/// A pointer to an entry of an arena: the index and the generation of the entry.
 ///
-/// An arena only copies and compares pointers, so its calls ask for this trait alone. Code that sorts, hashes or prints pointers of any
-/// type asks for [`Ptr`].
+/// Arenas only copy and compare pointers, so their calls need this trait alone. Code that sorts, hashes or prints pointers of any type
+/// needs [`Ptr`].
 pub trait BasePtr: Copy + Eq {
-    /// The type of its index.
+    /// The type of the index.
     type Inx: BasePtrInx;
 
-    /// The type of its generation.
+    /// The type of the generation.
     type Gen: BasePtrGen;
 
-    // the numbers of its index and of its generation
+    // The numbers of the index and of the generation.
     ghost numbers: { Self → ℕ × ℕ };
 
-    /// The index of the entry that it names.
+    /// Returns the index of the entry that it names.
     fn inx(self) -> Self::Inx
         ensures { Self.Inx.number result ≡ (numbers self).0 };
 
-    /// The generation that the entry has to have.
+    /// Returns the generation that the entry must have.
     fn generation(self) -> Self::Gen
         ensures { Self.Gen.number result ≡ (numbers self).1 };
 
-    /// A pointer that names no entry of any arena.
+    /// Returns a pointer that names no entry of any arena.
     fn invalid() -> Self
         ensures { numbers result ≡ (Self.Inx.most + 1, invalid_generation Self.Gen.greatest) };
 
-    /// The pointer of these numbers, whether they name an entry or not.
+    /// Returns the pointer with these numbers, whether or not it names an entry.
     #[doc(hidden)]
     fn _from_raw(inx: Self::Inx, generation: Self::Gen) -> Self
         ensures { numbers result ≡ (Self.Inx.number inx, Self.Gen.number generation) };
 
-    // pointers with the same numbers are one pointer
+    // Pointers with the same numbers are equal.
     ghost one_each: { (p q : Self) → numbers p ≡ numbers q → p ≡ q };
 
-    // `==` compares both numbers
+    // `==` compares both numbers.
     ghost eq_is: { (p q : Self) → Self.PartialEq.eq p q
         ≡ (((numbers p).0 == (numbers q).0) && ((numbers p).1 == (numbers q).1)) };
 }
@@ -133,6 +133,6 @@ pub trait PtrGen: BasePtrGen + Debug {}
 
 /// A pointer to an entry of an arena, with an order, a hash and `Debug`.
 ///
-/// Its members are those of [`BasePtr`]. `P0`, `Q0`, `P8` and `PN` implement it; a pointer type of your own does by `impl Ptr for` it,
-/// once it derives the others.
+/// Its members are those of [`BasePtr`]. `P0`, `Q0`, `P8` and `PN` implement it. For a pointer type of your own, derive the other traits
+/// and write `impl Ptr for` it.
 pub trait Ptr: BasePtr<Inx: PtrInx, Gen: PtrGen> + Ord + Hash + Debug {}

@@ -5,7 +5,7 @@ ghost use Rattle.std.specs.Borrow.{sem, Lends};
 
 use std::mem::{replace, size_of};
 
-/// An entry with its generation, or nothing. The item comes first, where a search reads it.
+/// An entry with its generation, or nothing. The item comes first, because searches read it.
 #[doc(hidden)]
 #[derive(Drop)]
 pub enum Slot<T, G> {
@@ -13,14 +13,14 @@ pub enum Slot<T, G> {
     Vacant,
 }
 
-// An item and a generation of a word each make a slot of three.
+// With an item and a generation of a word each, a slot takes three words.
 const _: () = prove!(size_of::<Slot<u64, u64>>() <= 24);
 
 impl<T, G> Slot<T, G> {
     ghost use Rattle.arena_base.specs.Slot.{slot_entry, with_slot_item, with_slot_generation};
     ghost use Rattle.arena_base.specs.contracts.slot.Slot.{the_row};
 
-    // Takes the entry out, with its generation.
+    // Takes out the entry with its generation.
     pub(crate) fn take(&mut self) -> (G, T)
         requires { IsSome (slot_entry self.old) }
         ensures value { slot_entry self.old ≡ Some result }
@@ -32,7 +32,7 @@ impl<T, G> Slot<T, G> {
         }
     }
 
-    // Takes the entry out, where there is one, with its generation.
+    // Takes out the entry, if any, with its generation.
     pub(crate) fn vacate(&mut self) -> Option<(G, T)>
         ensures value { result ≡ slot_entry self.old }
         ensures after { self.new ≡ Slot.Vacant }
@@ -43,7 +43,7 @@ impl<T, G> Slot<T, G> {
         }
     }
 
-    // Puts an entry in, where there is none.
+    // Puts an entry into a vacant slot.
     pub(crate) fn fill(&mut self, item: T, generation: G)
         requires { self.old ≡ Slot.Vacant }
         ensures { self.new ≡ Slot.Occupied item generation }
@@ -54,7 +54,7 @@ impl<T, G> Slot<T, G> {
         }
     }
 
-    // The item of the entry, to be written.
+    // The item of the entry, for writing.
     pub(crate) fn item_mut(&mut self) -> &mut T
         requires { IsSome (slot_entry self.old) }
         ensures* writes_back { sem 𝓛
@@ -67,7 +67,7 @@ impl<T, G> Slot<T, G> {
         }
     }
 
-    // The entry's generation.
+    // The generation of the entry.
     pub(crate) fn generation(&self) -> G
     where
         G: Copy,

@@ -1,4 +1,4 @@
-//! Taking over the pointers of another arena.
+//! Clones of other arenas, with their pointers.
 ghost use Rattle.std.specs.Prelude.{◌≡◌, ◌<◌, ◌≤◌, ◌↔◌, ◌⊎◌, [], max, vec_len, vec_capacity, OnOk, OnErr};
 ghost use Rattle.arena_base.specs.Arena.{arena_limit, arena_capacity, greatest_occupied, IsFresh};
 ghost use Rattle.arena_base.specs.Clone.{Grants, HasSamePointers, IsClone, IsRefusedClone, IsShown, StopsAtRefusal};
@@ -17,15 +17,18 @@ use crate::traits::ArenaTrait;
 use std::alloc::{AllocError, Allocator};
 
 impl<P: BasePtr, T: Drop, A: Allocator> Arena<P, T, A> {
-    /// Makes this arena a clone of the source, with items that `map` makes: it has the source's pointers and generation, and its
-    /// own old entries are dropped.
+    /// Makes this arena a clone of `source`: it has the source's pointers and generation, and items made by `map`. Its own entries are
+    /// dropped.
     ///
-    /// For each entry of the source, by rising index, `map` is called with its pointer and a reference to its item. The capacity
-    /// grows to the source's greatest index with an entry, where it is less, before anything else changes; the maximum stays, and
-    /// all vacant slots count as never used. It goes through the slots of both arenas once.
+    /// `map` is called for each entry of the source, in index order, with its pointer and a reference to its item. If the capacity is
+    /// less than the source's greatest occupied index, it grows to that first. The maximum stays, and the free list is ascending, as if
+    /// no slot had been used. One pass over the slots of both arenas.
     ///
-    /// It is refused with `BeyondMaxCapacity` where that index is beyond this arena's limit, and with `AllocError` where the
-    /// capacity would grow and memory is refused. Nothing changes then, and `map` isn't called.
+    /// # Errors
+    ///
+    /// The arena is unchanged, and `map` isn't called.
+    /// - `BeyondMaxCapacity`: the source's greatest occupied index is beyond this arena's limit.
+    /// - `AllocError`: growing failed.
     pub fn clone_from_with<U, S: ArenaTrait<P, U>, F: FnMut(P, &U) -> T + Drop>(
         &mut self,
         source: &S,
@@ -46,10 +49,13 @@ impl<P: BasePtr, T: Drop, A: Allocator> Arena<P, T, A> {
         self.clone_by(source, &mut calls)
     }
 
-    /// Makes this arena a clone of the source as `clone_from_with` does, where `map` may be refused memory for an item.
+    /// Makes this arena a clone of `source`, as `clone_from_with` does. `map` may be refused memory for an item.
     ///
-    /// The first item that is refused ends the call with `AllocError`. The arena is empty then, with the source's generation and
-    /// the capacity of a clone. Where the growth is refused, or the index is beyond the limit, nothing changes.
+    /// # Errors
+    ///
+    /// - `BeyondMaxCapacity`: the source's greatest occupied index is beyond this arena's limit. The arena is unchanged.
+    /// - `AllocError`: growing failed, and the arena is unchanged. Or `map` was refused memory, which ends the call: the arena is empty,
+    ///   with the source's generation and the capacity of a clone.
     pub fn try_clone_from_with<
         U,
         S: ArenaTrait<P, U>,
@@ -75,10 +81,10 @@ impl<P: BasePtr, T: Drop, A: Allocator> Arena<P, T, A> {
         self.clone_by(source, &mut calls)
     }
 
-    /// Makes this arena a clone of the source as `try_clone_from_with` does, where `map` has the place of the closure.
+    /// Makes this arena a clone of `source`, as `try_clone_from_with` does, with `map` in place of the closure.
     ///
-    /// `map` is left in the state after the call for the last entry, or after the call that was refused; it is unchanged if the growth
-    /// is refused or the index is beyond the limit.
+    /// `map` is left in the state after the call for the last entry, or after the refused call. It is unchanged if growing fails or the
+    /// index is beyond the limit.
     pub fn clone_by<U, S: ArenaTrait<P, U>, M: CloneEntry<P, U, T>>(
         &mut self,
         source: &S,
@@ -108,7 +114,7 @@ impl<P: BasePtr, T: Drop, A: Allocator> Arena<P, T, A> {
         }
     }
 
-    // Makes the capacity `n`, where it is less.
+    // Raises the capacity to `n` if it is less.
     fn raise_capacity(&mut self, n: usize) -> Result<(), ReallocationError>
         ensures capacity { OnOk result (arena_capacity self.new ≡ max (arena_capacity self.old) n) }
         ensures maximum { OnOk result (self.new.maximum ≡ self.old.maximum) }
@@ -126,8 +132,7 @@ impl<P: BasePtr, T: Drop, A: Allocator> Arena<P, T, A> {
         Ok(())
     }
 
-    // Replaces the slots with clones of those of the source, whose greatest index with an entry is `n`. Where an item is refused,
-    // all are vacant.
+    // Replaces the slots with clones of the source's, whose greatest occupied index is `n`. If an item is refused, all are vacant.
     fn take_over<U, S: ArenaTrait<P, U>, M: CloneEntry<P, U, T>>(
         &mut self,
         source: &S,
@@ -145,7 +150,7 @@ impl<P: BasePtr, T: Drop, A: Allocator> Arena<P, T, A> {
             (IsRefusedClone P.numbers M.step map.old
             (S.content source.now) self.old self.new map.new) }
     {
-        // With its capacity an arena tells what holds of every arena.
+        // For the prover: the source is lawful.
         let _ = source.capacity();
         let capacity = self.slots.len();
         self.slots.clear();
@@ -156,7 +161,7 @@ impl<P: BasePtr, T: Drop, A: Allocator> Arena<P, T, A> {
     }
 }
 
-// The greatest index with an entry, or 0.
+// The greatest occupied index, or 0.
 fn greatest_occupied<P: BasePtr, U, S: ArenaTrait<P, U>>(source: &S) -> usize
     ensures value { result ≡ greatest_occupied (S.content source.now).slots }
 {
@@ -166,8 +171,7 @@ fn greatest_occupied<P: BasePtr, U, S: ArenaTrait<P, U>>(source: &S) -> usize
     }
 }
 
-// Fills the slots with clones of those of the source, whose greatest index with an entry is `n`. Where an item is refused, none is
-// left.
+// Fills the slots with clones of the source's, whose greatest occupied index is `n`. If an item is refused, no slot is left.
 fn clone_slots<P: BasePtr, T: Drop, A: Allocator, U, S: ArenaTrait<P, U>, M: CloneEntry<P, U, T>>(
     slots: &mut Vec<Slot<T, P::Gen>, A>,
     source: &S,
@@ -187,7 +191,7 @@ fn clone_slots<P: BasePtr, T: Drop, A: Allocator, U, S: ArenaTrait<P, U>, M: Clo
     ensures within { vec_len slots.new ≤ n }
     ensures capacity { vec_capacity slots.new ≡ vec_capacity slots.old }
 {
-    // With its capacity an arena tells what holds of every arena.
+    // For the prover: the source is lawful.
     let _ = source.capacity();
     for position in 0..n {
         let i = inx_at(position);

@@ -1,4 +1,4 @@
-//! Moving all entries to the least indexes.
+//! Compression: all entries move to the least indexes.
 ghost use Rattle.std.specs.Prelude.{◌≡◌, ◌≤◌, vec_len, vec_capacity};
 ghost use Rattle.arena_base.specs.Arena.{HoldsSame, IsFresh, IsSound};
 ghost use Rattle.arena_base.specs.Compression.{compressed, compressed_generation, compression_overflows, items_rising, IsCompression};
@@ -15,12 +15,11 @@ use crate::slot::Slot;
 use std::alloc::Allocator;
 
 impl<P: BasePtr, T, A: Allocator> Arena<P, T, A> {
-    /// Moves all entries to the indexes from 1 on, in the order of their indexes, and gives them all one generation, which
-    /// becomes the arena's: the first where `reset` is true, else the next one.
+    /// Moves all entries to the indexes from 1 on, in index order, and gives them one generation, which becomes the arena's: the first if
+    /// `reset` is true, else the next. Reports an overflow if the next one comes after the greatest.
     ///
-    /// The result says whether the generations began again because the next one comes after the greatest. For each entry, by
-    /// rising index, `f` is called with its old pointer, its item and its new pointer, and gives the item that the entry has
-    /// then. The capacity stays, and all vacant slots count as never used. It takes no memory, and goes through the slots once.
+    /// `f` is called for each entry, in index order, with its old pointer, its item and its new pointer. It returns the entry's new item.
+    /// The capacity stays, and the free list is ascending, as if no slot had been used. One pass over the slots, and no memory.
     pub fn compress_with<F: FnMut(P, T, P) -> T + Drop>(
         &mut self,
         reset: bool,
@@ -36,7 +35,7 @@ impl<P: BasePtr, T, A: Allocator> Arena<P, T, A> {
         self.compress_by(reset, Calls { f })
     }
 
-    /// Moves all entries to the indexes from 1 on as `compress_with` does, where `map` has the place of the closure.
+    /// Moves all entries to the indexes from 1 on, as `compress_with` does, with `map` in place of the closure.
     pub fn compress_by<M: MapEntry<P, T> + Drop>(
         &mut self,
         reset: bool,
@@ -55,7 +54,7 @@ impl<P: BasePtr, T, A: Allocator> Arena<P, T, A> {
         overflow
     }
 
-    /// Moves all entries to the indexes from 1 on as `compress_with` does, each with the item that it has.
+    /// Moves all entries to the indexes from 1 on, as `compress_with` does. Each keeps its item.
     pub fn compress(&mut self, reset: bool) -> InvalidationOption<()>
         ensures after { HoldsSame self.new (compressed self.old
             (compressed_generation P.Gen.greatest reset self.old.generation)
@@ -67,7 +66,7 @@ impl<P: BasePtr, T, A: Allocator> Arena<P, T, A> {
         self.compress_with(reset, |_old, item, _new| item)
     }
 
-    // Begins the generations again, or raises the generation.
+    // Resets the generation to the first, or raises it.
     fn restart(&mut self, reset: bool) -> InvalidationOption<()>
         ensures after { self.new ≡ record self.old {
           generation = compressed_generation P.Gen.greatest reset self.old.generation;
@@ -84,7 +83,7 @@ impl<P: BasePtr, T, A: Allocator> Arena<P, T, A> {
     }
 }
 
-// Moves the entries of all slots to the first ones, with this generation.
+// Moves the entries of all slots to the first ones, and gives them this generation.
 fn move_down<P: BasePtr, T, A: Allocator, M: MapEntry<P, T> + Drop>(
     slots: &mut Vec<Slot<T, P::Gen>, A>,
     generation: P::Gen,

@@ -1,4 +1,4 @@
-//! Taking all entries out of an arena.
+//! Drains.
 ghost use Rattle.std.specs.Prelude.{◌≡◌, ◌+◌, [], length};
 ghost use Rattle.std.specs.Iterator.{item_count};
 ghost use Rattle.arena_base.specs.Arena.{cleared};
@@ -10,18 +10,18 @@ use crate::invalidation::InvalidationOption;
 use crate::ptr::{BasePtr, BasePtrGen};
 use std::alloc::{Allocator, Global};
 
-/// Takes the entries out of an arena by rising index, each by a removal of its own. When it is dropped it clears the arena.
+/// Removes the entries of an arena by rising index, one at each step. When it is dropped, it clears the arena.
 pub struct Drain<'a, P: BasePtr, T: Drop, A: Allocator = Global> {
     arena: &'a mut Arena<P, T, A>,
-    // the position of the slot that it looks at next
+    // The position of the slot that it looks at next.
     at: usize,
 }
 
 impl<P: BasePtr, T: Drop, A: Allocator> Arena<P, T, A> {
-    /// Takes all entries out, by rising index.
+    /// Returns a drain, which removes all entries by rising index.
     ///
-    /// Each is removed, and raises the generation, as it is given. When the drain is dropped, the arena is cleared of the rest, which
-    /// raises the generation once more. [`keep_rest`](Drain::keep_rest) ends the drain and leaves the rest.
+    /// Each step removes an entry and raises the generation. When the drain is dropped, it clears the arena of the rest, which raises the
+    /// generation once more. [`keep_rest`](Drain::keep_rest) ends the drain and keeps the rest.
     pub fn drain(&mut self) -> Drain<'_, P, T, A>
         ensures rest { drain_rest result ≡ entries_from 0 self.old.slots }
         ensures arena { drain_arena result ≡ self.old }
@@ -33,9 +33,9 @@ impl<P: BasePtr, T: Drop, A: Allocator> Arena<P, T, A> {
 }
 
 impl<'a, P: BasePtr, T: Drop, A: Allocator> Drain<'a, P, T, A> {
-    /// Ends the drain, and leaves the arena as it is: the entries that haven't been given stay.
+    /// Ends the drain and leaves the arena as it is: the remaining entries stay.
     ///
-    /// `mem::forget` does the same, but says nothing to a caller of what is left.
+    /// `mem::forget` does the same, but its contract says nothing about what is left.
     pub fn keep_rest(self)
         ensures { self.exit.0.now ≡ drain_arena self.entry }
     {

@@ -1,4 +1,4 @@
-//! Looking up entries.
+//! Lookup of entries.
 ghost use Rattle.std.specs.Prelude.{◌≡◌, ◌+◌, ◌<◌, ◌↔◌, IfSome, IsNone, IfNone, Some, None, is_some};
 ghost use Rattle.std.specs.Option.{option_copied, option_map};
 ghost use Rattle.arena_base.specs.Arena.{slot, generation_at, item_of, arena_len, arena_capacity, next_index, IsFresh, IsVacant, IsOccupied, IsFirstEntry, IsLastEntry};
@@ -9,21 +9,21 @@ use crate::slot::Slot;
 use std::alloc::Allocator;
 
 impl<P: BasePtr, T, A: Allocator> Arena<P, T, A> {
-    /// Whether the pointer names an entry.
+    /// Returns whether `p` names an entry.
     pub fn contains(&self, p: P) -> bool
         ensures { result ≡ is_some (item_of self.now (P.numbers p)) }
     {
         self.get(p).is_some()
     }
 
-    /// Whether there is an entry at the index.
+    /// Returns whether index `i` has an entry.
     pub fn contains_inx(&self, i: P::Inx) -> bool
         ensures { result ≡ is_some (slot self.now (P.Inx.number i)) }
     {
         self.get_inx(i).is_some()
     }
 
-    /// The item that the pointer names.
+    /// Returns the item of `p`; `None` if `p` is stale.
     pub fn get(&self, p: P) -> Option<&T>
         ensures { option_copied result ≡ item_of self.now (P.numbers p) }
     {
@@ -33,7 +33,7 @@ impl<P: BasePtr, T, A: Allocator> Arena<P, T, A> {
         }
     }
 
-    /// Generation and item of the entry at the index.
+    /// Returns the generation and the item of the entry at index `i`; `None` if there is none.
     pub fn get_inx(&self, i: P::Inx) -> Option<(P::Gen, &T)>
         ensures { option_map (λ e. (P.Gen.number e.0, e.1.now)) result
             ≡ slot self.now (P.Inx.number i) }
@@ -45,7 +45,7 @@ impl<P: BasePtr, T, A: Allocator> Arena<P, T, A> {
         }
     }
 
-    /// Generation and item of the entry at an index that has one.
+    /// Returns the generation and the item of the entry at index `i`, which must have one.
     pub fn entry(&self, i: P::Inx) -> (P::Gen, &T)
         requires { IsOccupied self.now (P.Inx.number i) }
         ensures { slot self.now (P.Inx.number i) ≡ Some (P.Gen.number result.0, result.1.now) }
@@ -56,7 +56,7 @@ impl<P: BasePtr, T, A: Allocator> Arena<P, T, A> {
         }
     }
 
-    /// The pointer that the next insertion gives, where a slot is vacant.
+    /// Returns the pointer that the next insertion gives; `None` if no slot is vacant.
     pub fn next_insertion_ptr(&self) -> Option<P>
         ensures index { option_map (λ p. (P.numbers p).0) result ≡ next_index self.now }
         ensures generation { IfSome result (λ p. (P.numbers p).1 ≡ self.now.generation) }
@@ -67,7 +67,7 @@ impl<P: BasePtr, T, A: Allocator> Arena<P, T, A> {
         Some(P::_from_raw(i, self.generation))
     }
 
-    /// The pointer of the entry with the least index.
+    /// Returns the pointer of the entry with the least index; `None` if the arena is empty.
     pub fn find_first_inx_ptr(&self) -> Option<P>
         ensures first { IfSome result (λ p. IsFirstEntry self.now (P.numbers p).0 (P.numbers p).1) }
         ensures empty { IsNone result ↔ (arena_len self.now ≡ 0) }
@@ -80,7 +80,7 @@ impl<P: BasePtr, T, A: Allocator> Arena<P, T, A> {
         None
     }
 
-    /// The pointer of the entry with the greatest index.
+    /// Returns the pointer of the entry with the greatest index; `None` if the arena is empty.
     pub fn find_last_inx_ptr(&self) -> Option<P>
         ensures last { IfSome result (λ p. IsLastEntry self.now (P.numbers p).0 (P.numbers p).1) }
         ensures empty { IsNone result ↔ (arena_len self.now ≡ 0) }
@@ -93,7 +93,7 @@ impl<P: BasePtr, T, A: Allocator> Arena<P, T, A> {
         None
     }
 
-    // The generation of the entry at the position.
+    // The generation of the entry at a position.
     pub(super) fn generation_at(&self, position: usize) -> Option<P::Gen>
         requires { position < arena_capacity self.now }
         ensures { option_map P.Gen.number result ≡ generation_at self.now (position + 1) }
@@ -104,7 +104,7 @@ impl<P: BasePtr, T, A: Allocator> Arena<P, T, A> {
         }
     }
 
-    // The position of the slot at an index within the capacity.
+    // The position of the slot at an index, if it is within the capacity.
     fn position(&self, i: P::Inx) -> Option<usize>
         ensures number { IfSome result (λ position. P.Inx.number i ≡ position + 1) }
         ensures within { IfSome result (λ position. position < arena_capacity self.now) }
@@ -116,19 +116,19 @@ impl<P: BasePtr, T, A: Allocator> Arena<P, T, A> {
         }
     }
 
-    // The position of the slot at an index that has an entry.
+    // The position of the slot at an occupied index.
     pub(super) fn position_of_entry(&self, i: P::Inx) -> usize
         requires { IsOccupied self.now (P.Inx.number i) }
         ensures number { P.Inx.number i ≡ result + 1 }
         ensures within { result < arena_capacity self.now }
     {
-        // Where the slots are in sight, the index is known to be within them: so nothing is tested.
+        // For the prover: the index is within the slots, so nothing is tested.
         let _ = self.slots.len();
         position_at(i)
     }
 }
 
-// The pointer with this generation to the slot at the position.
+// The pointer with this generation to the slot at a position.
 pub(super) fn pointer<P: BasePtr>(position: usize, generation: P::Gen) -> P
     requires { position < P.Inx.most }
     ensures index { (P.numbers result).0 ≡ position + 1 }
@@ -137,7 +137,7 @@ pub(super) fn pointer<P: BasePtr>(position: usize, generation: P::Gen) -> P
     P::_from_raw(inx_at(position), generation)
 }
 
-// The index of the slot at the position.
+// The index of the slot at a position.
 pub(super) fn inx_at<I: BasePtrInx>(position: usize) -> I
     requires { position < I.most }
     ensures { I.number result ≡ position + 1 }
@@ -145,7 +145,7 @@ pub(super) fn inx_at<I: BasePtrInx>(position: usize) -> I
     I::try_from_usize(position + 1).unwrap()
 }
 
-// The position of the slot at the index.
+// The position of the slot at an index.
 pub(super) fn position_at<I: BasePtrInx>(i: I) -> usize
     requires { 0 < I.number i }
     ensures { I.number i ≡ result + 1 }

@@ -1,4 +1,4 @@
-//! Making an arena, and changing its capacity.
+//! New arenas, and changes of the capacity.
 ghost use Rattle.std.specs.Prelude.{◌≡◌, ◌≢◌, ◌+◌, ◌-◌, ◌<◌, ◌≤◌, ◌↔◌, ◌++◌, ◌⊎◌, ℕ, map, max, reverse, take, replicate, length, vec_len, vec_capacity, slice_index_or, IsOk, IsErr, IfOk, OnOk, OnErr, MatchResult};
 ghost use Rattle.arena_base.specs.Arena.{IsOccupied, slot, arena_len, arena_capacity, arena_limit, new_arena, with_capacity, cleared, emptied, greatest_occupied};
 ghost use Rattle.arena_base.specs.Generation.{overflows_after};
@@ -14,7 +14,7 @@ use crate::slot::Slot;
 use std::alloc::{AllocError, Allocator};
 
 impl<P: BasePtr, T, A: Allocator> Arena<P, T, A> {
-    /// An empty arena with capacity 0 and no maximum, which takes no memory until it grows.
+    /// Creates an empty arena with capacity 0 and no maximum. It takes no memory until it grows.
     pub fn new(alloc: A) -> Self
     where
         A: Copy,
@@ -28,7 +28,7 @@ impl<P: BasePtr, T, A: Allocator> Arena<P, T, A> {
         }
     }
 
-    /// An empty arena with room for `n` entries. It fails where memory is refused, or the pointers' indexes can't name so many.
+    /// Creates an empty arena with room for `n` entries. Fails if memory is refused, or `n` is beyond the greatest index of an entry.
     pub fn with_min_capacity(alloc: A, n: usize) -> Result<Self, AllocError>
     where
         A: Copy,
@@ -39,7 +39,7 @@ impl<P: BasePtr, T, A: Allocator> Arena<P, T, A> {
         if n > P::Inx::limit() {
             return Err(AllocError);
         }
-        // The slots come last, so that where they are refused there is nothing yet that could hold an item.
+        // The slots come last: if they are refused, nothing exists yet that could hold an item.
         let mut vacant = Vec::with_capacity(alloc, n)?;
         let mut slots = Vec::with_capacity(alloc, n)?;
         fill_up(&mut slots, &mut vacant, n);
@@ -52,9 +52,14 @@ impl<P: BasePtr, T, A: Allocator> Arena<P, T, A> {
         })
     }
 
-    /// Makes the capacity the greater of `n` and the greatest index with an entry. All vacant slots then count as never used.
+    /// Sets the capacity to the greater of `n` and the greatest occupied index. The free list is ascending then, as if no slot had been
+    /// used.
     ///
-    /// It is refused where `n` is beyond the maximum or the greatest index, or where the capacity would grow and memory is refused.
+    /// # Errors
+    ///
+    /// The arena is unchanged.
+    /// - `BeyondMaxCapacity`: `n` is beyond the maximum or the greatest index of an entry.
+    /// - `AllocError`: growing failed.
     #[cold]
     #[inline(never)]
     pub fn reallocate_min_capacity(&mut self, n: usize) -> Result<(), ReallocationError>
@@ -78,7 +83,11 @@ impl<P: BasePtr, T, A: Allocator> Arena<P, T, A> {
         }
     }
 
-    /// Sets a maximum of the capacity. It is refused where the capacity is already greater.
+    /// Sets the maximum of the capacity.
+    ///
+    /// # Errors
+    ///
+    /// The arena is unchanged: its capacity is already greater than `n`.
     pub fn set_max_capacity(&mut self, n: usize) -> Result<(), MaxCapacityReductionError>
         ensures ok { OnOk result (self.new ≡ record self.old { maximum = Some n }) }
         ensures refused { IsErr result ↔ (n < arena_capacity self.old) }
@@ -91,8 +100,8 @@ impl<P: BasePtr, T, A: Allocator> Arena<P, T, A> {
         Ok(())
     }
 
-    /// Drops all entries and raises the generation, once also where there was none. The capacity stays, and all slots count as
-    /// never used.
+    /// Drops all entries and raises the generation once, even if there are no entries. The capacity stays, and the free list is
+    /// ascending, as if no slot had been used.
     pub fn clear(&mut self) -> InvalidationOption<()>
     where
         T: Drop,
@@ -103,7 +112,7 @@ impl<P: BasePtr, T, A: Allocator> Arena<P, T, A> {
         self.inc_generation()
     }
 
-    // Drops all entries. All slots then count as never used.
+    // Drops all entries. The free list is ascending then.
     fn vacate(&mut self)
     where
         T: Drop,
@@ -114,7 +123,7 @@ impl<P: BasePtr, T, A: Allocator> Arena<P, T, A> {
         fill_up(&mut self.slots, &mut self.vacant, n);
     }
 
-    // Gives back the memory that no slot needs.
+    // Releases the memory that no slot needs.
     fn release(&mut self)
         ensures { self.new ≡ self.old }
     {
@@ -123,7 +132,7 @@ impl<P: BasePtr, T, A: Allocator> Arena<P, T, A> {
         self.vacant.shrink_to(n);
     }
 
-    // The greatest index with an entry, or 0.
+    // The greatest occupied index, or 0.
     fn greatest_occupied(&self) -> usize
         ensures value { result ≡ greatest_occupied self.now.slots }
         ensures within { result ≤ arena_capacity self.now }
@@ -134,7 +143,7 @@ impl<P: BasePtr, T, A: Allocator> Arena<P, T, A> {
         }
     }
 
-    // How many slots from the first on are known to have entries without a look at them: all, where none is vacant.
+    // How many slots from the first on are known to be occupied without a look at them: all if none is vacant, else none.
     fn full_positions(&self) -> usize
         ensures { (i : ℕ) → 0 < i → i ≤ result → IsOccupied self.now i }
     {
@@ -145,7 +154,7 @@ impl<P: BasePtr, T, A: Allocator> Arena<P, T, A> {
         }
     }
 
-    // Makes the capacity `n`, whereby no entry is lost. All vacant slots then count as never used.
+    // Sets the capacity to `n`. No entry is lost, and the free list is ascending then.
     pub(super) fn set_capacity(&mut self, n: usize) -> Result<(), AllocError>
         requires limit { n ≤ arena_limit P.Inx.most self.old }
         requires entries { greatest_occupied self.old.slots ≤ n }
@@ -162,7 +171,7 @@ impl<P: BasePtr, T, A: Allocator> Arena<P, T, A> {
     }
 }
 
-// Gets memory for `n` slots in all, and for as many vacant indexes.
+// Reserves memory for `n` slots in all, and for as many vacant indexes.
 fn reserve<S, I, A: Allocator>(
     slots: &mut Vec<S, A>,
     vacant: &mut Vec<I, A>,
@@ -180,7 +189,7 @@ fn reserve<S, I, A: Allocator>(
     vacant.reserve_exact(n.saturating_sub(vacant.len()))
 }
 
-// Adds vacant slots until there are `n`, and lists the indexes of all vacant ones.
+// Adds vacant slots until there are `n`, and lists all vacant indexes.
 pub(super) fn fill_up<T, G, I: BasePtrInx, A: Allocator>(
     slots: &mut Vec<Slot<T, G>, A>,
     vacant: &mut Vec<I, A>,
@@ -212,7 +221,7 @@ fn add_vacant<T, G, A: Allocator>(slots: &mut Vec<Slot<T, G>, A>, n: usize)
     }
 }
 
-// Takes vacant slots away from the end until there are at most `n`.
+// Cuts off vacant slots from the end until at most `n` slots are left.
 fn cut_vacant<T, G: Copy, A: Allocator>(slots: &mut Vec<Slot<T, G>, A>, n: usize)
     requires { AllVacantFrom n slots.old.items }
     ensures items { slots.new.items ≡ take n slots.old.items }
@@ -226,7 +235,7 @@ fn cut_vacant<T, G: Copy, A: Allocator>(slots: &mut Vec<Slot<T, G>, A>, n: usize
     }
 }
 
-// Lists the vacant indexes from the last to the first. The first `full` slots have entries, and are not looked at.
+// Lists the vacant indexes from the last to the first. The first `full` slots are occupied and aren't looked at.
 pub(super) fn list_vacant<T, G, I: BasePtrInx, A: Allocator>(
     slots: &[Slot<T, G>],
     full: usize,

@@ -1,4 +1,4 @@
-//! Indexing by pointers that are known to be valid, and the text of an arena.
+//! Indexing by valid pointers, and printing.
 ghost use Rattle.std.specs.Prelude.{◌≡◌, Some, IsSome};
 ghost use Rattle.std.specs.Borrow.{sem, Lends};
 ghost use Rattle.arena_base.specs.Arena.{item_of, with_item};

@@ -1,4 +1,4 @@
-//! Adding entries.
+//! Insertions.
 ghost use Rattle.std.specs.Prelude.{◌≡◌, ◌<◌, ◌≤◌, ◌↔◌, ◌⊎◌, [], is_some, length, IsSome, IsOk, IsErr, IfOk, OnOk, IfErr, OnErr};
 ghost use Rattle.arena_base.specs.Arena.{arena_len, arena_capacity, arena_limit, next_index, grown_capacity, with_room, IsInsertion, IsSound};
 
@@ -10,9 +10,13 @@ use crate::slot::Slot;
 use std::alloc::Allocator;
 
 impl<P: BasePtr, T: Drop, A: Allocator> Arena<P, T, A> {
-    /// Inserts an item into a vacant slot: the one that was freed last, else the least that was never used.
+    /// Inserts `item` into the first slot of the free list, and returns its pointer. That is the slot freed last, else the least never
+    /// used. The entry's generation is the arena's.
     ///
-    /// Its generation is the arena's. It is refused where no slot is vacant; the item is then dropped, and nothing else changes.
+    /// # Errors
+    ///
+    /// The arena is unchanged and `item` is dropped.
+    /// - `NotWithinCapacity`: no slot is vacant.
     pub fn insert_within_capacity(&mut self, item: T) -> Result<P, InsertionError>
         ensures ok { IfOk result
             (λ p. IsInsertion self.old self.new item (P.numbers p).0 (P.numbers p).1) }
@@ -28,10 +32,15 @@ impl<P: BasePtr, T: Drop, A: Allocator> Arena<P, T, A> {
         Ok(self.insert_next(item))
     }
 
-    /// Inserts an item as `insert_within_capacity` does, and grows first where no slot is vacant.
+    /// Inserts `item`, as `insert_within_capacity` does, and grows first if no slot is vacant.
     ///
-    /// A growth makes the capacity twice as great, at least 4, and at most its limit. It is refused where the capacity is at the
-    /// limit or memory is refused; the item is then dropped, and nothing else changes.
+    /// Growing doubles the capacity, to at least 4 and at most the limit.
+    ///
+    /// # Errors
+    ///
+    /// The arena is unchanged and `item` is dropped.
+    /// - `BeyondMaxCapacity`: the arena is full and its capacity is at the limit.
+    /// - `AllocError`: growing failed.
     pub fn insert_reallocating(&mut self, item: T) -> Result<P, InsertionError>
         ensures ok { IfOk result
             (λ p. IsInsertion (with_room P.Inx.most self.old) self.new item
@@ -52,7 +61,7 @@ impl<P: BasePtr, T: Drop, A: Allocator> Arena<P, T, A> {
         Ok(self.insert_next(item))
     }
 
-    // Makes room for one more entry at least.
+    // Makes room for at least one more entry.
     fn grow(&mut self) -> Result<(), InsertionError>
         requires { self.old.vacant ≡ [] }
         ensures ok { OnOk result (self.new ≡ with_room P.Inx.most self.old) }
@@ -74,7 +83,7 @@ impl<P: BasePtr, T: Drop, A: Allocator> Arena<P, T, A> {
         }
     }
 
-    // Inserts an item where a slot is vacant.
+    // Inserts an item into the first slot of the free list, which isn't empty.
     fn insert_next(&mut self, item: T) -> P
         requires { 0 < length self.old.vacant }
         ensures inserted { IsInsertion self.old self.new item

@@ -1,4 +1,4 @@
-//! Ending entries and their pointers.
+//! Removals, and renewals of pointers.
 ghost use Rattle.std.specs.Prelude.{◌≡◌, ◌<◌, Some, is_some};
 ghost use Rattle.std.specs.Option.{option_map};
 ghost use Rattle.arena_base.specs.Arena.{slot, item_of, freed, with_slot, removed, renewed, IsOccupied};
@@ -12,9 +12,9 @@ use crate::slot::Slot;
 use std::alloc::Allocator;
 
 impl<P: BasePtr, T, A: Allocator> Arena<P, T, A> {
-    /// Takes the entry out that the pointer names, and raises the generation. The next insertion takes its slot.
+    /// Removes the entry of `p`, returns its item, and raises the generation. O(1). The next insertion takes its slot.
     ///
-    /// For a pointer that names no entry it returns `InvalidPtr`, and nothing changes. It takes O(1) time.
+    /// If `p` is stale, returns `InvalidPtr` and nothing changes.
     pub fn remove(&mut self, p: P) -> InvalidationResult<T>
         ensures { IsRemoval P.Gen.greatest self.old.generation result
             (valid_value result) (item_of self.old (P.numbers p))
@@ -29,9 +29,10 @@ impl<P: BasePtr, T, A: Allocator> Arena<P, T, A> {
         }
     }
 
-    /// Takes the entry at the index out, with its generation, and raises the arena's. The next insertion takes its slot.
+    /// Removes the entry at index `i`, returns its generation and item, and raises the arena's generation. O(1). The next insertion takes
+    /// its slot.
     ///
-    /// At an index without an entry it returns `InvalidPtr`, and nothing changes. It takes O(1) time.
+    /// If the index has no entry, returns `InvalidPtr` and nothing changes.
     pub fn remove_inx(&mut self, i: P::Inx) -> InvalidationResult<(P::Gen, T)>
         ensures { IsRemoval P.Gen.greatest self.old.generation result
             (option_map (λ e. (P.Gen.number e.0, e.1)) (valid_value result))
@@ -44,8 +45,8 @@ impl<P: BasePtr, T, A: Allocator> Arena<P, T, A> {
         self.remove_entry(i).valid()
     }
 
-    /// Takes the entry out at an index that has one, with its generation, and raises the arena's. The next insertion takes its
-    /// slot.
+    /// Removes the entry at index `i`, which must have one, returns its generation and item, and raises the arena's generation. The next
+    /// insertion takes its slot.
     pub fn remove_entry(&mut self, i: P::Inx) -> InvalidationOption<(P::Gen, T)>
         requires { IsOccupied self.old (P.Inx.number i) }
         ensures value { slot self.old (P.Inx.number i)
@@ -62,9 +63,9 @@ impl<P: BasePtr, T, A: Allocator> Arena<P, T, A> {
         }
     }
 
-    /// Gives the entry that the pointer names a new pointer, at the same index and with the raised generation.
+    /// Gives the entry of `p` a new pointer, with the same index and the raised generation, and returns it. O(1).
     ///
-    /// For a pointer that names no entry it returns `InvalidPtr`, and nothing changes. It takes O(1) time.
+    /// If `p` is stale, returns `InvalidPtr` and nothing changes.
     pub fn invalidate(&mut self, p: P) -> InvalidationResult<P>
         ensures { IsRenewal P.numbers P.Gen.greatest self.old.generation result (P.numbers p).0
             (is_some (item_of self.old (P.numbers p)))
@@ -84,7 +85,7 @@ impl<P: BasePtr, T, A: Allocator> Arena<P, T, A> {
         }
     }
 
-    // Gives the entry at an index that has one the arena's generation.
+    // Gives the entry at an occupied index the arena's generation.
     fn renew(&mut self, i: P::Inx)
         requires { IsOccupied self.old (P.Inx.number i) }
         ensures { self.new ≡ with_slot self.old (P.Inx.number i)
@@ -96,7 +97,7 @@ impl<P: BasePtr, T, A: Allocator> Arena<P, T, A> {
         slot.renew(generation);
     }
 
-    // Takes the entry out at an index that has one.
+    // Takes out the entry at an occupied index.
     fn take_entry(&mut self, i: P::Inx) -> (P::Gen, T)
         requires { IsOccupied self.old (P.Inx.number i) }
         ensures value { slot self.old (P.Inx.number i) ≡ Some (P.Gen.number result.0, result.1) }

@@ -1,4 +1,4 @@
-//! `Arena` as an arena among others.
+//! The traits of all arenas, for `Arena`.
 ghost use Rattle.std.specs.Prelude.{refl};
 
 use super::Arena;

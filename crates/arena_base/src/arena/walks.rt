@@ -1,4 +1,4 @@
-//! Going through the entries by index.
+//! Walks by index.
 ghost use Rattle.std.specs.Prelude.{◌≡◌, ◌+◌, ◌<◌, ◌≤◌, [], ◌∷◌, true, false, if◌then◌else◌, IfSome, IsSome, MatchOption};
 ghost use Rattle.arena_base.specs.Arena.{item_of};
 ghost use Rattle.arena_base.specs.Walk.{pointers, entries_rising, rising_from, falling_from, rising_walk, falling_walk, walk_rest, HasEnded, WalkSteps};
@@ -10,14 +10,14 @@ use crate::ptr::{BasePtr, BasePtrInx};
 use std::alloc::Allocator;
 use std::marker::{Model, PhantomData};
 
-/// Goes through the pointers of an arena by index, up or down.
+/// Walks over the pointers of an arena by index, up or down.
 ///
-/// It borrows nothing, so the arena may be changed between two steps: a step gives the next entry that is there then, and
-/// stands at its index afterwards. Where there is none it gives `None` and stays where it is, so that it goes on with entries
-/// that come behind it later. It has ended where it goes down from index 0, and nowhere else.
+/// It borrows nothing, so the arena may change between two steps. A step returns the pointer of the next entry that is there now, and
+/// moves the walk to its index. If there is none, it returns `None` and the walk stays, so it can go on with entries that are inserted
+/// ahead of it later. Only a walk down from index 0 has ended.
 #[derive(Drop)]
 pub struct PtrAdvancer<P: BasePtr> {
-    // the position of the slot that it stands before
+    // The position of the slot that the walk is before.
     at: usize,
     falling: bool,
     of: PhantomData<P>,
@@ -58,7 +58,7 @@ impl<P: BasePtr, T, A: Allocator> Advancer<Arena<P, T, A>> for PtrAdvancer<P> {
 }
 
 impl<P: BasePtr, T, A: Allocator> Arena<P, T, A> {
-    /// Goes through all pointers by rising index.
+    /// Returns a walk over all pointers by rising index.
     pub fn advancer(&self) -> PtrAdvancer<P>
         ensures begins { result ≡ rising_walk 1 }
         ensures rest { walk_rest result self.now ≡ pointers self.now }
@@ -71,7 +71,7 @@ impl<P: BasePtr, T, A: Allocator> Arena<P, T, A> {
         }
     }
 
-    /// Goes through the pointers from an index on, which is the first: up, or down where `rev` is true.
+    /// Returns a walk that begins with index `i` and goes up, or down if `rev` is true.
     pub fn advancer_inx(&self, i: P::Inx, rev: bool) -> PtrAdvancer<P>
         ensures begins { result
             ≡ (if rev then falling_walk (P.Inx.number i) else rising_walk (P.Inx.number i)) }
@@ -89,7 +89,7 @@ impl<P: BasePtr, T, A: Allocator> Arena<P, T, A> {
         }
     }
 
-    // The pointer of the first entry from a position on, and the position after it.
+    // The first entry from a position on: the position after it, and its pointer.
     pub(super) fn first_from(&self, from: usize) -> Option<(usize, P)>
         ensures pointers { MatchOption result
             (rising_from self.now (from + 1) ≡ [])
@@ -110,7 +110,7 @@ impl<P: BasePtr, T, A: Allocator> Arena<P, T, A> {
         None
     }
 
-    // The pointer of the last entry before a position, and its own.
+    // The last entry before a position: its own position, and its pointer.
     pub(super) fn last_before(&self, end: usize) -> Option<(usize, P)>
         ensures pointers { MatchOption result
             (falling_from self.now end ≡ [])

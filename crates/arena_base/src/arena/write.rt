@@ -29,7 +29,7 @@ impl<P: BasePtr, T, A: Allocator> ItemsMut<P, T> for Arena<P, T, A> {
 impl<P: BasePtr, T, A: Allocator> Arena<P, T, A> {
     ghost use Rattle.arena_base.specs.contracts.arena.Arena.{the_row};
 
-    /// The item that the pointer names, to be written.
+    /// Returns the item of `p` for writing; `None` if `p` is stale.
     pub fn get_mut(&mut self, p: P) -> Option<&mut T>
         ensures* writes_back { sem 𝓛 (LendsIf (the_row P.row T.row A.row P.Inx.row P.Gen.row
             P.BasePtr.own P.PartialEq P.Inx.BasePtrInx.own P.Inx.PartialEq
@@ -44,7 +44,7 @@ impl<P: BasePtr, T, A: Allocator> Arena<P, T, A> {
         }
     }
 
-    /// Exchanges the items at two indexes that have entries. Each entry keeps its generation.
+    /// Swaps the items at two occupied indexes. Each entry keeps its generation.
     pub fn swap_inx(&mut self, i: P::Inx, j: P::Inx)
         requires first { IsOccupied self.old (P.Inx.number i) }
         requires second { IsOccupied self.old (P.Inx.number j) }

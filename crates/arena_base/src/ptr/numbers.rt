@@ -1,4 +1,4 @@
-//! The unsigned numbers as indexes and generations.
+//! Unsigned numbers as indexes and generations.
 ghost use Rattle.std.specs.Prelude.{◌≡◌, ℕ, ◌^◌, ◌-◌, Option, Some, None, refl};
 ghost use Rattle.std.proofs.Common.{rules};
 

@@ -1,4 +1,4 @@
-//! The pointer types. In contracts a pointer is the pair of its index and its generation, one without generations its index.
+//! The pointer types. In contracts a pointer is the pair of its index and its generation; without a generation it is its index.
 ghost use Rattle.std.specs.Prelude.{refl};
 ghost use Rattle.std.proofs.Common.{ap};
 
@@ -7,7 +7,7 @@ use crate::recast::{Recast, Recaster};
 use std::fmt;
 use std::marker::Model;
 
-/// The usual pointer: more than four thousand million indexes, and generations that never run out.
+/// The usual pointer: more than four billion indexes, and generations that don't run out in practice.
 #[derive(Clone, Copy, PartialEq, Eq, PartialOrd, Ord, Hash)]
 pub struct P0 {
     inx: u32,
@@ -71,7 +71,7 @@ impl Recast<P0> for P0 {
     }
 }
 
-/// A second pointer type like [`P0`], for a second arena: neither is taken for the other.
+/// A second pointer type like [`P0`], for a second arena, so that pointers of the two can't be mixed up.
 #[derive(Clone, Copy, PartialEq, Eq, PartialOrd, Ord, Hash)]
 pub struct Q0 {
     inx: u32,
@@ -135,7 +135,7 @@ impl Recast<Q0> for Q0 {
     }
 }
 
-/// A pointer of two bytes, for small arenas. Its generations run out after 254 removals.
+/// A pointer of two bytes, for small arenas. Its generations overflow after 254 removals.
 #[derive(Clone, Copy, PartialEq, Eq, PartialOrd, Ord, Hash)]
 pub struct P8 {
     inx: u8,
@@ -199,7 +199,7 @@ impl Recast<P8> for P8 {
     }
 }
 
-/// A pointer without a generation: it names whatever entry is at its index.
+/// A pointer without a generation: it names whichever entry is at its index.
 #[derive(Clone, Copy, PartialEq, Eq, PartialOrd, Ord, Hash)]
 pub struct PN {
     inx: u32,

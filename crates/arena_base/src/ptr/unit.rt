@@ -1,4 +1,4 @@
-//! `()` as the generation that never changes.
+//! `()` as a generation that never changes.
 ghost use Rattle.std.specs.Prelude.{None, refl};
 
 use super::{BasePtrGen, PtrGen};

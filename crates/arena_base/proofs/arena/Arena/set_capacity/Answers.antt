@@ -2,7 +2,7 @@ use Rattle.arena_base.proofs.Words.{◌≡◌, suc, ◌+◌, ◌++◌, length, r
 use Rattle.arena_base.proofs.{Steps.resized-cons, Steps.entries-resized, Steps.padded-vacant, Steps.resized-full, Steps.relisted, Steps.relisted-sound, arena.Arena.set_capacity.Goals.After-add_vacant, arena.Arena.set_capacity.Given.Over}
 use Rattle.arena_base.proofs.arena.Arena.set_capacity.Goals as goal
 
--- the slots, with vacant ones added
+-- the slots with vacant ones added
 padded : (g : Over) (c : After-add_vacant g)
     → c.add_vacant.new.slots.items ≡ c.self.inside.slots.items ++ replicate (c.args.n - length c.self.inside.slots.items) Vacant
 padded g c = rw (c.reserve.new.slots.ok.0, c.reserve.ensures.slots) at c.add_vacant.ensures.items

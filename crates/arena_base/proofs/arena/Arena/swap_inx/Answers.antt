@@ -12,7 +12,7 @@ generation-kept_second-requires g c =
     read-occupied g.P.Gen.BasePtrGen g.P.Inx.BasePtrInx c.self.inside _ c.self.view_is _ _ c.position_of_entry-second.ensures
     _ c.index-2.ensures c.requires.second
 
--- both places are those of slots
+-- both positions are within the slots
 within : (g : Over) (c : After-position_of_entry-second g) → (c.position_of_entry-first.result < vec_len c.self.inside.slots)
     × (c.position_of_entry-second.result < vec_len c.self.inside.slots)
 within g c = (

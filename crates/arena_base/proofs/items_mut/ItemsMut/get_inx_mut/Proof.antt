@@ -1,5 +1,5 @@
--- `get_inx_mut` by hand: it asks whether there is an entry, by `occupied`, and wraps what `pair_mut` gives. What comes back of the write is
--- what `pair_mut` says of it, and where nothing is found the container is as it was.
+-- `get_inx_mut` by hand: it asks `occupied` whether there is an entry, and wraps the result of `pair_mut`. The write comes back as
+-- `pair_mut` says. If nothing is found, the container is unchanged.
 use Rattle.std.proofs.Common.{◌≡◌, ℕ, List, [], ◌∷◌, refl, sym, ap, lit<, MutBor, Bool, ◌∙◌, Option, Some, None, is_some, false, true}
 use Rattle.std.proofs.{Common.arith, Common.subst, raw_atomic.Walks.proved, raw_atomic.Walks.leaves, VecSteps.Element.Some-of, VecSteps.Element.none_of, VecSteps.Shapes.after}
 use Rattle.arena_base.proofs.{items_mut.ItemsMut.get_inx_mut.Statement.statement, items_mut.occupied.Met.met as test_met}
