@@ -1,4 +1,4 @@
--- What the calls of a chain arena owe: from what the arena's calls ensure to the step on the list.
+-- The proof obligations of a chain arena's calls: from what the arena's calls ensure to the step on the list.
 use Rattle.std.proofs.Common.{◌≡◌, ℕ, ◌<◌, ◌≤◌, List, Option, Some, None, IsSome, refl, sym, ap, subst, ◌∙◌, arith, max, OnSome, IfNone, Result, Ok, Err, OnOk, OnErr, ◌⊎◌, inl, inr, option_and_then}
 use Rattle.std.proofs.lemmas.Grind.{common_steps}
 use Rattle.arena_base.specs.Arena.{Arena, slot, new_arena, with_capacity as arena_with_capacity, removed as arena_removed, renewed as arena_renewed, greatest_occupied, IsSound as IsSoundArena, IsInsertion as IsArenaInsertion}
@@ -10,12 +10,12 @@ use Rattle.chain_base.proofs.LaidOut.{IsChainIn, bridged, end_beside, slot-writt
 use Rattle.chain_base.proofs.{Vacancy.HoldIndexes, Vacancy.held-is, Vacancy.past-greatest, Vacancy.greatest-links, Renumbering.beside-other}
 use Rattle.chain_base.proofs.{Lists.times-append, Lists.times-last, Lists.times-first, Lists.other_index, Sound.occupied-above}
 
--- an index other than 0 names what it says
+-- an index other than 0 can be named in a link
 pub named_of-above : (o : Option ℕ) → ((k : ℕ) → o ≡ Some k → 0 < k) → named_of o ≡ o
 named_of-above o above = grind (arith, common_steps)
 
 module _ {T : Type 0} where
-  -- what was held is held after an insertion
+  -- an occupied index is occupied after an insertion
   held-inserted : (a a1 : Arena (Link T)) (link : Link T) (j g : ℕ) → IsArenaInsertion a a1 link j g → (k : ℕ) → IsSome (slot a k) → IsSome (slot a1 k)
   held-inserted a a1 link j g ins k held = grind (arith, common_steps)
 
@@ -26,23 +26,23 @@ module _ {T : Type 0} where
     held : HoldIndexes a.slots c.entries
     held = held-laid a.slots first last _ laid
 
-    -- an insertion into the arena, for an entry beside these two neighbours
+    -- an insertion into the arena, for an entry between these two neighbours
     module _ (a1 : Arena (Link T)) (link : Link T) (j g : ℕ) (ins : IsArenaInsertion a a1 link j g)
         (place : Entry T → List (Entry T)) (prev next : Option ℕ) (at : PutsBetween c.entries place prev next) where
       -- the neighbours of the place occur in the list
       beside-occurs : (k : ℕ) → (prev ≡ Some k) ⊎ (next ≡ Some k) → 1 ≤ times k c.entries
       beside-occurs k is = grind (arith, common_steps, times-last at.front k, times-first at.back k, at.split, times-append k at.front at.back)
 
-      -- they have entries after it too
+      -- they are occupied after it too
       pub beside-inserted : (k : ℕ) → (prev ≡ Some k) ⊎ (next ≡ Some k) → IsSome (slot a1 k)
       beside-inserted k is = held-inserted a a1 link j g ins k (held-is a.slots _ k held (beside-occurs k is))
 
       module _ (most : ℕ) (greatest : Option ℕ) (sound : IsSoundArena most greatest a1) where
-        -- the indexes of the list are not 0 where the arena after an insertion is sound
+        -- the indexes of the list aren't 0 if the arena after an insertion is sound
         named-occurs : (o : Option ℕ) → ((k : ℕ) → o ≡ Some k → 1 ≤ times k c.entries) → named_of o ≡ o
         named-occurs o there = named_of-above o (λ k is. occupied-above most greatest a1 sound k (held-inserted a a1 link j g ins k (held-is a.slots _ k held (there k is))))
 
-        -- the chain after it, from what the writes of links ensure
+        -- the chain after it, given what the writes of links ensure
         module _ (item : T) (item_is : link.item ≡ item) (prev_is : link.prev ≡ named_of prev)
             (next_is : link.next ≡ named_of next) (b : Arena (Link T)) (first2 last2 : Option ℕ)
             (joined : b ≡ bridged a1 prev (named_of (Some j)) next (named_of (Some j)))
@@ -64,7 +64,7 @@ module _ {T : Type 0} where
           let other = beside-other side c.entries laid.distinct i k (ap (option_and_then (λ e. neighbour_on side e.1)) (sym (laid.links i) ∙ at) ∙ is) in
           rw (slot-written a i k None (slot-within a i e at), other_index i k other.0) (held-is a.slots _ k held other.1)
 
-      -- a removal, from what the arena's removal and the writes of links ensure
+      -- a removal, given what the arena's removal and the writes of links ensure
       module _ (prev next : Option ℕ) (prev_is : prev ≡ e.1.prev) (next_is : next ≡ e.1.next)
           (named_prev : named_of e.1.prev ≡ e.1.prev) (named_next : named_of e.1.next ≡ e.1.next) (a1 b : Arena (Link T))
           (first2 last2 : Option ℕ) (without : a1 ≡ arena_removed greatest a i)
@@ -72,14 +72,14 @@ module _ {T : Type 0} where
         pub Removes-linked : last2 ≡ end_beside next last prev → Lies b first2 last2 (removed greatest c i)
         Removes-linked last_is = grind (arith, common_steps, Removes-joined)
 
-    -- a call that renews an entry, or changes nothing
+    -- a call that renews an entry or changes nothing
     module _ {X : Type 0} (greatest : Option ℕ) (b : Arena (Link T)) (i : ℕ) where
       pub renewed-or_kept : (o : Option X) → OnSome o (b ≡ arena_renewed greatest a i) → IfNone o (b ≡ a)
           → IsChainIn b first last × OnSome o (chain_of b first ≡ renewed greatest c i)
       renewed-or_kept None renews keeps = (rw keeps laid, tt)
       renewed-or_kept (Some x) renews keeps = let done = Renews-at a first last laid greatest i in (rw renews done.laid, rw renews done.chain)
 
-    -- a call that makes the capacity n or what is needed, or changes nothing
+    -- a call that sets the capacity to n or to what is needed, or changes nothing
     module _ (b : Arena (Link T)) (n : ℕ) where
       abbrev needed : ℕ
       needed = max n (greatest_occupied a.slots)

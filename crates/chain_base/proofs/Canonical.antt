@@ -1,4 +1,4 @@
--- A chain gets its canonical order: once its entries have the least indexes, each in turn is exchanged to that of its place.
+-- The canonical order of a chain: once its entries have the least indexes, each in turn is swapped to that of its place.
 use Rattle.std.proofs.Common.{◌≡◌, ◌≢◌, ℕ, zero, suc, ◌+◌, ◌-◌, ◌<◌, ◌≤◌, true, List, [], ◌∷◌, ◌++◌, length, map, replicate, slice_get, slice_index_or, Option, Some, None, IsSome, is_some, cond, if◌then◌else◌, refl, sym, ap, ◌∙◌, arith, inl, inr, length-append}
 use Rattle.std.proofs.lemmas.List.{map-append, map-id, append_assoc, append-nil, length-map}
 use Rattle.std.proofs.{lemmas.Option.same_Some, lemmas.Option.slice_get-map, lemmas.Option.get_or_from_slice_get, lemmas.Grind.common_steps}
@@ -16,7 +16,7 @@ map-kept : {A B : Type 0} (v : A → B) (f : A → A) → ((x : A) → v (f x) �
 map-kept v f kept [] = refl
 map-kept v f kept (x ∷ xs) = rw (kept x, map-kept v f kept xs) refl
 
--- what stands behind an entry, or behind none
+-- what follows an entry, or nothing
 module _ {X : Type 0} (from : ℕ) (o : Option (ℕ × X)) (xs : List (ℕ × ℕ × X)) (m k : ℕ) where
   entry_before-at : (y : ℕ × ℕ × X) → slice_get xs m ≡ Some y → k ≡ cond (is_some o) 1 0 + m → slice_get (entry_before from o xs) k ≡ Some y
   entry_before-at y is at = grind (arith, common_steps)
@@ -28,7 +28,7 @@ module _ {T : Type 0} where
   pub entry-absent : (es : List (Entry T)) (i : ℕ) → entry_at es i ≡ None → times i es ≡ 0
   entry-absent es i none = grind (arith, common_steps, entry_at-link None None es i, times-unlinked None None es i)
 
-  -- an index that finds an entry stands in the list
+  -- an index that finds an entry occurs in the list
   pub entry-occurs : (es : List (Entry T)) (i : ℕ) → IsSome (entry_at es i) → 1 ≤ times i es
   entry-occurs es i there = grind (arith, common_steps, i, entry_at-absent)
 
@@ -41,7 +41,7 @@ module _ {T : Type 0} where
   times-numbered g from [] i = grind (arith, nat_tests)
   times-numbered g from (x ∷ xs) i = let ih = times-numbered g (from + 1) xs i in grind (arith, nat_tests)
 
-  -- an entry stands at its place among those by rising index
+  -- an entry is at its place among the entries by rising index
   module _ (es : List (Entry T)) (distinct : IsDistinct es) where
     rising-at : (count from x k : ℕ) (e : ℕ × T) → entry_at es x ≡ Some e → from ≤ x → x < from + count
         → lesser es from + k ≡ lesser es x → slice_get (rising_among es from count) k ≡ Some (x, e.0, e.1)
@@ -82,9 +82,9 @@ module _ {T : Type 0} where
     relocated-indexes : (g : ℕ) (items : List T) → length items ≡ length c.entries → (i : ℕ) → times i (map (at_compressed_index c.entries g) c.entries) ≡ times i (numbered g 1 items)
     relocated-indexes g items long i = grind (arith, nat_tests, relocated-inside g i, relocated-within g i, times-numbered g 1 items i)
 
-  -- lists whose calls gave each item back
+  -- lists whose calls returned each item unchanged
   module _ (all : List (Entry T)) (g : ℕ) (items : List T) where
-    -- each entry has the item of its place
+    -- each entry has the item at its place
     abbrev HasItems : List (Entry T) → Type 0
     HasItems es = (i : ℕ) (e : ℕ × T) → entry_at es i ≡ Some e → slice_index_or items (lesser all i) e.1 ≡ e.1
 
@@ -96,7 +96,7 @@ module _ {T : Type 0} where
         λ i f is. grind (arith, common_steps, entry-occurs es i, distinct i) in
         rw (here, map-moved es (λ i. omega (arith, distinct i)) (λ i f is. same i f (behind i f is))) refl
 
-  -- a compression whose calls give each item back
+  -- a compression whose calls return each item unchanged
   module _ {P F : Type 0} (numbers : P → ℕ × ℕ) (step : F → P → T → P → T → F → Type 0) (g most : ℕ) (greatest : Option ℕ)
       (back : (f : F) (p : P) (x : T) (q : P) (y : T) (h : F) → step f p x q y h → y ≡ x) (f : F) (old new : Chain T) where
     pub compression-relocates : IsSound most greatest old → IsCompression numbers step g f old new → new ≡ relocated old g
@@ -109,7 +109,7 @@ module _ {T : Type 0} where
         ∙ (slice_get-map (λ (e : ℕ × ℕ × T). e.2) (entries_rising old) (place i) ∙ ap (option_map (λ (e : ℕ × ℕ × T). e.2)) (rising-entry most greatest old sound i e is))) in
         c.after ∙ ap (refilled old g) (map-moved old.entries g c.items old.entries sound.distinct same)
 
-  -- what is seen of an item, where the calls of a compression leave it
+  -- what is seen of an item, if the calls of a compression keep it
   module _ {K : Type 0} (see : T → K) where
     seen-at : (items : List T) (k : ℕ) (d : T) → option_map see (slice_get items k) ≡ Some (see d) → see (slice_index_or items k d) ≡ see d
     seen-at items k d is = by (slice_get items k) refl is
@@ -140,7 +140,7 @@ module _ {T : Type 0} where
           ∙ (slice_get-map (λ (e : ℕ × ℕ × T). see e.2) (entries_rising old) (place i) ∙ ap (option_map (λ (e : ℕ × ℕ × T). see e.2)) (rising-entry most greatest old sound i e is))) in
           ap (λ (d : Chain T). map see (map (λ (e : Entry T). e.item) d.entries)) c.after ∙ map-seen old.entries g c.items old.entries sound.distinct same
 
-  -- all entries have generation g
+  -- the generations of the entries
   abbrev pub eras : List (Entry T) → List ℕ
   eras es = map (λ e. e.generation) es
 
@@ -206,7 +206,7 @@ module _ {T : Type 0} where
     canonical-even i = λ x is. era-at now.entries n g i x b.even is ∙ sym (ap (λ (d : Chain T). d.generation) b.kept ∙ b.era)
 
     module _ (more : k < n) where
-      -- the entry that is met
+      -- the next entry
       pub met : Begun b.rest
       met = begun b.rest (omega (arith, lengths, b.so_far))
 
@@ -274,13 +274,13 @@ module _ {T : Type 0} where
   vacant-same xs ys zero from same = refl
   vacant-same xs ys (suc n) from same = rw (same from (omega arith), vacant-same xs ys n (from + 1) (λ m far. same m (omega (arith, far)))) refl
 
-  -- at last all have
+  -- in the end all entries have the indexes of their places
   module _ (most : ℕ) (greatest : Option ℕ) (c : Chain T) (g : ℕ) (now : Chain T) (at : Option ℕ) (k : ℕ) (sound : IsSound most greatest c)
       (past : length c.entries ≤ k) where
     pub canonical-ends : CanonicalBelow (relocated c g) g (length c.entries) (map (λ e. e.item) c.entries) now at k → now ≡ canonical c g
     canonical-ends b = grind (arith, common_steps, lengths, append-nil, vacant-same, relocated-indexes, length-map)
 
--- an index that a chosen one is
+-- an index is some if its number is
 pub chosen : {I : Type 0} (number : I → ℕ) (o : Option I) (k : ℕ) → option_map number o ≡ Some k → is_some o ≡ true
 chosen number o k is = grind (arith, common_steps)
 

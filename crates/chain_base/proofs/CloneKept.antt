@@ -49,7 +49,7 @@ module _ {T : Type 0} where
       grind (arith, common_steps)
   same_entries es fs distinct order items = absurd cc
 
--- a clone by calls that each answer the item that they are shown
+-- a clone by calls that return the item that they are shown
 module _ {P U F : Type 0} (numbers : P → ℕ × ℕ) (step : F → P → Link U → U → F → Type 0)
     (answers : (f : F) (p : P) (u : Link U) (x : U) (g : F) → step f p u x g → x ≡ u.item) (most : ℕ) (greatest : Option ℕ) (f : F)
     (source : Chain U) (sound : IsSound most greatest source) where
@@ -57,7 +57,7 @@ module _ {P U F : Type 0} (numbers : P → ℕ × ℕ) (step : F → P → Link 
   clone-same old new last c = c.after
       ∙ ap (taken_over source old) (same_entries source.entries new.entries sound.distinct c.entries.order (clone-kept numbers step (λ (u : U). u) (λ (u : U). u) answers most greatest f source sound old new last c))
 
--- the links that are shown are those of the list
+-- the links shown are those of the list
 module _ {U : Type 0} (es : List (Entry U)) (e : ℕ × ℕ × Link U) (behind : List (ℕ × ℕ × Link U)) where
   shown-link : (from count : ℕ) (before : List (ℕ × ℕ × Link U)) → links_among es from count ≡ before ++ e ∷ behind → link_at es e.0 ≡ Some (e.1, e.2)
   shown-link from zero [] is = absurd cc
@@ -72,7 +72,7 @@ module _ {U : Type 0} (es : List (Entry U)) (e : ℕ × ℕ × Link U) (behind :
       by (Some x) at [] is later = let same : (from, x.0, x.1) ≡ e = cc in rw (← same) at
       by (Some x) at (b ∷ before) is later = later before (cc)
 
--- an item that was refused is one of the source's, under the pointer that was shown
+-- a refused item is one of the source's, and was shown with its pointer
 module _ {P T U F : Type 0} (numbers : P → ℕ × ℕ) (step : F → P → Link U → Result T AllocError → F → Type 0) (f : F) (source : Chain U) (old new : Chain T) (last : F)
     (c : IsRefusedClone numbers step f source old new last) where
   abbrev refused : ℕ × ℕ × Link U

@@ -19,7 +19,7 @@ use Rattle.chain_base.proofs.{LaidOut.IsChainIn, LaidOut.laid-held, LaidOut.IsLa
 abbrev ends_of : {X : Type 0} → Link X → Option ℕ × Option ℕ
 ends_of l = (l.prev, l.next)
 
--- what it keeps of what an index holds
+-- what it keeps of the entry at an index
 abbrev frame : {X : Type 0} → Option (ℕ × Link X) → Option (ℕ × Option ℕ × Option ℕ)
 frame o = option_map (λ e. (e.0, e.1.prev, e.1.next)) o
 
@@ -33,7 +33,7 @@ module _ {T U : Type 0} where
   alike-pointers (e ∷ es) (f ∷ fs) same = grind (arith, common_steps, alike-pointers es fs)
   alike-pointers es fs same = absurd cc
 
-  -- the entries of a list, with what stands at their indexes
+  -- the entries of a list, as found at their indexes
   abbrev relisted : (ℕ → Option (ℕ × Link T)) → List (Entry U) → List (Entry T)
   relisted at [] = []
   relisted at (e ∷ es) = met e.index (at e.index) (λ next. relisted at es)
@@ -47,7 +47,7 @@ module _ {T U : Type 0} where
     row-links before [] row i there = absurd (omega arith)
     row-links before (e ∷ es) row i there = grind (arith, common_steps, row-links (Some e.index) es row.1 i, row)
 
-  -- slots with items have the source's generations and neighbours
+  -- slots with new items keep the source's generations and neighbours
   abbrev KeepEnds : ℕ → List (Option (ℕ × Link U)) → List (Link T) → Type 0
   KeepEnds i slots items = map ends_of items ≡ map (λ (e : ℕ × ℕ × Link U). ends_of e.2) (entries_from i slots)
 
@@ -57,7 +57,7 @@ module _ {T U : Type 0} where
   with_items-frame i (Some e ∷ slots) (x ∷ xs) same (suc k) = with_items-frame (i + 1) slots xs (cc) k
   with_items-frame i slots xs same k = grind (arith, common_steps)
 
-  -- and each the item of its number
+  -- and each has the item at its place
   abbrev HasItem : List (Option (ℕ × Link U)) → List (Link T) → ℕ → Type 0
   HasItem slots items k = option_map (λ (e : ℕ × Link T). e.1.item) (get_or (with_items slots items) k None) ≡ slice_get (map (λ l. l.item) items) (count_by is_some (take k slots))
 
@@ -82,17 +82,17 @@ module _ {T U : Type 0} where
         (λ i some. omega (arith, alike.count i, held-occurs slots0 es i (held-laid slots0 first last es laid) (framed (at i) (get_or slots0 i None) (same i) some)))
         (λ i. omega (arith, alike.count i, laid.distinct i)) (laid.first_is ∙ sym (alike.first None)) (laid.last_is ∙ sym (alike.last None))
 
--- slots that are vacant one and all
+-- slots that are all vacant
 resized-laid : {T : Type 0} (n : ℕ) → IsLaidOut {T = T} (resized n []) None None []
 resized-laid n = grind (arith, common_steps, IsLaidOut-cleared)
 
--- The step of a clone of links, from that of its items: what makes these is behind a reference, which keeps its name.
+-- The step of a clone of links, from that of its items. What makes the items is behind a reference, which keeps its name.
 abbrev pub link_step : {P T U M N G : Type 0} → (M → P → Link U → Result T AllocError → M → Type 0) → (N → M) → (N → G) → N → P → Link U → Result (Link T) AllocError → N → Type 0
 link_step step inner name m p link answer n =
     (name n ≡ name m) × MatchResult answer (λ new. ClonesLink step (inner m) p link new (inner n)) (λ refusal. step (inner m) p link (Err refusal) (inner n))
 
 module _ {P T U M N G : Type 0} (numbers : P → ℕ × ℕ) (step : M → P → Link U → Result T AllocError → M → Type 0) (inner : N → M) (name : N → G) where
-  -- the calls, told of items
+  -- the calls in terms of items
   module _ (es : List (ℕ × ℕ × Link U)) (m n : N) (ys : List (Link T))
       (calls : FoldsTo {P = N × List (Link T)} (CloneStep numbers (Grants numbers (link_step step inner name))) (m, []) es (n, ys)) where
     items-told : FoldsTo {P = M × List T} (CloneStep numbers (Grants numbers step)) (inner m, []) es (inner n, map (λ l. l.item) ys)
@@ -100,14 +100,14 @@ module _ {P T U M N G : Type 0} (numbers : P → ℕ × ℕ) (step : M → P →
         let told = clones-retold numbers (Grants numbers (link_step step inner name)) (Grants numbers step) inner (λ u. u) (λ l. l.item) (λ m p u x n made. made.1.called) es m n [] ys calls in
         rw (map-id es) at told
 
-  -- the same of a refusal
+  -- the same for a refusal
   stops-told : (m : N) (es : List (ℕ × ℕ × Link U)) (n : N) → StopsAtRefusal {T = Link T} numbers (link_step step inner name) m es n
       → StopsAtRefusal numbers step (inner m) es (inner n)
   stops-told m es n s =
       let told = stops-retold numbers (link_step step inner name) step inner (λ u. u) (λ l. l.item) (λ m p u x n made. made.1.called) (λ m p u e n called. called.1) m es n s in
       rw (map-id es) at told
 
-  -- the name of what was left
+  -- the name of the reference that was left
   module _ (m n : N) (a0 : Arena (Link U)) (a b : Arena (Link T)) where
     pub name-cloned : IsArenaClone numbers (Grants numbers (link_step step inner name)) m a0 a b n → name n ≡ name m
     name-cloned c = clones-leave numbers (link_step step inner name) name (λ m p u r n made. made.0) (entries_rising a0 0) m n c.items c.calls
@@ -199,7 +199,7 @@ module _ {T U : Type 0} (a0 : Arena (Link U)) (first last : Option ℕ) (laid : 
       (fresh ∙ vacant-held {T = T} b.slots [] (held-laid b.slots None None [] none) ∙ ap (vacant_indexes {T = T} []) capacity) (ap (λ (x : Arena (Link T)). x.generation) is) (ap (λ (x : Arena (Link T)). x.maximum) is) in
       done.chain
 
--- the receiver after a refusal: as it was, or without entries
+-- the receiver after a refusal: unchanged, or without entries
 module _ {T U : Type 0} (a0 : Arena (Link U)) (a b : Arena (Link T)) (first last : Option ℕ) (laid : IsChainIn a first last)
     (r : Result (Unit {0}) ReallocationError) (e : ReallocationError) (is : r ≡ Err e) {K : Type 0} (beyond : r ≡ Err BeyondMaxCapacity → (b ≡ a) × K)
     {A B : Type 0} (stops : B → b ≡ arena_taken_over a0 a []) (memory : r ≡ Err NoMemory → (A × (b ≡ a) × K) ⊎ B) where
@@ -226,14 +226,14 @@ module _ {T U : Type 0} (a0 : Arena (Link U)) (a b : Arena (Link T)) (first last
   pub kept-chain : b ≡ a → (arena_len b == 0) ≡ true → chain_of b None ≡ chain_of a first
   kept-chain kept empty = grind (arith, common_steps, no-ends)
 
--- what a refused clone leaves of the state of what makes its items, where its calls leave that
+-- what a refused clone keeps of the state of what makes its items, if its calls keep it
 module _ {M K X Y Z : Type 0} (see : M → K) (m n : M) (stops : Z → see n ≡ see m) where
   pub left-refused : (r : Result (Unit {0}) ReallocationError) (e : ReallocationError) → r ≡ Err e → (r ≡ Err BeyondMaxCapacity → X × (n ≡ m))
       → (r ≡ Err NoMemory → (Y × X × (n ≡ m)) ⊎ Z) → see n ≡ see m
   left-refused r BeyondMaxCapacity is beyond memory = ap see (beyond is).1
   left-refused r NoMemory is beyond memory = elim (memory is) [ inl kept ↦ ap see kept.2 | inr refused ↦ stops refused ]
 
--- A clone in states of one kind is one in those of another.
+-- A clone in states of one kind is one in states of another.
 module _ {P T U M F X E : Type 0} (numbers : P → ℕ × ℕ) (below : M → P → Link U → T → M → Type 0) (above : F → P → Link U → T → F → Type 0) (state : M → F)
     (like : (m : M) (p : P) (u : Link U) (x : T) (n : M) → below m p u x n → above (state m) p u x (state n)) where
   pub clone-restated : (r : Result X E) (m : M) (source : Chain U) (old new : Chain T) (n : M) → OnOk r (IsClone numbers below m source old new n)
@@ -244,7 +244,7 @@ module _ {P T U M F X E : Type 0} (numbers : P → ℕ × ℕ) (below : M → P 
   )
   clone-restated (Err e) m source old new n c = tt
 
--- the same of a refusal
+-- the same for a refusal
 module _ {P T U M F : Type 0} (numbers : P → ℕ × ℕ) (below : M → P → Link U → Result T AllocError → M → Type 0)
     (above : F → P → Link U → Result T AllocError → F → Type 0) (state : M → F)
     (like : (m : M) (p : P) (u : Link U) (r : Result T AllocError) (n : M) → below m p u r n → above (state m) p u r (state n)) (m : M)

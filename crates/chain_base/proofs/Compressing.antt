@@ -1,4 +1,5 @@
--- A chain is compressed: its entries learn their places, the arena is compressed, and the places are linked back.
+-- A compression of a chain: the entries get the compressed indexes of their neighbours, the arena is compressed, and the other neighbours
+-- are linked back.
 use Rattle.std.proofs.Common.{◌≡◌, ℕ, zero, suc, ◌+◌, ◌-◌, ◌<◌, ◌≤◌, true, List, [], ◌∷◌, length, map, take, slice_get, slice_index_or, Option, Some, None, is_some, count_by, cond, get_or, refl, sym, ap, ◌∙◌, arith, inl, inr, add-one, option_map, option_and_then}
 use Rattle.std.proofs.lemmas.Option.{slice_get-map, slice_get_within, get_or_from_slice_get}
 use Rattle.std.proofs.{lemmas.List.Sums.sum_by-cons, lemmas.List.Sums.count_by-le-length, lemmas.Bool.Decides.eqb_tells, lemmas.Grind.common_steps, lemmas.Bool.false≢true, lemmas.List.length-map}
@@ -33,7 +34,7 @@ module _ {T : Type 0} where
   fewer : (slots : List (Option (ℕ × Link T))) → 0 < length slots → get_or slots 0 None ≡ None → count_by is_some slots < length slots
   fewer slots some none = grind (arith, common_steps, sum_by-cons, count_by-le-length)
 
-  -- links with other previous neighbours, or with next ones that have learnt their places
+  -- links with any previous neighbours, whose next neighbours have their compressed indexes
   record KeepsNext (o : Option (ℕ × Link T)) (p : Option ℕ) : Type 0 where
     next : option_and_then (λ e. e.1.next) (option_map (with_prev p) o) ≡ option_and_then (λ e. e.1.next) o
     held : is_some (option_map (with_prev p) o) ≡ is_some o
@@ -72,7 +73,7 @@ module _ {T : Type 0} where
     paired-before = paired Before a0 es laid.distinct held0 names0
 
     module _ (a1 : Arena (Link T)) (end1 : Option ℕ) (n1 : NamesCompressedIndexes Before a0 a1 end1) where
-      -- an entry's link names the place of the next one
+      -- an entry's link names the compressed index of the next one
       after1 : (k : ℕ) → slot a1 k ≡ option_map (to_place place) (link_at es k)
       after1 k =
           learnt Before a0 es laid.distinct held0 names0 a1 end1 n1 place place-first k (λ none. rw (laid.links k) (unlinked (link_at es k) none))
@@ -106,7 +107,7 @@ module _ {T : Type 0} where
         at2 : (k : ℕ) → slot a2 (suc k) ≡ option_map (with_era g) (slice_get c.links k)
         at2 k = ap (λ ss. get_or ss (suc k) None) c.after.slots ∙ compressed-at (length a1.slots) g c.links k fits
 
-        -- an entry's link has come to its place
+        -- an entry's link moved to its compressed index
         module _ (x : ℕ) where
           after2 : (e : ℕ × Link T) → link_at es x ≡ Some e
               → slot a2 (place x) ≡ Some (g, record { item = slice_index_or items (lesser es x) e.1.item; prev = e.1.prev; next = option_map place e.1.next })
@@ -118,7 +119,7 @@ module _ {T : Type 0} where
               ap (slot a2) (add-one (lesser es x)) ∙ (at2 (lesser es x) ∙ ap (option_map (with_era g)) l.1
               ∙ ap (λ (l : Link T). Some (g, l)) (link-is l.0 (slice_index_or items (lesser es x) e.1.item) e.1.prev (option_map place e.1.next) item l.2 l.3))
 
-        -- what stands in the compressed arena came from the list
+        -- each entry of the compressed arena comes from the list
         source2 : (k : ℕ) → is_some (slot a2 k) ≡ true → (x : ℕ) × (place x ≡ k) × (1 ≤ times x es)
         source2 zero held = absurd (false≢true (sym (ap (λ ss. is_some (get_or ss 0 None)) c.after.slots ∙ ap is_some (compressed-first (length a1.slots) (map (λ l. Some (with_era g l)) c.links))) ∙ held))
         source2 (suc k) held =
@@ -130,7 +131,7 @@ module _ {T : Type 0} where
         distinct2 : IsDistinct now
         distinct2 = distinct-renumbered place alter es laid.distinct (place-injective es)
 
-        -- so the arena holds the links of the list now, but for the previous neighbours, which have the names that they had
+        -- the arena holds the links of the new list, except that previous neighbours have their old names
         abbrev HoldsNow : ℕ → Type 0
         HoldsNow k = (p : Option ℕ) × (slot a2 k ≡ option_map (with_prev p) (link_at now k)) × (beside Before now k ≡ None → p ≡ None)
 
@@ -161,7 +162,7 @@ module _ {T : Type 0} where
         pub paired-after : IsPaired After a2
         paired-after = paired After a2 now distinct2 held2 names2
 
-        -- the places are the indexes now
+        -- compressed indexes are indexes now
         place-second : (i : ℕ) → 1 ≤ times i now → compressed_index_in a2 i ≡ i
         place-second i occurs =
             let x = times-source place alter es i occurs in
@@ -180,7 +181,7 @@ module _ {T : Type 0} where
               (end-learnt Before a0 es laid.distinct held0 names0 a1 end1 n1 place place-first ∙ sym (end-renumbered place alter Before es))
               (end-learnt After a2 now distinct2 held2 names2 a3 end2 n2 (λ i. i) place-second ∙ option_map-itself (last_or None now))
 
-          -- the entries by rising index, as the list has them
+          -- the entries by rising index, as in the list
           rising : map (bare numbers step g) ranked ≡ rising_among es 1 (arena_capacity a0)
           rising = among-arena (λ (l : Link T). l.item) (entry_at es) (rising_among es) (λ i. refl) (λ i n. refl) a1.slots
               (entry_at-link None None es 0 ∙ ap (option_map (λ e. (e.0, e.1.item))) (sym (laid.links 0) ∙ (first-vacant a0.slots begins).0))

@@ -1,4 +1,4 @@
--- Two entries of a chain change their indexes with each other: a swap in the arena, and the links that named them.
+-- Two entries of a chain swap their indexes: a swap in the arena, and new links to them.
 use Rattle.std.proofs.Common.{◌≡◌, ℕ, true, List, map, Option, Some, None, IsSome, is_some, refl, sym, ap, ◌∙◌, subst, arith, if◌then◌else◌, length-set, option_map, option_and_then}
 use Rattle.std.proofs.lemmas.Grind.{common_steps}
 use Rattle.arena_base.specs.{Arena.Arena, Arena.slot, Arena.swapped, Pointer.named_of}
@@ -21,11 +21,11 @@ module _ (i j : ℕ) where
   pub other-injective : (x y : ℕ) → other x ≡ other y → x ≡ y
   other-injective x y same = sym (other-twice x) ∙ (ap other same ∙ other-twice y)
 
-  -- what holds of both holds of the other of each that it holds of
+  -- a fact about i, j and k holds of the index that k becomes
   pub other-holds : (Q : ℕ → Type 0) → Q i → Q j → (k : ℕ) → Q k → Q (other k)
   other-holds Q of_i of_j k of_k = grind (arith, common_steps)
 
--- the neighbour that an entry has after two writes: w where the second one names its index, else v where the first does
+-- the neighbour of an entry after two writes: w if the second one names its index, else v if the first does
 abbrev written_twice : Option ℕ → Option ℕ → Option ℕ → Option ℕ → ℕ → Option ℕ → Option ℕ
 written_twice first v second w k o = if names second k then w else (if names first k then v else o)
 
@@ -36,14 +36,14 @@ module _ {T : Type 0} where
         ≡ Some (e.0, record (e.1) { prev = written_twice b v d w k e.1.prev; next = written_twice a v c w k e.1.next })
     relinked-twice e = grind (arith, common_steps)
 
-  -- entries of one generation that are swapped stand at each other's index
+  -- swapped entries of one generation are at each other's index
   slot-swapped : (a : Arena (Link T)) (i j x : ℕ) (e f : ℕ × Link T) → slot a i ≡ Some e → slot a j ≡ Some f → e.0 ≡ f.0 → slot (swapped a i j) (other i j x) ≡ slot a x
   slot-swapped a i j x e f held_i held_j same = grind (arith, common_steps)
 
   held-swapped : (a : Arena (Link T)) (i j k : ℕ) (e f : ℕ × Link T) → slot a i ≡ Some e → slot a j ≡ Some f → is_some (slot (swapped a i j) k) ≡ is_some (slot a k)
   held-swapped a i j k e f held_i held_j = grind (arith, common_steps)
 
-  -- the chain c lies in an arena, both indexes have entries, and all entries have one generation
+  -- the chain c is in an arena, both indexes have entries, and all entries have one generation
   pub record CanExchange (a : Arena (Link T)) (first last : Option ℕ) (c : Chain T) (i j : ℕ) : Type 0 where
     pub laid : IsLaidOut a.slots first last c.entries
     pub seen : chain_of a first ≡ c
@@ -80,7 +80,7 @@ module _ {T : Type 0} where
         let f = slot-of j can.at_j in
         rw made (record { held = λ k. held-swapped a0 i j k e.0 f.0 e.1 f.1; long = length-set _ j _ ∙ length-set a0.slots i _; kept = refl })
 
-    -- what an exchanged link names has an entry, in an arena that holds entries at the same indexes
+    -- a swapped link names an entry, in an arena with entries at the same indexes
     module _ {I : Type 0} (number : I → ℕ) (side : Side) (k : ℕ) (a : Arena (Link T)) (same : Alike a a0) (r : Option I) (p : Option ℕ) where
       pub target : option_map number r ≡ option_map (other i j) p → p ≡ beside side es k → (x : I) → r ≡ Some x → IsSome (slot a (number x))
       target is at y names =
@@ -90,7 +90,7 @@ module _ {T : Type 0} where
           let held_too = other-holds i j (λ n. is_some (slot a0 n) ≡ true) (slot-some i can.at_i) (slot-some j can.at_j) _ there in
           same.held x ∙ subst (λ n. is_some (slot a0 n) ≡ true) (other-twice i j x) held_too
 
-    -- the name of a neighbour, as it is to be
+    -- the new name of a neighbour
     abbrev to : Side → ℕ → Option ℕ
     to side k = option_map (other i j) (beside side es k)
 
@@ -139,7 +139,7 @@ module _ {T : Type 0} where
         subst (λ (d : Chain T). Lies (linked (swapped a0 i j)) (option_map (other i j) first) (option_map (other i j) last) (record d { entries = map (in_exchange i j) es }))
         can.seen (lies-alike a0 (linked (swapped a0 i j)) _ _ _ same laid2)
 
-    -- the arenas between the writes, as the calls give them
+    -- the arenas between the writes, as the calls return them
     module _ (v w o1 o2 o3 o4 p1 p2 p3 p4 end1 end2 : Option ℕ) (to_j : v ≡ Some j) (to_i : w ≡ Some i)
         (is1 : o1 ≡ option_map (other i j) p1) (at1 : p1 ≡ beside Before es i) (is2 : o2 ≡ option_map (other i j) p2)
         (at2 : p2 ≡ beside After es i) (is3 : o3 ≡ option_map (other i j) p3) (at3 : p3 ≡ beside Before es j)
@@ -150,6 +150,6 @@ module _ {T : Type 0} where
       Lies-written made3 made4 =
           rw (made4, made3, made2, made1, made0, is1, is2, is3, is4, at1, at2, at3, at4, to_j, to_i, is_first, is_last) Lies-exchanged
 
-  -- an index with an entry can be named in a link
+  -- an occupied index can be named in a link
   pub occupied-named : (most : ℕ) (greatest : Option ℕ) (c : Chain T) (i : ℕ) → IsSound most greatest c → is_some (entry_at c.entries i) ≡ true → named_of (Some i) ≡ Some i
   occupied-named most greatest c i sound occupied = grind (arith, common_steps, i, entry_at-absent, neighbour-above)

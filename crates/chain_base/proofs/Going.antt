@@ -17,14 +17,14 @@ module _ {T : Type 0} where
   pub pointers_left-none : (es : List (Entry T)) (i : ℕ) → None ≡ link_at es i → pointers (from_index es i) ≡ []
   pointers_left-none es i none = ap pointers (from_index-absent es i (times-unlinked None None es i (sym none)))
 
-  -- what stands behind an entry is what its link leads to
+  -- the entries behind an entry are those that its link leads to
   behind : (c : Chain T) (front : List (Entry T)) (e : Entry T) (back : List (Entry T)) → IsDistinct c.entries
       → c.entries ≡ front ++ e ∷ back → pointers_left (first_or None back) c ≡ pointers back
   behind c front e [] distinct split = refl
   behind c front e (f ∷ back) distinct split =
       grind (arith, common_steps, times-append f.index (front ++ e ∷ []) (f ∷ back), times-here f.index f back refl, from_index-split (front ++ e ∷ []) f back f.index refl)
 
-  -- a walk that stands at the index of an entry gives it, and goes on by its link
+  -- a walk at the index of an entry returns it, and follows its link
   pub gives-from_link : (c : Chain T) (i g : ℕ) (l : Link T) → IsDistinct c.entries → ◌≡◌ {A = Option (ℕ × Link T)} (Some (g, l)) (link_at c.entries i) → GivesEntry (Some i) l.next c i g
   gives-from_link c i g l distinct held =
       let s = Stands-occurs c.entries i (linked-occurs c.entries i (g, l) (sym held)) in

@@ -28,7 +28,7 @@ module _ {P T M N : Type 0} (numbers : P → ℕ × ℕ) (step : M → P → T �
         after = c.after;
       }
 
--- a compression in states of one kind is one in those of another
+-- a compression in states of one kind is one in states of another
 module _ {P T M F : Type 0} (numbers : P → ℕ × ℕ) (below : M → P → T → P → T → M → Type 0) (above : F → P → T → P → T → F → Type 0) (g : ℕ)
     (state : M → F) (like : (m : M) (p : P) (x : T) (q : P) (y : T) (n : M) → below m p x q y n → above (state m) p x q y (state n))
     (m : M) (old new : Chain T) where

@@ -1,4 +1,4 @@
--- Lists of entries: where an index stands, and what an insertion or a removal there does to the links.
+-- Lists of entries: the place of an index, and how an insertion or a removal there changes the links.
 use Rattle.std.proofs.Common.{◌≡◌, ◌≢◌, ℕ, zero, suc, ◌+◌, ◌≤◌, ◌==◌, true, false, List, [], ◌∷◌, ◌++◌, length, Option, Some, None, is_some, refl, ap, arith, if◌then◌else◌, inl, inr, ◌⊎◌}
 use Rattle.std.proofs.{lemmas.Bool.Decides.nat_tests, lemmas.Bool.Decides.eqb_tells, lemmas.Grind.common_steps}
 use Rattle.std.specs.Option.{option_or, option_map}
@@ -21,7 +21,7 @@ pub record SameIndexes {T U : Type 0} (es : List (Entry T)) (fs : List (Entry U)
   pub count : (i : ℕ) → times i es ≡ times i fs
   pub long : length es ≡ length fs
 
--- an index is itself
+-- an index equals itself
 pub same_index : (i : ℕ) → (i == i) ≡ true
 same_index i = grind (arith, nat_tests)
 
@@ -50,31 +50,31 @@ module _ {T : Type 0} where
   last_or-there i [] = refl
   last_or-there i (e ∷ es) = last_or-there e.index es
 
-  -- two stretches of a chain, of which the first goes on to `next` and the second comes from `prev`
+  -- two stretches of a list: the first leads on to `next`, the second back to `prev`
   abbrev pub seam : Option ℕ → List (Entry T) → Option ℕ → Option ℕ → List (Entry T) → Option ℕ → ℕ → Option (ℕ × Link T)
   seam before xs next prev ys after i = option_or (link_between before next xs i) (link_between prev after ys i)
 
-  -- a stretch of a chain in two parts
+  -- a stretch of a list in two parts
   pub link_between-append : (before after : Option ℕ) (xs ys : List (Entry T)) (i : ℕ)
       → link_between before after (xs ++ ys) i ≡ seam before xs (first_or after ys) (last_or before xs) ys after i
   link_between-append before after [] ys i = refl
   link_between-append before after (x ∷ xs) ys i = grind (arith, common_steps, link_between-append (Some x.index) after xs ys i)
 
-  -- the last index stands in the list
+  -- the last index occurs in the list
   pub times-last : (es : List (Entry T)) (i : ℕ) → last_or None es ≡ Some i → 1 ≤ times i es
   times-last (e ∷ f ∷ es) i last = omega (arith, times-last (f ∷ es) i last)
   times-last es i last = grind (arith, common_steps)
 
-  -- the first index stands in the list
+  -- the first index occurs in the list
   pub times-first : (es : List (Entry T)) (i : ℕ) → first_or None es ≡ Some i → 1 ≤ times i es
   times-first es i first = grind (arith, common_steps)
 
-  -- an index that stands nowhere in a stretch names nothing there
+  -- an index that doesn't occur in a stretch finds nothing there
   pub link_between-absent : (before after : Option ℕ) (es : List (Entry T)) (i : ℕ) → times i es ≡ 0 → link_between before after es i ≡ None
   link_between-absent before after [] i absent = refl
   link_between-absent before after (e ∷ es) i absent = grind (arith, common_steps, link_between-absent (Some e.index) after es i)
 
-  -- an index that names nothing in a stretch stands nowhere in it
+  -- an index that finds nothing in a stretch doesn't occur there
   pub times-unlinked : (before after : Option ℕ) (es : List (Entry T)) (i : ℕ) → link_between before after es i ≡ None → times i es ≡ 0
   times-unlinked before after [] i unlinked = refl
   times-unlinked before after (e ∷ es) i unlinked = grind (arith, common_steps, times-unlinked (Some e.index) after es i)
@@ -87,15 +87,15 @@ module _ {T : Type 0} where
   pub entry_at-some : (es : List (Entry T)) (i : ℕ) → is_some (entry_at es i) ≡ is_some (link_at es i)
   entry_at-some es i = grind (arith, common_steps, entry_at-link None None es i)
 
-  -- an index with a link stands in the list
+  -- an index with a link occurs in the list
   pub linked-occurs : (es : List (Entry T)) (i : ℕ) (e : ℕ × Link T) → link_at es i ≡ Some e → 1 ≤ times i es
   linked-occurs es i e is = grind (arith, common_steps, i, link_between-absent)
 
-  -- what an index holds, changed where the option names it
+  -- what an index holds, changed if the option names it
   abbrev pub if_named : Option ℕ → ℕ → (ℕ × Link T → ℕ × Link T) → Option (ℕ × Link T) → Option (ℕ × Link T)
   if_named named i change o = if names named i then option_map change o else o
 
-  -- another far end is seen by the last index alone
+  -- only the last index sees another far end
   module _ (after other : Option ℕ) (i : ℕ) where
     pub link_between-after : (before : Option ℕ) (es : List (Entry T)) → times i es ≤ 1
         → link_between before other es i ≡ if_named (last_or None es) i (with_next other) (link_between before after es i)
@@ -104,13 +104,13 @@ module _ {T : Type 0} where
     link_between-after before (e ∷ f ∷ es) once =
         grind (arith, common_steps, link_between-after (Some e.index) (f ∷ es), times-last (f ∷ es) i, names_tells (last_or None (f ∷ es)) i)
 
-  -- another near end is seen by the first index alone
+  -- only the first index sees another near end
   module _ (before after other : Option ℕ) (es : List (Entry T)) where
     pub link_between-before : (i : ℕ)
         → link_between other after es i ≡ if_named (first_or None es) i (with_prev other) (link_between before after es i)
     link_between-before i = grind (arith, common_steps)
 
-  -- where an index stands in a list, for the first time, and what becomes of the list by a change there
+  -- the first place of an index in a list, and what a change there makes of the list
   pub record Stands (es : List (Entry T)) (i : ℕ) : Type 0 where
     pub front : List (Entry T)
     pub entry : Entry T
@@ -122,7 +122,7 @@ module _ {T : Type 0} where
     pub after : (new : Entry T) → insert_after i new es ≡ front ++ entry ∷ new ∷ back
     pub before : (new : Entry T) → insert_before i new es ≡ front ++ new ∷ entry ∷ back
 
-  -- an index that occurs stands somewhere
+  -- an index that occurs has a place
   pub Stands-occurs : (es : List (Entry T)) (i : ℕ) → 1 ≤ times i es → Stands es i
   Stands-occurs [] i occurs = absurd (omega arith)
   Stands-occurs (e ∷ es) i occurs =
@@ -157,7 +157,7 @@ module _ {T : Type 0} where
   entry_at-absent [] i absent = refl
   entry_at-absent (e ∷ es) i absent = grind (arith, common_steps, entry_at-absent es i)
 
-  -- the seam of two stretches is moved by two writes
+  -- two writes move the seam of two stretches
   module _ (xs ys : List (Entry T)) (after before next prev : Option ℕ) (i : ℕ) (once : times i xs + times i ys ≤ 1) where
     pub seam-relinked : seam None xs next prev ys None i ≡ relinked (last_or None xs) next (first_or None ys) prev i (seam None xs after before ys None i)
     seam-relinked =
@@ -194,7 +194,7 @@ module _ {T : Type 0} where
   entries_met-row at before (e ∷ es) zero fits row = absurd (omega arith)
   entries_met-row at before (e ∷ es) (suc n) fits row = rw row.0 (ap (λ xs. e ∷ xs) (entries_met-row at (Some e.index) es n (omega arith) row.1))
 
-  -- the list with another generation and another item at this index, by a map of the two
+  -- the list with another generation and another item at this index, by a map of both
   abbrev pub changed_at : (ℕ × T → ℕ × T) → List (Entry T) → ℕ → List (Entry T)
   changed_at f [] i = []
   changed_at f (e ∷ es) i = let p = f (e.generation, e.item) in
@@ -209,22 +209,22 @@ module _ {T : Type 0} where
   with_generation-changed_at (e ∷ es) i g = grind (arith, common_steps, with_generation-changed_at es i g)
 
   module _ (f : ℕ × T → ℕ × T) where
-    -- no index is changed
+    -- no index changes
     pub same-changed_at : (es : List (Entry T)) (i : ℕ) → SameIndexes (changed_at f es i) es
     same-changed_at [] i = grind (arith, common_steps)
     same-changed_at (e ∷ es) i = grind (arith, common_steps, same-changed_at es i)
 
-    -- every other index finds what it found
+    -- every other index finds the same
     pub entry_at-changed_at_other : (es : List (Entry T)) (i j : ℕ) → j ≢ i → entry_at (changed_at f es i) j ≡ entry_at es j
     entry_at-changed_at_other [] i j other = refl
     entry_at-changed_at_other (e ∷ es) i j other = grind (arith, common_steps, entry_at-changed_at_other es i j other)
 
-    -- and the index itself the changed entry
+    -- and the index itself finds the changed entry
     pub entry_at-changed_at : (es : List (Entry T)) (i : ℕ) → entry_at (changed_at f es i) i ≡ option_map f (entry_at es i)
     entry_at-changed_at [] i = refl
     entry_at-changed_at (e ∷ es) i = grind (arith, common_steps, entry_at-changed_at es i)
 
-    -- the change of an entry, as one of its link
+    -- the change of an entry, as a change of its link
     abbrev pub changed_link : ℕ × Link T → ℕ × Link T
     changed_link e = let p = f (e.0, e.1.item) in (p.0, record e.1 { item = p.1 })
 

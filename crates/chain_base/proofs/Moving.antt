@@ -1,4 +1,4 @@
--- An entry that goes to another place of the list: its neighbours are linked to each other, and it between its new ones.
+-- An entry moves to another place in the list: its neighbours are linked to each other, and it is linked to its new ones.
 use Rattle.std.proofs.Common.{◌≡◌, ◌≢◌, ℕ, ◌+◌, ◌≤◌, ◌==◌, List, [], ◌∷◌, ◌++◌, Option, Some, None, IsSome, is_some, sym, ap, ◌∙◌, subst, arith, if◌then◌else◌, option_map, ◌⊎◌, inl, inr, refl}
 use Rattle.std.proofs.{lemmas.Bool.Decides.eqb_tells, lemmas.Grind.common_steps}
 use Rattle.arena_base.specs.{Arena.Arena, Arena.slot, Pointer.named_of}
@@ -9,11 +9,11 @@ use Rattle.chain_base.proofs.Lists.{Stands-occurs, entry_at-absent, entry_at-lin
 use Rattle.chain_base.proofs.{Steps.Lies, Steps.lies-alike, Steps.held-laid, Steps.first_or-end, Steps.last_or-end, Vacancy.held-is, Exchanging.occupied-named}
 
 module _ {T : Type 0} where
-  -- what an entry between two stretches holds
+  -- the link of an entry between two stretches
   link_at-amid : (xs : List (Entry T)) (e : Entry T) (ys : List (Entry T)) → times e.index (xs ++ e ∷ ys) ≤ 1 → link_at (xs ++ e ∷ ys) e.index ≡ Some (e.generation, link_amid xs e.item ys)
   link_at-amid xs e ys once = grind (arith, common_steps, times-append, times-here, link_between-append, link_between-absent, same_index)
 
-  -- both writes of a seam keep what has entries
+  -- both writes of a seam keep the occupied indexes
   pub alike-over : (b a : Arena (Link T)) (left next right prev : Option ℕ) → Alike b a → Alike (bridged b left next right prev) a
   alike-over b a left next right prev same = alike-prev (linked_next b left next) a _ right prev refl (alike-next b a _ left next refl same)
 
@@ -21,9 +21,9 @@ module _ {T : Type 0} where
   pub ends-occur : (xs ys : List (Entry T)) (k : ℕ) → (last_or None xs ≡ Some k) ⊎ (first_or None ys ≡ Some k) → 1 ≤ times k (xs ++ ys)
   ends-occur xs ys k is = grind (arith, common_steps, times-last xs k, times-first ys k, times-append k xs ys)
 
-  -- an entry between two stretches, where no index stands twice
+  -- an entry between two stretches, if the indexes are distinct
   module _ (xs : List (Entry T)) (e : Entry T) (ys : List (Entry T)) (distinct : IsDistinct (xs ++ e ∷ ys)) where
-    -- once its neighbours are linked to each other
+    -- after its neighbours are linked to each other
     module _ (k : ℕ) (o : Option (ℕ × Link T)) (was : o ≡ link_at (xs ++ e ∷ ys) k) where
       abbrev closed_over : Option (ℕ × Link T) → Option (ℕ × Link T)
       closed_over p = relinked (last_or None xs) (first_or None ys) (first_or None ys) (last_or None xs) k p
@@ -37,7 +37,7 @@ module _ {T : Type 0} where
           relinked-apart xs ys (first_or None ys) (last_or None xs) k o (omega (arith, parts)) (omega (arith, parts))
           ∙ was ∙ ap (link_at (xs ++ e ∷ ys)) (sym same) ∙ link_at-amid xs e ys (distinct e.index)
 
-      -- and it stands between two others
+      -- and after it is linked between two others
       module _ (xs2 ys2 : List (Entry T)) (split : xs ++ ys ≡ xs2 ++ ys2) where
         abbrev lifted : Option (ℕ × Link T)
         lifted = relinked (Some e.index) (first_or None ys2) (Some e.index) (last_or None xs2) k (closed_over o)
@@ -63,7 +63,7 @@ module _ {T : Type 0} where
     times-put xs2 ys2 split k =
         omega (arith, sym (times-append k xs ys) ∙ ap (times k) split ∙ times-append k xs2 ys2, times-append k xs (e ∷ ys), times-append k xs2 (e ∷ ys2))
 
-    -- the arena once the neighbours are linked to each other, and once the entry stands between two others
+    -- the arena after the neighbours are linked to each other, and after the entry is linked between two others
     module _ (a : Arena (Link T)) (first last : Option ℕ) (laid : IsLaidOut a.slots first last (xs ++ e ∷ ys)) where
       abbrev pub closed : Arena (Link T)
       closed = bridged a (last_or None xs) (first_or None ys) (first_or None ys) (last_or None xs)
@@ -112,7 +112,7 @@ module _ {T : Type 0} where
             let last2 : end_beside (first_or None ys2) last_closed (Some e.index) ≡ last_or (Some e.index) ys2 = rw (last1, split) (last_or-end xs2 ys2 (Some e.index)) in
             rw (first2, last2) (lies-alike a put _ _ _ alike-put put-laid)
 
-  -- the chain c lies in an arena, and the entry of index i, which holds e, stands between two stretches of its list
+  -- the chain c is in an arena, and the entry at index i, which holds e, is between two stretches of its list
   pub record Stood (a : Arena (Link T)) (first last : Option ℕ) (c : Chain T) (i : ℕ) (e : ℕ × Link T) : Type 0 where
     pub laid : IsLaidOut a.slots first last c.entries
     pub seen : chain_of a first ≡ c
@@ -139,7 +139,7 @@ module _ {T : Type 0} where
     laid_split : IsLaidOut a.slots first last (st.front ++ st.entry ∷ st.back)
     laid_split = subst (λ (es : List (Entry T)). IsLaidOut a.slots first last es) st.split st.laid
 
-    -- an index of the list has an entry in each arena that holds entries at the same indexes
+    -- an index of the list is occupied in each arena with entries at the same indexes
     occurs-held : (b : Arena (Link T)) → Alike b a → (k : ℕ) → 1 ≤ times k c.entries → IsSome (slot b k)
     occurs-held b same k there = same.held k ∙ held-is a.slots _ k (held-laid a.slots first last _ st.laid) there
 
@@ -160,7 +160,7 @@ module _ {T : Type 0} where
           let there = ends-occur at.front at.back k (rw (at.prev_is, at.next_is) at is) in
           occurs-held b same k (rest-occurs k (rw at.split there))
 
-    -- from what the writes of links ensure: first the neighbours are linked to each other
+    -- given what the writes of links ensure, first the neighbours are linked to each other
     module _ (most : ℕ) (greatest : Option ℕ) (sound : IsSound most greatest c) (prev next : Option ℕ) (prev_is : prev ≡ e.1.prev) (next_is : next ≡ e.1.next)
         (named_prev : named_of e.1.prev ≡ e.1.prev) (named_next : named_of e.1.next ≡ e.1.next)
         (b1 : Arena (Link T)) (made1 : b1 ≡ bridged a prev (named_of next) next (named_of prev)) where
@@ -198,7 +198,7 @@ module _ {T : Type 0} where
         place-occurs : (k : ℕ) → (left ≡ Some k) ⊎ (right ≡ Some k) → 1 ≤ times k c.entries
         place-occurs k is = rest-occurs k (rw at.split (ends-occur at.front at.back k (rw (at.prev_is, at.next_is) at is)))
 
-        -- then the entry between its new neighbours
+        -- then the entry is linked between its new neighbours
         module _ (first1 last1 : Option ℕ) (first1_is : first1 ≡ end_beside prev first next) (last1_is : last1 ≡ end_beside next last prev)
             (b2 b3 b4 : Arena (Link T)) (made2 : b2 ≡ linked_next b1 (Some i) (named_of right)) (made3 : b3 ≡ linked_prev b2 (Some i) (named_of left))
             (made4 : b4 ≡ bridged b3 left (named_of (Some i)) right (named_of (Some i))) (first2 last2 : Option ℕ)
@@ -237,7 +237,7 @@ module _ {T : Type 0} where
               = with_entry_moved-is ∙ ap (λ (d : Chain T). record d { entries = at.front ++ st.entry ∷ at.back }) (sym st.seen) in
               rw (arena, first_at, last_at, chain) done
 
-  -- an entry of a list, where the slots hold the list's links
+  -- an entry of a list, if the slots hold the list's links
   module _ (a : Arena (Link T)) (es : List (Entry T)) (holds : HoldsLinks a es) (k : ℕ) (there : IsSome (entry_at es k)) where
     listed-held : slot a k ≡ link_at es k
     listed-held = holds k (grind (arith, common_steps, entry_at-absent es k))

@@ -1,4 +1,4 @@
--- How far the entries have learnt the places of their neighbours.
+-- The state while the entries get the compressed indexes of their neighbours.
 use Rattle.std.proofs.Common.{◌≡◌, ◌≢◌, ℕ, ◌+◌, ◌<◌, ◌≤◌, true, false, List, [], ◌∷◌, length, Option, Some, cond, None, IsSome, IfSome, ◌↔◌, is_some, count_by, take, get_or, refl, sym, ap, ◌∙◌, arith, if◌then◌else◌, inl, inr, option_map, option_and_then}
 use Rattle.std.proofs.{lemmas.List.Sums.count_by_more_no, lemmas.List.Sums.count_by_more_yes, lemmas.Bool.Decides.eqb_tells}
 use Rattle.std.proofs.{lemmas.Option.none-some, lemmas.Option.same_Some, lemmas.Grind.common_steps, lemmas.Bool.false≢true}
@@ -9,7 +9,7 @@ use Rattle.chain_base.proofs.Renumbering.{opposite, beside, end_on, beside-occur
 use Rattle.chain_base.proofs.{Vacancy.HoldIndexes, Vacancy.held-is, Vacancy.held-occurs, Lists.names_tells, LaidOut.Alike, LaidOut.alike-next, LaidOut.alike-prev}
 
 module _ {T : Type 0} where
-  -- the indexes below c have told their places; so many of them have an entry
+  -- the entries at indexes below c have passed on their compressed indexes; `count` is their number
   pub record NamedBelow (side : Side) (old now : Arena (Link T)) (count : ℕ) (end : Option ℕ) (c : ℕ) : Type 0 where
     pub met : (i k : ℕ) → i < c → named_neighbour side old i ≡ Some k → slot now k ≡ option_map (with_facing side (Some (compressed_index_in old i))) (slot old k)
     pub unmet : (k : ℕ) → ((i : ℕ) → i < c → named_neighbour side old i ≢ Some k) → slot now k ≡ slot old k
@@ -20,16 +20,16 @@ module _ {T : Type 0} where
     pub names_same : (i : ℕ) → named_neighbour side now i ≡ named_neighbour side old i
     pub alike : Alike now old
 
-  -- at first: slot 0 has nothing
+  -- at the beginning: slot 0 is vacant
   pub named_neighbour-begins : (side : Side) (a : Arena (Link T)) → take 1 a.slots ≡ None ∷ [] → NamedBelow side a a 0 None 1
   named_neighbour-begins side a begins = grind (arith, common_steps)
 
-  -- a slot once the entry of an index, if one is named, has another neighbour
+  -- a slot after the entry at an index, if one is given, got another neighbour
   module _ (side : Side) (a : Arena (Link T)) (at other : Option ℕ) (j : ℕ) where
     slot-facing : slot (linked_facing side a at other) j ≡ (if names at j then option_map (with_facing side other) (slot a j) else slot a j)
     slot-facing = grind (arith, common_steps)
 
-  -- the arena holds entries at the same indexes, which have the same neighbours on the side itself
+  -- the arena has entries at the same indexes, with the same neighbours on the side itself
   alike-facing : (side : Side) (a b : Arena (Link T)) (at other : Option ℕ) → Alike a b → Alike (linked_facing side a at other) b
   alike-facing side a b at other same = grind (arith, common_steps, alike-next, alike-prev)
 
@@ -38,7 +38,7 @@ module _ {T : Type 0} where
 
   module _ (side : Side) (old now : Arena (Link T)) (count : ℕ) (end : Option ℕ) (c : ℕ) (b : NamedBelow side old now count end c) (inside : c < length old.slots)
       (paired : IsPaired side old) where
-    -- the index c has told its place: to the neighbour that it names, or as the end where it has an entry and names none
+    -- index c has passed on its compressed index: to the neighbour that it names, or as the end if it has an entry and names none
     module _ (next : Arena (Link T)) (more : ℕ) (last : Option ℕ)
         (slots : (j : ℕ) → slot next j ≡ (if names (named_neighbour side old c) j then option_map (with_facing side (Some (compressed_index_in old c))) (slot now j) else slot now j))
         (counted : more ≡ count_by is_some (take (c + 1) old.slots)) (fewer : more < c + 1)
@@ -81,11 +81,11 @@ module _ {T : Type 0} where
       name : named_neighbour side old c ≡ neighbour_on side e.1
       name = sym (b.names_same c) ∙ ap (option_and_then (λ e. neighbour_on side e.1)) held
 
-      -- the neighbour that the entry at c has is an entry
+      -- the neighbour of the entry at c is an entry
       pub named_neighbour-target : (k : ℕ) → neighbour_on side e.1 ≡ Some k → IsSome (slot now k)
       named_neighbour-target k is = let there : is_some (slot old k) ≡ true = paired.there c k (name ∙ is) in b.alike.held k ∙ there
 
-      -- its neighbour, if it has one, learns the place
+      -- its neighbour, if any, gets the compressed index
       module _ (o : Option ℕ) (is : o ≡ neighbour_on side e.1) (last : Option ℕ) (ends : is_some o ≡ false → last ≡ Some (count + 1))
           (goes : is_some o ≡ true → last ≡ end) (next : Arena (Link T)) where
         pub named_neighbour-step : next ≡ linked_facing side now o (Some (count + 1)) → NamedBelow side old next (count + 1) last (c + 1)
@@ -97,15 +97,15 @@ module _ {T : Type 0} where
             (λ i. rw linked (names-facing side now o (Some (count + 1)) i ∙ b.names_same i)) (rw linked (alike-facing side now old o (Some (count + 1)) b.alike))
             (λ some none. ends (ap is_some (sym here ∙ none)) ∙ place) (λ some. goes (grind (arith, common_steps, some is_held)))
 
-  -- an index with an entry lies within the slots
+  -- an occupied index is within the slots
   held-inside : (slots : List (Option (ℕ × Link T))) (i : ℕ) → is_some (get_or slots i None) ≡ true → i < length slots
   held-inside slots i held = grind (arith, common_steps)
 
-  -- an index that is named lies within the slots
+  -- an index that names a neighbour is within the slots
   named_neighbour-within : (side : Side) (a : Arena (Link T)) (i k : ℕ) → named_neighbour side a i ≡ Some k → i < length a.slots
   named_neighbour-within side a i k is = grind (arith, common_steps)
 
-  -- at last all have
+  -- in the end all have passed theirs on
   module _ (side : Side) (old now : Arena (Link T)) (count : ℕ) (end : Option ℕ) (c : ℕ) (b : NamedBelow side old now count end c) where
     pub named_neighbour-ends : length old.slots ≤ c → take 1 old.slots ≡ None ∷ [] → NamesCompressedIndexes side old now end
     named_neighbour-ends past begins =
@@ -120,7 +120,7 @@ module _ {T : Type 0} where
           within = b.alike.long;
         }
 
--- What is learnt where an arena's links name the neighbours that a list has, on this side; `place` tells the list's compressed indexes.
+-- The result if an arena's links name the neighbours of a list on this side; `place` is the list's compressed index.
 module _ {T : Type 0} (side : Side) (old : Arena (Link T)) (es : List (Entry T)) (distinct : IsDistinct es) (held : HoldIndexes old.slots es)
     (names : (i : ℕ) → named_neighbour side old i ≡ beside side es i) where
   pub paired : IsPaired side old
@@ -132,7 +132,7 @@ module _ {T : Type 0} (side : Side) (old : Arena (Link T)) (es : List (Entry T))
   }
 
   module _ (new : Arena (Link T)) (end : Option ℕ) (n : NamesCompressedIndexes side old new end) (place : ℕ → ℕ) (placed : (i : ℕ) → 1 ≤ times i es → compressed_index_in old i ≡ place i) where
-    -- each entry has learnt the place of its neighbour on the other side
+    -- each entry has the compressed index of its neighbour on the other side
     module _ (k : ℕ) (ends : beside (opposite side) es k ≡ None → option_map (with_facing side None) (slot old k) ≡ slot old k) where
       pub learnt : slot new k ≡ option_map (with_facing side (option_map place (beside (opposite side) es k))) (slot old k)
       learnt = by (beside (opposite side) es k) refl
@@ -152,10 +152,10 @@ module _ {T : Type 0} (side : Side) (old : Arena (Link T)) (es : List (Entry T))
             let occurs = end-occurs side es x is in
             rw (← placed x occurs) (n.end_is x (held-is old.slots es x held occurs) (names x ∙ (end-is side es x (omega (arith, distinct x, occurs))).1 is))
 
--- the index that is made of a number within the limit
+-- the index made from a number within the limit
 pub index-made : {I : Type 0} (number : I → ℕ) (most n : ℕ) (r : Option I) → (IsSome r ↔ ((0 < n) × (n ≤ most))) → IfSome r (λ i. number i ≡ n) → 0 < n → n ≤ most → option_map number r ≡ Some n
 index-made number most n o made value above within = grind (arith, common_steps)
 
--- it stands for itself in a link
+-- it can be named in a link
 pub neighbour-above : (n : ℕ) → 0 < n → named_of (Some n) ≡ Some n
 neighbour-above n above = elim (eqb_tells n 0) [ inl h ↦ absurd (omega arith) | inr h ↦ rw h.0 refl ]

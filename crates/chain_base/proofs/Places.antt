@@ -1,11 +1,11 @@
--- Where a new entry stands: the two stretches of the list that an insertion parts.
+-- Where a new entry goes: the two stretches of the list on its sides.
 use Rattle.std.proofs.Common.{◌≡◌, ℕ, List, [], ◌∷◌, ◌++◌, Some, None, sym, ap, ◌∙◌, arith, append_assoc, option_map}
 use Rattle.std.proofs.lemmas.Grind.{common_steps}
 use Rattle.chain_base.specs.{Chain.Entry, Chain.link_at, Chain.first_or, Chain.last_or, Chain.insert_after, Chain.insert_before, Link.Link, Insert.PutsBetween}
 use Rattle.chain_base.proofs.Lists.{link_between-append, link_between-absent, last_or-append, same_index, Stands, Stands-occurs}
 
 module _ {T : Type 0} where
-  -- the neighbours of the entry at an index, where the list is split there
+  -- the neighbours of the entry at an index, if the list is split there
   link_at-ends : (es : List (Entry T)) (i : ℕ) (l : Link T) → option_map (λ e. e.1) (link_at es i) ≡ Some l → (s : Stands es i)
       → (l.prev ≡ last_or None s.front) × (l.next ≡ first_or None s.back)
   link_at-ends es i l linked s = grind (arith, common_steps, s.here, s.unmet, i, s.split, linked, link_between-absent, link_between-append, same_index)

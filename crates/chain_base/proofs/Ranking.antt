@@ -1,4 +1,4 @@
--- The places of indexes among those with an entry, counted by rising index.
+-- The places of indexes among the occupied ones, counted by rising index.
 use Rattle.std.proofs.Common.{◌≡◌, ℕ, zero, suc, ◌+◌, ◌-◌, ◌<◌, ◌≤◌, List, [], ◌∷◌, ◌++◌, length, map, take, replicate, slice_get, Option, Some, None, is_some, count_by, cond, get_or, add-zero, refl, sym, ap, ◌∙◌, arith, add-one, inl, inr, option_map}
 use Rattle.std.proofs.{lemmas.Bool.Decides.nat_tests, lemmas.Bool.Decides.leb_tells, lemmas.List.take_all, lemmas.List.get_or_past}
 use Rattle.std.proofs.{lemmas.List.Sums.sum_by-cons, lemmas.List.Sums.sum_by_more, lemmas.Grind.common_steps}
@@ -19,7 +19,7 @@ module _ {T : Type 0} where
   lesser-le [] i j le = omega arith
   lesser-le (e ∷ es) i j le = let ih = lesser-le es i j le in grind (arith, nat_tests)
 
-  -- of two indexes with an entry the lesser has the lesser place
+  -- of two occupied indexes the lesser has the lesser place
   pub lesser-below : (es : List (Entry T)) (i j : ℕ) → 1 ≤ times i es → i < j → lesser es i < lesser es j
   lesser-below es i j occurs below = omega (arith, lesser-le es (i + 1) j (omega arith), lesser-next es i)
 
@@ -36,7 +36,7 @@ module _ {T : Type 0} where
   lesser-most [] i = omega arith
   lesser-most (e ∷ es) i = grind (arith, common_steps, lesser-most es i)
 
-  -- each number below that of the indexes lesser than m is an entry's place
+  -- each number below the place of m is the place of an entry
   pub place-found : (es : List (Entry T)) → IsDistinct es → (m k : ℕ) → k < lesser es m → (i : ℕ) × (i < m) × (lesser es i ≡ k) × (1 ≤ times i es)
   place-found es distinct zero k more = absurd (omega (arith, more, lesser-zero es))
   place-found es distinct (suc m) k more =
@@ -46,12 +46,12 @@ module _ {T : Type 0} where
         | inr h ↦ (m, omega arith, omega (arith, h.1, more, next, distinct m), omega (arith, h.1, more, next))
       ]
 
--- one slot more is counted
+-- one more slot is counted
 count-next : {X : Type 0} (slots : List (Option X)) (i : ℕ) → count_by is_some (take (i + 1) slots) ≡ count_by is_some (take i slots) + cond (is_some (get_or slots i None)) 1 0
 count-next slots i = grind (arith, common_steps, sum_by_more, take_all, get_or_past)
 
 module _ {X T : Type 0} where
-  -- the slots count as the list does
+  -- counting slots and counting in the list agree
   pub place-slots : (slots : List (Option X)) (es : List (Entry T)) → HoldIndexes slots es → (i : ℕ) → count_by is_some (take i slots) ≡ lesser es i
   place-slots slots es held zero = sym (lesser-zero es)
   place-slots slots es held (suc i) =
@@ -99,7 +99,7 @@ module _ {X : Type 0} where
   pub compressed-first : (n : ℕ) (xs : List (Option (ℕ × X))) → get_or (resized n (None ∷ xs)) 0 None ≡ None
   compressed-first n xs = grind (arith, common_steps, get_or-vacant)
 
-  -- its entries stand one after the other
+  -- its entries are in a row
   filled-count : (g : ℕ) (xs : List X) (n k : ℕ) → k ≤ length xs → count_by is_some (take k (map (λ x. Some (with_era g x)) xs ++ replicate n None)) ≡ k
   filled-count g (x ∷ xs) n (suc k) within = grind (arith, common_steps, filled-count g xs n k)
   filled-count g xs n k within = grind (arith, common_steps)
@@ -107,7 +107,7 @@ module _ {X : Type 0} where
   pub compressed-place : (n g : ℕ) (xs : List X) (k : ℕ) → length xs < n → k ≤ length xs → count_by is_some (take (k + 1) (compact n g xs)) ≡ k
   compressed-place n g xs k fits within = grind (arith, common_steps, compact-is, sum_by-cons, filled-count)
 
--- the entries by rising index, from slots and from the list: `at` tells what the list has at an index, `among` lists that
+-- the entries by rising index, from slots and from the list: `at` is what the list has at an index, `among` lists that
 module _ {X Y : Type 0} (see : X → Y) (at : ℕ → Option (ℕ × Y)) (among : ℕ → ℕ → List (ℕ × ℕ × Y)) (none : (i : ℕ) → among i 0 ≡ [])
     (next : (i n : ℕ) → among i (suc n) ≡ entry_before i (at i) (among (i + 1) n)) where
   abbrev seen : Option (ℕ × X) → Option (ℕ × Y)

@@ -1,4 +1,4 @@
--- The links of a list: neighbours name each other; and of a list whose entries get other indexes.
+-- The links of a list, in which neighbours name each other, and the links of a list whose entries get other indexes.
 use Rattle.std.proofs.Common.{◌≡◌, ◌≢◌, ℕ, ◌+◌, ◌≤◌, List, [], ◌∷◌, ◌++◌, map, Option, Some, None, is_some, get_or, refl, sym, ap, ◌∙◌, subst, arith, true, append_assoc, option_map, option_and_then, ◌↔◌}
 use Rattle.std.proofs.{lemmas.Option.none-some, lemmas.Option.same_Some, lemmas.Grind.common_steps}
 use Rattle.chain_base.specs.Chain.{Entry, IsDistinct, times, entry_at, first_or, last_or, link_between, link_at}
@@ -19,7 +19,7 @@ module _ {T : Type 0} where
     pub link_at-split : link_at es i ≡ Some (e.generation, record { item = e.item; prev = last_or None xs; next = first_or None ys })
     link_at-split = grind (arith, common_steps, split, distinct, times-append, times-here, here, link_between-append, link_between-absent, same_index)
 
-  -- the neighbour on a side that the link of an entry names, where the list stands behind `before`
+  -- the neighbour on a side that the link of an entry names, if the list follows `before`
   abbrev beside_in : Side → Option ℕ → List (Entry T) → ℕ → Option ℕ
   beside_in side before es i = option_and_then (λ e. neighbour_on side e.1) (link_between before None es i)
 
@@ -77,7 +77,7 @@ module _ {T : Type 0} where
       let count = ap (times k) s.split ∙ times-append k s.front (s.entry ∷ s.back) in
       (λ same. omega (arith, there, count, distinct k, times-here k s.entry s.back (s.here ∙ same)), omega (arith, there, count))
 
-  -- an entry without a neighbour on a side is the one at that end
+  -- an entry without a neighbour on a side is at that end
   before-some : (b : ℕ) (es : List (Entry T)) (i : ℕ) → 1 ≤ times i es → beside_in Before (Some b) es i ≡ None → ⊥
   before-some b [] i occurs none = absurd (omega arith)
   before-some b (e ∷ es) i occurs none = grind (arith, common_steps, before-some e.index es i)
@@ -102,7 +102,7 @@ module _ {T : Type 0} where
     abbrev pub altered : Entry T → Entry T
     altered e = let p = alter e.index (e.generation, e.item) in record { index = renumber e.index; generation = p.0; item = p.1 }
 
-    -- its link then
+    -- the link of an entry afterwards
     abbrev pub followed : ℕ → ℕ × Link T → ℕ × Link T
     followed x e = let p = alter x (e.0, e.1.item) in (p.0, record { item = p.1; prev = option_map renumber e.1.prev; next = option_map renumber e.1.next })
 
@@ -117,11 +117,11 @@ module _ {T : Type 0} where
     end-renumbered Before xs = first_or-renumbered xs
     end-renumbered After xs = last_or-renumbered None xs
 
-    -- no other index of the list becomes what this one becomes
+    -- no other index of the list gets the same new index
     abbrev pub IsAlone : List (Entry T) → ℕ → Type 0
     IsAlone es x = (y : ℕ) → 1 ≤ times y es → renumber y ≡ renumber x → y ≡ x
 
-    -- then it stands as often, and has the same neighbours
+    -- then it occurs as often, and has the same neighbours
     pub times-renumbered : (es : List (Entry T)) (x : ℕ) → IsAlone es x → times (renumber x) (map altered es) ≡ times x es
     times-renumbered [] x apart = refl
     times-renumbered (e ∷ es) x apart = grind (arith, common_steps, times-renumbered es x)
@@ -135,7 +135,7 @@ module _ {T : Type 0} where
     link-kept b [] x apart = refl
     link-kept b (e ∷ es) x apart = grind (arith, common_steps, first_or-renumbered es, link-kept (Some e.index) es x)
 
-    -- an index of the new list was another of the old one
+    -- an index of the new list comes from one of the old list
     pub times-source : (es : List (Entry T)) (k : ℕ) → 1 ≤ times k (map altered es) → (x : ℕ) × (renumber x ≡ k) × (1 ≤ times x es)
     times-source [] k occurs = absurd (omega arith)
     times-source (e ∷ es) k occurs = grind (arith, common_steps, times-source es k)

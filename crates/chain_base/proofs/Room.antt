@@ -1,4 +1,4 @@
--- Room for one more entry: where a chain has it, and what a growth makes of it.
+-- Room for one more entry: when a chain has it, and what growing does.
 use Rattle.std.proofs.Common.{◌≡◌, ℕ, zero, suc, ◌+◌, ◌*◌, ◌<◌, ◌≤◌, List, [], ◌∷◌, length, Option, None, IsSome, is_some, Bool, true, false, refl, sym, ap, ◌∙◌, slice_get, Some, Result, Ok, Err, IfOk, OnErr, min, max, nat_lt, if◌then◌else◌, arith}
 use Rattle.std.proofs.lemmas.Grind.{common_steps}
 use Rattle.chain_base.specs.Chain.{Entry, Chain, times, inserted_at, greatest_index, vacant_among, next_index, grown_capacity, with_capacity, with_room, IsSound}
@@ -6,11 +6,11 @@ use Rattle.chain_base.specs.Insert.{IsInsertion}
 use Rattle.chain_base.proofs.Vacancy.{greatest-occurs}
 
 module _ {T : Type 0} where
-  -- a chain with a new entry of this index and generation at a place, and these vacant indexes
+  -- a chain with a new entry of this index and generation at a place, and this free list
   abbrev pub with_new : Chain T → (Entry T → List (Entry T)) → T → ℕ → ℕ → List ℕ → Chain T
   with_new c place item i g vacant = record c { entries = place (record { index = i; generation = g; item = item }); vacant = vacant }
 
-  -- an insertion makes that of a chain, and takes the first vacant index
+  -- an insertion has this result, and takes the first index of the free list
   pub after-insertion : (old new : Chain T) (place : Entry T → List (Entry T)) (item : T) (i g : ℕ) → IsInsertion old new place item i g
       → (rest : List ℕ) × (new ≡ with_new old place item i g rest)
   after-insertion old new place item i g inserted = go old.vacant inserted.next inserted.after
@@ -21,7 +21,7 @@ module _ {T : Type 0} where
           (rest, after ∙ ap (λ k. with_new old place item k old.generation rest) here ∙ ap (λ era. with_new old place item i era rest) (sym inserted.generation))
 
   module _ (most : ℕ) (c : Chain T) where
-    -- without a maximum the capacity grows just where no slot is vacant
+    -- without a maximum, the capacity grows exactly if no slot is vacant
     abbrev pub roomy_capacity : ℕ
     roomy_capacity = if nat_lt (length c.entries) c.capacity then c.capacity else min most (max 4 (2 * c.capacity))
 
@@ -45,7 +45,7 @@ module _ {T : Type 0} where
     capacity-kept (Ok p) inserted same = ap (λ (c : Chain T). c.capacity) (after-insertion old new place item (numbers p).0 (numbers p).1 inserted).1
     capacity-kept (Err e) inserted same = ap (λ (c : Chain T). c.capacity) same
 
-  -- an index that no entry has is among the vacant ones, so that there is a first of them
+  -- an index that no entry has is vacant, so there is a first vacant one
   vacant_among-some : (es : List (Entry T)) (from count k : ℕ) → from ≤ k → k < from + count → times k es ≡ 0 → IsSome (slice_get (vacant_among es from count) 0)
   vacant_among-some es from zero k above below free = absurd (omega arith)
   vacant_among-some es from (suc count) k above below free = grind (arith, common_steps, vacant_among-some es (from + 1) count k)
@@ -55,7 +55,7 @@ module _ {T : Type 0} where
     pub greatest-within : greatest_index c.entries ≤ c.capacity
     greatest-within = grind (arith, common_steps, greatest-occurs c.entries, sound.within (greatest_index c.entries))
 
-    -- where no slot is vacant, a capacity above the present one has a vacant index
+    -- if no slot is vacant, a greater capacity has a vacant index
     module _ (full : c.capacity ≤ length c.entries) (n : ℕ) (more : c.capacity < n) where
       pub next-grown : IsSome (next_index (with_capacity c (max n (greatest_index c.entries))))
       next-grown = grind (arith, common_steps, sound.within n, vacant_among-some c.entries 1 (max n (greatest_index c.entries)) n)

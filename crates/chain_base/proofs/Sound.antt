@@ -1,4 +1,4 @@
--- What is true of every arena, said of the chain that lies in it.
+-- What holds of every arena, in terms of the chain in it.
 use Rattle.std.proofs.Common.{◌≡◌, ℕ, ◌<◌, ◌≤◌, List, [], ◌∷◌, length, Option, None, IsSome, ap, ◌∙◌, arith, get_or, take, Result, OnOk, OnErr}
 use Rattle.std.proofs.lemmas.Grind.{common_steps}
 use Rattle.std.specs.Option.{option_map, ForSome}
@@ -12,7 +12,7 @@ module _ {T : Type 0} where
   pub occupied-within : (a : Arena (Link T)) (es : List (Entry T)) (i : ℕ) → HoldIndexes a.slots es → 1 ≤ times i es → i ≤ arena_capacity a
   occupied-within a es i held occurs = omega (arith, held-within a.slots es i held occurs)
 
-  -- slot 0 is vacant where the slots begin with a vacant one
+  -- slot 0 is vacant if the slots begin with a vacant one
   pub first-vacant : (slots : List (Option (ℕ × Link T))) → take 1 slots ≡ None ∷ [] → (get_or slots 0 None ≡ None) × (0 < length slots)
   first-vacant slots begins = grind (arith, common_steps)
 

@@ -1,4 +1,4 @@
--- What each call does to the chain that lies in the arena.
+-- What each call does to the chain in the arena.
 use Rattle.std.proofs.Common.{◌≡◌, ℕ, ◌+◌, ◌-◌, ◌<◌, List, [], ◌∷◌, ◌++◌, length, Option, Some, None, is_some, cond, refl, sym, ap, subst, ◌∙◌, arith, if◌then◌else◌, slice_get, length-set, replicate}
 use Rattle.std.proofs.{lemmas.List.length-replicate, lemmas.Grind.common_steps}
 use Rattle.arena_base.specs.Arena.{Arena, slot, with_entry_at, arena_capacity, with_capacity as arena_with_capacity, removed as arena_removed, renewed as arena_renewed, cleared as arena_cleared, resized, IsInsertion as IsArenaInsertion}
@@ -8,13 +8,13 @@ use Rattle.chain_base.proofs.LaidOut.{IsChainIn, laid-links, IsLaidOut-walked, A
 use Rattle.chain_base.proofs.Lists.{entry_at-some, linked-occurs, last_or-append, times-unlinked, Stands-occurs, Stands, last_or-there, with_item_among-changed_at, with_generation-changed_at}
 use Rattle.chain_base.proofs.Vacancy.{HoldIndexes, held-links, vacant-held, get_or-vacant, get_or-resized, length-resized}
 
--- the list of vacant indexes begins with the next one
+-- the free list begins with the next index
 next-first : (is : List ℕ) (i : ℕ) → slice_get is 0 ≡ Some i → (rest : List ℕ) × (is ≡ i ∷ rest)
 next-first [] i next = absurd (cc)
 next-first (k ∷ rest) i next = let same : k ≡ i = cc in (rest, ap (λ n. n ∷ rest) same)
 
 module _ {T : Type 0} where
-  -- the chain c lies in an arena, between these ends
+  -- the chain c is in an arena, between these ends
   pub record Lies (a : Arena (Link T)) (first last : Option ℕ) (c : Chain T) : Type 0 where
     pub laid : IsChainIn a first last
     pub chain : chain_of a first ≡ c
@@ -25,22 +25,22 @@ module _ {T : Type 0} where
     lies vacant generation maximum =
         record { laid = IsLaidOut-walked a first last c.entries laid; chain = rw (entries_met-laid_out a first last c.entries laid, capacity, vacant, generation, maximum) refl }
 
-  -- an arena with other slots that hold entries at the same indexes
+  -- an arena with other slots and entries at the same indexes
   module _ (a b : Arena (Link T)) (first last : Option ℕ) (es : List (Entry T)) (same : Alike b a) where
     pub lies-alike : IsLaidOut b.slots first last es
         → Lies b first last (record { entries = es; capacity = arena_capacity a; vacant = a.vacant; generation = a.generation; maximum = a.maximum })
     lies-alike laid = lies b first last _ laid (ap (λ n. n - 1) same.long) (ap (λ (a : Arena (Link T)). a.vacant) same.kept)
         (ap (λ (a : Arena (Link T)). a.generation) same.kept) (ap (λ (a : Arena (Link T)). a.maximum) same.kept)
 
-  -- an index of a laid list is one whose slot holds a link
+  -- an index occurs in a list in an arena exactly if its slot holds a link
   pub held-laid : (slots : List (Option (ℕ × Link T))) (first last : Option ℕ) (es : List (Entry T)) → IsLaidOut slots first last es → HoldIndexes slots es
   held-laid slots first last es laid = held-links slots es laid.distinct laid.links
 
-  -- the first of a list that goes on, or another first where there is nothing before
+  -- the first of a list that goes on, or another first if nothing is before it
   pub first_or-end : (xs zs : List (Entry T)) (d : Option ℕ) → (if is_some (last_or None xs) then first_or None (xs ++ zs) else d) ≡ first_or d xs
   first_or-end xs zs d = grind (arith, common_steps, last_or-there)
 
-  -- the last of a list that was there before, or another last where there is nothing after
+  -- the last of a list that goes before, or another last if nothing is after it
   pub last_or-end : (zs ys : List (Entry T)) (d : Option ℕ) → (if is_some (first_or None ys) then last_or None (zs ++ ys) else d) ≡ last_or d ys
   last_or-end zs ys d = grind (arith, common_steps, last_or-append)
 
@@ -87,19 +87,19 @@ module _ {T : Type 0} where
           };
         })
 
-  -- where all slots beyond n are vacant, a capacity of n keeps the list
+  -- if all slots beyond n are vacant, a capacity of n keeps the list
   module _ (a : Arena (Link T)) (first last : Option ℕ) (es : List (Entry T)) (n : ℕ) (rest : (k : ℕ) → n < k → slot a k ≡ None) where
     pub IsLaidOut-resized : IsLaidOut a.slots first last es → IsLaidOut (resized (n + 1) a.slots) first last es
     IsLaidOut-resized laid =
         laid-links _ _ _ _ (λ i. get_or-resized (n + 1) a.slots i (λ k far. rest k (omega arith)) ∙ laid.links i) laid.distinct laid.first_is laid.last_is
 
-  -- the chain without an entry that stood between these two neighbours, which are linked to each other
+  -- the chain without an entry between these two neighbours, which are linked to each other
   abbrev pub Unlinks : Option ℕ → Arena (Link T) → Option ℕ → Option ℕ → ℕ → Option ℕ → Option ℕ → Type 0
   Unlinks greatest a first last i prev next =
       Lies (bridged (arena_removed greatest a i) prev next next prev) (end_beside prev first next) (end_beside next last prev) (removed greatest (chain_of a first) i)
 
   module _ (a : Arena (Link T)) (first last : Option ℕ) (laid : IsChainIn a first last) where
-    -- so the chain with that capacity lies there
+    -- so the chain with that capacity is there
     pub Lies-resized : (n : ℕ) → ((k : ℕ) → n < k → slot a k ≡ None) → Lies (arena_with_capacity a n) first last (with_capacity (chain_of a first) n)
     Lies-resized n rest =
         let laid2 = IsLaidOut-resized a first last (chain_of a first).entries n rest laid in
@@ -107,17 +107,17 @@ module _ {T : Type 0} where
         lies (arena_with_capacity a n) first last (with_capacity (chain_of a first) n) laid2 size
         (vacant-held (resized (n + 1) a.slots) _ (held-laid _ first last _ laid2) ∙ ap (vacant_indexes (chain_of a first).entries) size) refl refl
 
-    -- an entry that gets another generation
+    -- an entry gets another generation
     pub Renews-at : (greatest : Option ℕ) (i : ℕ) → Lies (arena_renewed greatest a i) first last (renewed greatest (chain_of a first) i)
     Renews-at greatest i =
         grind (arith, common_steps, IsLaidOut-changed_at a first last, lies (arena_renewed greatest a i) first last (renewed greatest (chain_of a first) i), with_generation-changed_at)
 
-    -- an item that is written
+    -- an item is written
     pub Writes-at : (i : ℕ) (item : T) → Lies (rewritten a i item) first last (with_item (chain_of a first) i item)
     Writes-at i item =
         grind (arith, common_steps, lies (rewritten a i item) first last (with_item (chain_of a first) i item), with_item_among-changed_at, IsLaidOut-changed_at a first last)
 
-    -- the entry between two stretches is taken out
+    -- the entry between two stretches is removed
     Removes-at : (greatest : Option ℕ) (i : ℕ) (s : Stands (chain_of a first).entries i) → Unlinks greatest a first last i (last_or None s.front) (first_or None s.back)
     Removes-at greatest i s =
         let laid2 = subst (λ (es : List (Entry T)). IsLaidOut a.slots first last es) s.split laid in
@@ -138,7 +138,7 @@ module _ {T : Type 0} where
         let same : (s.entry.generation, link_amid s.front s.entry.item s.back) ≡ e = cc in
         subst (λ (x : ℕ × Link T). Unlinks greatest a first last i x.1.prev x.1.next) same (Removes-at greatest i s)
 
-  -- a chain that is cleared
+  -- a chain is cleared
   pub IsLaidOut-cleared : (n : ℕ) → IsLaidOut {T = T} (replicate n None) None None []
   IsLaidOut-cleared n = laid-links _ None None [] (get_or-vacant n) (λ i. omega arith) refl refl
 

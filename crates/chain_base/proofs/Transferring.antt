@@ -8,24 +8,24 @@ use Rattle.chain_base.specs.{Transfer.filled_with, Transfer.last_index_of, Trans
 use Rattle.chain_base.specs.{Compression.numbered, Compression.Transferring, Compression.TransferStep, Compression.IsTransfer, Insert.placed, Insert.CanPlace}
 use Rattle.chain_base.proofs.{Canonical.numbered-push, Canonical.times-numbered, Canonical.vacant-same, Room.greatest-within, Lists.same_index}
 
--- what is there is said
+-- what holds if an option is some holds if it is mapped to some value
 pub on_taken : {X Y : Type 0} (f : X → Y) (y : Y) (o : Option X) (A : Type 0) → option_map f o ≡ Some y → OnSome o A → A
 on_taken f y o A is some = grind (arith, common_steps)
 
 module _ {T : Type 0} where
-  -- a capacity that is raised
+  -- a capacity grows
   module _ {X E : Type 0} (most : ℕ) (greatest : Option ℕ) (c new : Chain T) (n : ℕ) (r : Result X E) (sound : IsSound most greatest c)
       (less : c.capacity < n) where
     pub capacity-raised : OnOk r (new ≡ with_capacity c (max n (greatest_index c.entries))) → OnOk r (new.capacity ≡ max c.capacity n)
     capacity-raised is = grind (arith, common_steps, greatest-within)
 
-  -- the item in a link, under a generation or its number
+  -- the item in a link, with a generation or its number
   module _ {G : Type 0} (number : G → ℕ) where
     pub item-numbered : (o : Option (G × Link T))
         → option_map (λ (e : ℕ × Link T). e.1.item) (option_map (λ (e : G × Link T). (number e.0, e.1)) o) ≡ option_map (λ (e : G × Link T). e.1.item) o
     item-numbered o = grind (arith, common_steps)
 
-  -- the first entry is taken out
+  -- the first entry is removed
   module _ {Q : Type 0} (numbers : Q → ℕ × ℕ) (greatest : Option ℕ) (old new : Chain T) (from : Q) (taken : InvalidationOption T)
       (head : Some (numbers from) ≡ first_pointer old.entries)
       (value : Some (allowed_value taken) ≡ option_map (λ e. e.1.item) (link_at old.entries (numbers from).0))
@@ -119,7 +119,7 @@ module _ {T : Type 0} where
     pub next-at : (p : P) (o : Option P) (vacant : List ℕ) → o ≡ Some p → vacant ≡ chain.vacant → option_map (λ p. (numbers p).0) o ≡ slice_get vacant 0 → (numbers p).0 ≡ length items + 1
     next-at p o vacant found same is = grind (arith, common_steps, items, found, next-is, vacant, same)
 
--- one entry more has gone over
+-- one more entry has moved
 module _ {P Q T U M : Type 0} (numbers_from : Q → ℕ × ℕ) (numbers_to : P → ℕ × ℕ) (greatest : Option ℕ) (step : M → Q → InvalidationOption U → P → T → M → Type 0) (m : M) (source : Chain U) (c : Chain T) where
   abbrev Taken : Chain U → Chain T → M → Type 0
   Taken rest now n = HasTaken numbers_from numbers_to greatest step m source rest c now n
@@ -159,7 +159,7 @@ module _ {P Q T U M : Type 0} (numbers_from : Q → ℕ × ℕ) (numbers_to : P 
       maximum = t.maximum ∙ h.maximum;
     }
 
--- the last index is one more
+-- the last index grows by one
 pub last-more : {I T : Type 0} (number : I → ℕ) (i : I) (items : List T) (item : T) → number i ≡ length items + 1 → Some (number i) ≡ last_index_of (length (items ++ item ∷ []))
 last-more number i items item at = grind (arith, common_steps)
 
@@ -182,7 +182,7 @@ module _ {P Q T U M : Type 0} (numbers_from : Q → ℕ × ℕ) (numbers_to : P 
         after = h.put ∙ rw (era, capacity ∙ count, maximum) refl;
       }
 
--- Calls of one kind are calls of another: `state`, `item` and `part` give the other's states and items.
+-- Calls of one kind are calls of another: `state`, `item` and `part` map the states and the items.
 module _ {P Q S F X T V U : Type 0} (numbers_from : Q → ℕ × ℕ) (numbers_to : P → ℕ × ℕ) (greatest : Option ℕ)
     (below : S → Q → InvalidationOption V → P → X → S → Type 0) (above : F → Q → InvalidationOption U → P → T → F → Type 0) (state : S → F) (item : X → T) (part : V → U)
     (like : (s : S) (q : Q) (taken : InvalidationOption V) (p : P) (x : X) (t : S) → below s q taken p x t

@@ -1,4 +1,4 @@
--- The vacant indexes and the greatest occupied one: what an arena's slots say, said of the chain's list.
+-- The vacant indexes and the greatest occupied one: the slots of an arena in terms of the chain's list.
 use Rattle.std.proofs.Common.{◌≡◌, ℕ, suc, ◌+◌, ◌-◌, ◌<◌, ◌≤◌, true, List, [], ◌∷◌, length, drop, replicate, Option, Some, None, is_some, cond, max, refl, sym, ap, ◌∙◌, arith, inl, inr, ◌⊎◌, get_or, add-one, add-zero}
 use Rattle.std.proofs.{lemmas.List.length-replicate, lemmas.List.length-drop, lemmas.List.get_or_past, lemmas.List.Folds.list_any_at}
 use Rattle.std.proofs.lemmas.Grind.{common_steps, get_or_after_one}
@@ -9,11 +9,11 @@ use Rattle.chain_base.specs.Link.{Link}
 use Rattle.chain_base.proofs.Lists.{times-here, times-unlinked, link_between-absent}
 
 module _ {X : Type 0} where
-  -- what is there is something
+  -- an occupied slot has an entry
   pub held-some : (o : Option X) → is_some o ≡ true → (x : X) × (o ≡ Some x)
   held-some o held = grind (arith, common_steps)
 
-  -- slots that are vacant one and all
+  -- slots that are all vacant
   pub get_or-vacant : (n i : ℕ) → let none : Option X = None in get_or (replicate n none) i none ≡ none
   get_or-vacant (suc n) (suc i) = get_or-vacant n i
   get_or-vacant n i = refl
@@ -40,7 +40,7 @@ module _ {X : Type 0} where
   resized-none : (xs : List (Option X)) → resized 0 xs ≡ []
   resized-none xs = let same : 0 - length xs ≡ 0 = omega arith in rw same refl
 
-  -- where all slots from n on are vacant, n slots hold the same
+  -- if all slots from n on are vacant, the first n slots hold the same
   pub get_or-resized : (n : ℕ) (xs : List (Option X)) (i : ℕ) → ((k : ℕ) → n ≤ k → get_or xs k None ≡ None) → get_or (resized n xs) i None ≡ get_or xs i None
   get_or-resized (suc n) (x ∷ xs) (suc i) rest = rw (resized-cons n x xs) (get_or-resized n xs i (λ k far. rest (suc k) (omega arith)))
   get_or-resized n xs i rest = grind (arith, common_steps, resized-none, get_or-vacant)
@@ -50,7 +50,7 @@ module _ {X : Type 0} where
   length-resized n xs = grind (arith, common_steps, resized-none, length-replicate)
 
 module _ {X T : Type 0} where
-  -- an index of the list is one whose slot holds something
+  -- an index occurs in the list exactly if its slot is occupied, and then once
   abbrev pub HoldIndexes : List (Option X) → List (Entry T) → Type 0
   HoldIndexes slots es = (i : ℕ) → times i es ≡ cond (is_some (get_or slots i None)) 1 0
 

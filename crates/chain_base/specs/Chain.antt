@@ -1,4 +1,4 @@
--- A chain arena as its users see it: one list of entries, and the numbers around it.
+-- A chain arena as contracts see it: one list of entries, and the numbers around it.
 use Rattle.std.specs.Prelude.{◌≡◌, ℕ, zero, suc, ◌+◌, ◌*◌, ◌<◌, ◌≤◌, ◌==◌, if◌then◌else◌, min, max, List, [], ◌∷◌, length, Option, Some, None, IsSome, is_some, slice_get}
 use Rattle.std.specs.Option.{option_map, ForSome}
 use Rattle.arena_base.specs.Arena.{Arena, times as times_among, limit_of, slot, item_if, arena_capacity}
@@ -11,8 +11,8 @@ pub record Entry (T : Type 0) : Type 0 where
   pub generation : ℕ
   pub item : T
 
--- A chain arena: the entries in the order of the chain, the capacity, the vacant indexes in the order in
--- which insertions take them, the generation that a new entry gets, and the maximum, if one is set.
+-- A chain arena: the entries in list order, the capacity, the free list, the generation of the next entry, and the maximum, if one is
+-- set.
 pub record Chain (T : Type 0) : Type 0 where
   pub entries : List (Entry T)
   pub capacity : ℕ
@@ -35,18 +35,17 @@ module _ {T : Type 0} where
   entry_at [] i = None
   entry_at (e ∷ es) i = if e.index == i then Some (e.generation, e.item) else entry_at es i
 
-  -- the first index, or this one where there is none
+  -- the index of the first entry, or `other` if there is none
   abbrev pub first_or : Option ℕ → List (Entry T) → Option ℕ
   first_or other [] = other
   first_or other (e ∷ es) = Some e.index
 
-  -- the last index, or this one where there is none
+  -- the index of the last entry, or `other` if there is none
   abbrev pub last_or : Option ℕ → List (Entry T) → Option ℕ
   last_or other [] = other
   last_or other (e ∷ es) = last_or (Some e.index) es
 
-  -- the generation and the link of the entry with this index, in a stretch of a chain between these
-  -- two neighbours
+  -- the generation and the link of the entry with this index, in a stretch of a list between these two neighbours
   abbrev pub link_between : Option ℕ → Option ℕ → List (Entry T) → ℕ → Option (ℕ × Link T)
   link_between before after [] i = None
   link_between before after (e ∷ es) i =
@@ -82,7 +81,7 @@ module _ {T : Type 0} where
   greatest_index [] = 0
   greatest_index (e ∷ es) = max e.index (greatest_index es)
 
-  -- the indexes that no entry has, ascending, among so many indexes from `from` on
+  -- the indexes that no entry has, ascending, among `count` indexes from `from` on
   abbrev pub vacant_among : List (Entry T) → ℕ → ℕ → List ℕ
   vacant_among es from zero = []
   vacant_among es from (suc count) =
@@ -92,19 +91,19 @@ module _ {T : Type 0} where
   abbrev pub vacant_indexes : List (Entry T) → ℕ → List ℕ
   vacant_indexes es capacity = vacant_among es 1 capacity
 
-  -- some entry has this index
+  -- some entry has index i
   abbrev pub IsOccupied : Chain T → ℕ → Type 0
   IsOccupied c i = IsSome (entry_at c.entries i)
 
-  -- the index that the next insertion takes, where one is vacant
+  -- the index that the next insertion takes; None if no slot is vacant
   abbrev pub next_index : Chain T → Option ℕ
   next_index c = slice_get c.vacant 0
 
-  -- all vacant slots count as never used: insertions take the least index first
+  -- the free list is ascending, as if no slot had been used: insertions take the least index first
   abbrev pub IsFresh : Chain T → Type 0
   IsFresh c = c.vacant ≡ vacant_indexes c.entries c.capacity
 
-  -- how far the capacity can grow, where `most` is the greatest index of an entry
+  -- the greatest capacity that the arena may have; `most` is the greatest index of an entry
   abbrev pub chain_limit : ℕ → Chain T → ℕ
   chain_limit most c = limit_of most c.maximum
 
@@ -112,8 +111,7 @@ module _ {T : Type 0} where
   abbrev pub grown_capacity : ℕ → Chain T → ℕ
   grown_capacity most c = min (chain_limit most c) (max 4 (2 * c.capacity))
 
-  -- what is true of every chain arena: `most` is the greatest index of an entry, `greatest` stands for the
-  -- generations
+  -- What holds of every chain arena. `most` is the greatest index of an entry, `greatest` describes the generations.
   pub record IsSound (most : ℕ) (greatest : Option ℕ) (c : Chain T) : Type 0 where
     pub distinct : IsDistinct c.entries
     pub within : (i : ℕ) → 1 ≤ times i c.entries → (0 < i) × (i ≤ c.capacity)
@@ -123,11 +121,11 @@ module _ {T : Type 0} where
     pub vacant_listed : (i : ℕ) → times_among i c.vacant ≡ times_among i (vacant_indexes c.entries c.capacity)
     pub counted : length c.entries + length c.vacant ≡ c.capacity
 
-  -- a chain arena without entries and without room
+  -- a chain arena without entries and with capacity 0
   abbrev pub new_chain : Option ℕ → Chain T
   new_chain greatest = record { entries = []; capacity = 0; vacant = []; generation = first_generation greatest; maximum = None }
 
-  -- c after an insertion, where `vacant` are the vacant indexes and `place` puts a new entry into the list
+  -- c after an insertion that takes the first of these vacant indexes; `place` puts the new entry into the list
   abbrev pub inserted_at : Chain T → (Entry T → List (Entry T)) → T → List ℕ → Chain T
   inserted_at c place item [] = c
   inserted_at c place item (i ∷ rest) =
@@ -137,7 +135,7 @@ module _ {T : Type 0} where
   abbrev pub inserted : Chain T → (Entry T → List (Entry T)) → T → Chain T
   inserted c place item = inserted_at c place item c.vacant
 
-  -- c with this capacity, all its vacant slots counting as never used
+  -- c with capacity n and an ascending free list
   abbrev pub with_capacity : Chain T → ℕ → Chain T
   with_capacity c n = record c { capacity = n; vacant = vacant_indexes c.entries n }
 
@@ -145,7 +143,7 @@ module _ {T : Type 0} where
   abbrev pub raised : Option ℕ → Chain T → Chain T
   raised greatest c = record c { generation = next_generation greatest c.generation }
 
-  -- c with the next generation and without the entry of this index, which the next insertion takes
+  -- c with the next generation and without the entry at index i, which is now first in the free list
   abbrev pub removed : Option ℕ → Chain T → ℕ → Chain T
   removed greatest c i =
       record c { entries = without i c.entries; vacant = i ∷ c.vacant; generation = next_generation greatest c.generation }
@@ -155,12 +153,12 @@ module _ {T : Type 0} where
   with_generation [] i g = []
   with_generation (e ∷ es) i g = if e.index == i then record e { generation = g } ∷ es else e ∷ with_generation es i g
 
-  -- c with the next generation, which the entry of this index gets too
+  -- c with the next generation, which the entry at index i gets too
   abbrev pub renewed : Option ℕ → Chain T → ℕ → Chain T
   renewed greatest c i = let next = next_generation greatest c.generation in
       record c { entries = with_generation c.entries i next; generation = next }
 
-  -- c with the next generation and without entries, all its slots counting as never used
+  -- c with the next generation, without entries and with an ascending free list
   abbrev pub cleared : Option ℕ → Chain T → Chain T
   cleared greatest c =
       record c { entries = []; vacant = vacant_indexes [] c.capacity; generation = next_generation greatest c.generation }
@@ -169,7 +167,7 @@ module _ {T : Type 0} where
   abbrev pub with_item : Chain T → ℕ → T → Chain T
   with_item c i item = record c { entries = with_item_among c.entries i item }
 
-  -- the arena under the chain: each entry stands at its index with its neighbours' indexes
+  -- the arena under the chain: each entry is at its index, with its neighbours' indexes
   pub record IsArenaOf (c : Chain T) (a : Arena (Link T)) : Type 0 where
     pub slots : (i : ℕ) → slot a i ≡ link_at c.entries i
     pub capacity : arena_capacity a ≡ c.capacity
@@ -206,7 +204,7 @@ module _ {T : Type 0} where
     pub entry : generation_at es i ≡ Some g
     pub greatest : (k : ℕ) → i < k → times k es ≡ 0
 
-  -- c, grown where it has no vacant slot
+  -- c, grown if it has no vacant slot
   abbrev pub with_room : ℕ → Chain T → Chain T
   with_room most c = if is_some (next_index c) then c else with_capacity c (grown_capacity most c)
 

@@ -1,4 +1,4 @@
--- What a compression, the canonical order and a transfer make of a chain.
+-- The results of a compression, the canonical order and a transfer.
 use Rattle.std.specs.Prelude.{◌≡◌, ℕ, zero, suc, ◌+◌, nat_lt, if◌then◌else◌, max, List, [], ◌∷◌, ◌++◌, length, map, slice_index_or, Option, Some, None}
 use Rattle.std.specs.List.{FoldsTo}
 use Rattle.arena_base.specs.{declared.invalidation.InvalidationOption.InvalidationOption, Compression.CompressionStep}
@@ -11,34 +11,34 @@ module _ {T : Type 0} where
   lesser [] i = 0
   lesser (e ∷ es) i = (if nat_lt e.index i then 1 else 0) + lesser es i
 
-  -- the index of an entry after a compression: its number among the indexes of the entries by rising index, counted from 1
+  -- the index of an entry after a compression: its place by rising index, counted from 1
   abbrev pub compressed_index : List (Entry T) → ℕ → ℕ
   compressed_index es i = lesser es i + 1
 
-  -- the entry at index i, if there is one, before these
+  -- the entry at index i, if any, before these entries
   abbrev pub entry_before : ℕ → Option (ℕ × T) → List (ℕ × ℕ × T) → List (ℕ × ℕ × T)
   entry_before i None rest = rest
   entry_before i (Some e) rest = (i, e.0, e.1) ∷ rest
 
-  -- index, generation and item of each entry by rising index, among so many indexes from `from` on
+  -- the index, generation and item of each entry by rising index, among `count` indexes from `from` on
   abbrev pub rising_among : List (Entry T) → ℕ → ℕ → List (ℕ × ℕ × T)
   rising_among es from zero = []
   rising_among es from (suc count) = entry_before from (entry_at es from) (rising_among es (from + 1) count)
 
-  -- index, generation and item of each entry by rising index
+  -- the index, generation and item of each entry by rising index
   abbrev pub entries_rising : Chain T → List (ℕ × ℕ × T)
   entries_rising c = rising_among c.entries 1 c.capacity
 
-  -- c with these entries and this generation, all its vacant slots counting as never used
+  -- c with these entries, this generation and an ascending free list
   abbrev pub refilled : Chain T → ℕ → List (Entry T) → Chain T
   refilled c g es = record c { entries = es; vacant = vacant_indexes es c.capacity; generation = g }
 
-  -- Each entry gets its compressed index, the generation g, and the item of that number; there is one for each.
+  -- An entry with its compressed index, generation g, and the item at its place. There is an item for each place.
   abbrev pub moved : List (Entry T) → ℕ → List T → Entry T → Entry T
   moved es g items e =
       record { index = compressed_index es e.index; generation = g; item = slice_index_or items (lesser es e.index) e.item }
 
-  -- c in the order in which it stands, its entries moved to the indexes from 1 on by rising index, with these items
+  -- c with its entries moved to the indexes from 1 on, by rising index, with these items; the list keeps its order
   abbrev pub compressed : Chain T → ℕ → List T → Chain T
   compressed c g items = refilled c g (map (moved c.entries g items) c.entries)
 
@@ -46,46 +46,46 @@ module _ {T : Type 0} where
   abbrev pub at_compressed_index : List (Entry T) → ℕ → Entry T → Entry T
   at_compressed_index es g e = record { index = compressed_index es e.index; generation = g; item = e.item }
 
-  -- c compressed, with the items that it has
+  -- c compressed, with its own items
   abbrev pub relocated : Chain T → ℕ → Chain T
   relocated c g = refilled c g (map (at_compressed_index c.entries g) c.entries)
 
-  -- entries of these items in this order, with the indexes from `from` on and generation g
+  -- entries with these items in this order, with the indexes from `from` on and generation g
   abbrev pub numbered : ℕ → ℕ → List T → List (Entry T)
   numbered g from [] = []
   numbered g from (item ∷ items) = record { index = from; generation = g; item = item } ∷ numbered g (from + 1) items
 
-  -- c with indexes in the order in which it stands: the entry at position i, counted from 0, has index i + 1
+  -- c with its entries numbered in list order: the entry at position i, counted from 0, has index i + 1
   abbrev pub canonical : Chain T → ℕ → Chain T
   canonical c g = refilled c g (numbered g 1 (map (λ e. e.item) c.entries))
 
-  -- c with entries of these items alone, in this order from index 1 on; the capacity grows where it is less than their number
+  -- c with entries of these items alone, in this order from index 1 on; the capacity grows if it is less than their number
   abbrev pub replaced : Chain T → ℕ → List T → Chain T
   replaced c g items = refilled (record c { capacity = max c.capacity (length items) }) g (numbered g 1 items)
 
-  -- c without entries, with this generation, all its slots counting as never used
+  -- c without entries, with this generation and an ascending free list
   abbrev pub left_empty : Chain T → ℕ → Chain T
   left_empty c g = refilled c g []
 
--- P reads pointers as index and generation; `step` is what a call of the closure may do; g is the new generation
+-- `numbers` reads a pointer as index and generation; `step` is what a call of the closure may do; g is the new generation
 module _ {P T F : Type 0} (numbers : P → ℕ × ℕ) (step : F → P → T → P → T → F → Type 0) (g : ℕ) where
-  -- the closure was called at each entry by rising index, each time in the state in which the call before had left it
+  -- the closure was called for each entry by rising index, each time in the state that the call before left
   pub record IsCompression (f : F) (old new : Chain T) : Type 0 where
     pub items : List T
     pub last : F
     pub calls : FoldsTo (CompressionStep numbers step g) (f, []) (entries_rising old) (last, items)
     pub after : new ≡ compressed old g items
 
--- how far a transfer has come: the closure, the items so far, and the source's generation
+-- the state of a transfer: the closure, the items so far, and the source's generation
 pub record Transferring (F T : Type 0) : Type 0 where
   pub closure : F
   pub items : List T
   pub generation : ℕ
 
--- Q reads the source's pointers, P the receiver's; `greatest` stands for the source's generations
+-- `numbers_from` reads the source's pointers, `numbers_to` the receiver's; `greatest` describes the source's generations
 module _ {P Q T U F : Type 0} (numbers_from : Q → ℕ × ℕ) (numbers_to : P → ℕ × ℕ) (greatest : Option ℕ) (step : F → Q → InvalidationOption U → P → T → F → Type 0) (g : ℕ) where
-  -- An entry was removed from the source, and the closure called with the pointer that it had, what its removal gave, and its
-  -- new pointer; what it returned came behind the items so far.
+  -- An entry was removed from the source. The closure was called with its old pointer, the result of the removal and its new pointer, and
+  -- what it returned was added behind the items so far.
   pub record TransferStep (s : Transferring F T) (e : Entry U) (t : Transferring F T) : Type 0 where
     pub from : Q
     pub taken : InvalidationOption U
@@ -101,7 +101,7 @@ module _ {P Q T U F : Type 0} (numbers_from : Q → ℕ × ℕ) (numbers_to : P 
     pub behind : t.items ≡ s.items ++ item ∷ []
     pub raised : t.generation ≡ next_generation greatest s.generation
 
-  -- all entries went from the source to the receiver in the order of the list
+  -- all entries moved from the source to the receiver, in list order
   pub record IsTransfer (f : F) (source source_after : Chain U) (old new : Chain T) : Type 0 where
     pub last : Transferring F T
     pub calls : FoldsTo TransferStep (record { closure = f; items = []; generation = source.generation }) source.entries last

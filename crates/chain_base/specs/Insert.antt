@@ -1,4 +1,4 @@
--- Where a new entry of a chain stands, and what an insertion does.
+-- Where a new entry goes in a chain, and what an insertion does.
 use Rattle.std.specs.Prelude.{◌≡◌, ℕ, ◌<◌, ◌≤◌, List, [], ◌∷◌, ◌++◌, Option, Some, None}
 use Rattle.chain_base.specs.declared.chain.insert.LinkInsertKind.TheVariants.{Disconnected, NextToInx, PrevToInx}
 use Rattle.chain_base.specs.Chain.{Entry, Chain, times, first_or, last_or, insert_after, insert_before, IsOccupied, IsFresh, next_index, inserted}
@@ -18,13 +18,13 @@ module _ {P I G T : Type 0} (number : I → ℕ) where
   CanPlace (PrevToInx i) c = IsOccupied c (number i)
 
 module _ {T : Type 0} where
-  -- index i is within the capacity and no entry has it
+  -- index i is within the capacity, and no entry has it
   pub record IsVacant (c : Chain T) (i : ℕ) : Type 0 where
     pub above : 0 < i
     pub within : i ≤ c.capacity
     pub free : times i c.entries ≡ 0
 
-  -- the chain `new` is `old` with the item inserted, put into the list by `place`, under index i and generation g
+  -- `new` is `old` with `item` inserted at index i with generation g; `place` puts the entry into the list
   pub record IsInsertion (old new : Chain T) (place : Entry T → List (Entry T)) (item : T) (i g : ℕ) : Type 0 where
     pub next : next_index old ≡ Some i
     pub vacant : IsVacant old i

@@ -1,4 +1,4 @@
--- How a chain lies in an arena: the list is met by going from link to link. No public clause cites this file.
+-- A chain in an arena: the list is found by following the links. No public clause uses this file.
 use Rattle.std.specs.Prelude.{◌≡◌, ℕ, zero, suc, ◌==◌, Bool, false, if◌then◌else◌, List, [], ◌∷◌, length, Option, Some, None, is_some, count_by, slice_index_or}
 use Rattle.std.specs.Option.{option_map}
 use Rattle.arena_base.specs.Arena.{Arena, slot, with_slot, arena_capacity}
@@ -17,12 +17,12 @@ module _ {T : Type 0} where
   abbrev pub with_prev : Option ℕ → ℕ × Link T → ℕ × Link T
   with_prev prev e = (e.0, record e.1 { prev = prev })
 
-  -- the arena once the entry of this index, if one is named, has another next neighbour
+  -- the arena after the entry at this index, if one is given, got another next neighbour
   abbrev pub linked_next : Arena (Link T) → Option ℕ → Option ℕ → Arena (Link T)
   linked_next a None next = a
   linked_next a (Some i) next = with_slot a i (option_map (with_next next) (slot a i))
 
-  -- the arena once the entry of this index, if one is named, has another previous neighbour
+  -- the arena after the entry at this index, if one is given, got another previous neighbour
   abbrev pub linked_prev : Arena (Link T) → Option ℕ → Option ℕ → Arena (Link T)
   linked_prev a None prev = a
   linked_prev a (Some i) prev = with_slot a i (option_map (with_prev prev) (slot a i))
@@ -35,24 +35,24 @@ module _ {T : Type 0} where
   abbrev pub rewritten : Arena (Link T) → ℕ → T → Arena (Link T)
   rewritten a i item = with_slot a i (option_map (λ e. (e.0, record e.1 { item = item })) (slot a i))
 
-  -- what an index holds once the entry `left` has the next neighbour `next`, and `right` the previous one `prev`
+  -- what an index holds after the entry `left` got the next neighbour `next`, and `right` the previous one `prev`
   abbrev pub relinked : Option ℕ → Option ℕ → Option ℕ → Option ℕ → ℕ → Option (ℕ × Link T) → Option (ℕ × Link T)
   relinked left next right prev i o =
       let forward = if names left i then option_map (with_next next) o else o in
       if names right i then option_map (with_prev prev) forward else forward
 
-  -- the entry in a slot, put before the entries that are met from its next index on
+  -- the entry in a slot, followed by the entries on the way from its next index
   abbrev pub met : ℕ → Option (ℕ × Link T) → (Option ℕ → List (Entry T)) → List (Entry T)
   met i None rest = []
   met i (Some e) rest = record { index = i; generation = e.0; item = e.1.item } ∷ rest e.1.next
 
-  -- the entries that are met on the way from this index, at most so many
+  -- the entries on the way from this index, at most n of them
   abbrev pub entries_met : (ℕ → Option (ℕ × Link T)) → ℕ → Option ℕ → List (Entry T)
   entries_met at zero link = []
   entries_met at (suc n) None = []
   entries_met at (suc n) (Some i) = met i (at i) (entries_met at n)
 
-  -- the chain that lies in an arena, where this index is the first
+  -- the chain in an arena, if this is the index of its first entry
   abbrev pub chain_of : Arena (Link T) → Option ℕ → Chain T
   chain_of a first =
       record {
@@ -63,7 +63,7 @@ module _ {T : Type 0} where
         maximum = a.maximum;
       }
 
-  -- these entries lie in the slots in this order, from the first index to the last
+  -- these entries are in the slots, linked in this order from the first index to the last
   pub record IsLaidOut (slots : List (Option (ℕ × Link T))) (first last : Option ℕ) (es : List (Entry T)) : Type 0 where
     pub links : (i : ℕ) → slice_index_or slots i None ≡ link_at es i
     pub distinct : IsDistinct es

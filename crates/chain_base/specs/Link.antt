@@ -1,7 +1,7 @@
 -- A link: an item with the indexes of the entries before and after it in the chain.
 use Rattle.std.specs.Prelude.{ℕ, Option}
 
--- an item of a chain and its neighbours' indexes, `None` at an end of the chain
+-- an item of a chain and its neighbours' indexes; None at an end of the chain
 pub record Link (T : Type 0) : Type 0 where
   pub item : T
   pub prev : Option ℕ

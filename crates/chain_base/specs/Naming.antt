@@ -1,4 +1,4 @@
--- How each entry of a chain learns the new indexes of its neighbours, from these. No public clause cites this file.
+-- How each entry of a chain gets the new indexes of its neighbours from these. No public clause uses this file.
 use Rattle.std.specs.Prelude.{◌≡◌, ◌≢◌, ℕ, ◌+◌, List, [], ◌∷◌, map, Option, Some, None, IsSome, is_some, count_by, take, length}
 use Rattle.std.specs.{Option.option_map, Option.option_and_then, List.FoldsTo}
 use Rattle.arena_base.specs.{Compression.CompressionStep, Compression.compressed, Arena.Arena, Arena.HoldsSame, Arena.slot}
@@ -17,27 +17,27 @@ module _ {T : Type 0} where
   with_facing Before other e = with_next other e
   with_facing After other e = with_prev other e
 
-  -- the arena once the entry of this index, if one is named, has another neighbour on the side that faces this one
+  -- the arena after the entry at this index, if one is given, got another neighbour on the side that faces this one
   abbrev pub linked_facing : Side → Arena (Link T) → Option ℕ → Option ℕ → Arena (Link T)
   linked_facing Before a at other = linked_next a at other
   linked_facing After a at other = linked_prev a at other
 
-  -- the index that the entry at index i has for its neighbour on a side
+  -- the index that the entry at index i names as its neighbour on a side
   abbrev pub named_neighbour : Side → Arena (Link T) → ℕ → Option ℕ
   named_neighbour side a i = option_and_then (λ e. neighbour_on side e.1) (slot a i)
 
-  -- the compressed index of the entry at index i: its number among the indexes with an entry, counted from 1
+  -- the compressed index of the entry at index i: its place by rising index, counted from 1
   abbrev pub compressed_index_in : Arena (Link T) → ℕ → ℕ
   compressed_index_in a i = count_by is_some (take i a.slots) + 1
 
-  -- the names on a side name entries, each at most one, and at most one entry names none
+  -- Each name on a side names an entry, and each entry is named at most once. At most one entry names none.
   pub record IsPaired (side : Side) (a : Arena (Link T)) : Type 0 where
     pub there : (i k : ℕ) → named_neighbour side a i ≡ Some k → IsSome (slot a k)
     pub once : (i j k : ℕ) → named_neighbour side a i ≡ Some k → named_neighbour side a j ≡ Some k → i ≡ j
     pub alone : (i j : ℕ) → IsSome (slot a i) → IsSome (slot a j) → named_neighbour side a i ≡ None → named_neighbour side a j ≡ None → i ≡ j
 
-  -- Each entry that one names on this side names that one's compressed index on the other side. `end` is that of the entry that
-  -- names none.
+  -- Each entry that another one names on this side names that one's compressed index on the other side. `end` is the compressed index of
+  -- the entry that names none.
   pub record NamesCompressedIndexes (side : Side) (old new : Arena (Link T)) (end : Option ℕ) : Type 0 where
     pub met : (i k : ℕ) → named_neighbour side old i ≡ Some k → slot new k ≡ option_map (with_facing side (Some (compressed_index_in old i))) (slot old k)
     pub unmet : (k : ℕ) → ((i : ℕ) → named_neighbour side old i ≢ Some k) → slot new k ≡ slot old k
@@ -54,13 +54,13 @@ pub record MapsItem {P T M : Type 0} (step : M → P → T → P → T → M →
   pub before : answer.prev ≡ link.prev
   pub behind : answer.next ≡ link.next
 
--- P reads pointers as index and generation; `step` is what making a new item may do; g is the new generation
+-- `numbers` reads a pointer as index and generation; `step` is what making a new item may do; g is the new generation
 module _ {P T M : Type 0} (numbers : P → ℕ × ℕ) (step : M → P → T → P → T → M → Type 0) (g : ℕ) where
   -- an entry without its neighbours
   abbrev pub bare : ℕ × ℕ × Link T → ℕ × ℕ × T
   bare e = (e.0, e.1, e.2.item)
 
-  -- the arena was compressed, with new items; the links keep their neighbours
+  -- the arena was compressed with new items, and the links keep their neighbours
   pub record CompressesItems (m : M) (old new : Arena (Link T)) : Type 0 where
     pub links : List (Link T)
     pub last : M

@@ -1,4 +1,4 @@
--- The steps of a transfer. No public clause cites this file.
+-- The steps of a transfer. No public clause uses this file.
 use Rattle.std.specs.Prelude.{◌≡◌, ℕ, zero, suc, List, [], ◌∷◌, ◌++◌, length, Option, Some, None}
 use Rattle.std.specs.List.{FoldsTo}
 use Rattle.arena_base.specs.declared.invalidation.InvalidationOption.{InvalidationOption}
@@ -11,17 +11,17 @@ use Rattle.chain_base.specs.{declared.chain.insert.LinkInsertKind.LinkInsertKind
 abbrev pub filled_with : {T : Type 0} → Chain T → List T → Chain T
 filled_with c items = refilled c c.generation (numbered c.generation 1 items)
 
--- the last index among so many from 1 on
+-- the last of n indexes from 1 on
 abbrev pub last_index_of : ℕ → Option ℕ
 last_index_of zero = None
 last_index_of (suc n) = Some (suc n)
 
--- the place behind the last entry, or alone where there is none
+-- the place behind the last entry, or the only place if there is none
 abbrev pub place_behind : {P I G : Type 0} → Option I → LinkInsertKind P I G
 place_behind None = Disconnected
 place_behind (Some i) = NextToInx i
 
--- the first entry was taken out
+-- the first entry was removed
 pub record TakesOut {Q U : Type 0} (numbers : Q → ℕ × ℕ) (greatest : Option ℕ) (old new : Chain U) (from : Q) (taken : InvalidationOption U) : Type 0 where
   pub entry : Entry U
   pub rest : List (Entry U)
@@ -40,7 +40,7 @@ abbrev pub after_calls : {M T U : Type 0} → M → List T → Chain U → Trans
 after_calls m items source = record { closure = m; items = items; generation = source.generation }
 
 module _ {P Q T U M : Type 0} (numbers_from : Q → ℕ × ℕ) (numbers_to : P → ℕ × ℕ) (greatest : Option ℕ) (step : M → Q → InvalidationOption U → P → T → M → Type 0) where
-  -- some entries went from the source to c, which had none
+  -- some entries moved from the source to c, which was empty
   pub record HasTaken (m : M) (source source_now : Chain U) (c now : Chain T) (n : M) : Type 0 where
     pub gone : List (Entry U)
     pub items : List T

@@ -22,10 +22,10 @@ use arena_base::{Arena, BasePtr, InvalidationOption};
 use std::alloc::{Allocator, Global};
 use std::marker::Model;
 
-/// Entries in a list, each found at once by its pointer, and linked to the entries before and after it.
+/// A list of entries, each found by its pointer in O(1), and linked to the entries before and after it.
 ///
-/// An entry keeps its pointer while others come and go. Each call takes O(1), but for `clear`, growths and the two calls
-/// that look for an index.
+/// An entry keeps its pointer while others come and go. Each call takes O(1), except clones, compressions, transfers, `clear`, growing,
+/// and the two calls that look for an index.
 #[derive(Drop)]
 pub struct ChainArena<P: BasePtr, T, A: Allocator = Global> {
     arena: Arena<P, LinkNoGen<P, T>, A>,
@@ -49,21 +49,21 @@ impl<P: BasePtr, T, A: Allocator> Model for ChainArena<P, T, A> {
 }
 
 impl<P: BasePtr, T, A: Allocator> ChainArena<P, T, A> {
-    /// How many entries there is room for before the arena has to grow.
+    /// Returns how many entries the arena holds without growing.
     pub fn capacity(&self) -> usize
         ensures { result ≡ self.now.capacity }
     {
         self.arena.capacity()
     }
 
-    /// The maximum that was set. The capacity never goes beyond it, nor beyond what the pointers' indexes can name.
+    /// Returns the maximum that was set, if any. The capacity never exceeds it, nor the greatest index of an entry.
     pub fn max_capacity(&self) -> Option<usize>
         ensures { result ≡ self.now.maximum }
     {
         self.arena.max_capacity()
     }
 
-    /// How many entries there are.
+    /// Returns the number of entries.
     pub fn len(&self) -> usize
         ensures value { result ≡ length self.now.entries }
         ensures sound { IsSound P.Inx.most P.Gen.greatest self.now }
@@ -71,14 +71,14 @@ impl<P: BasePtr, T, A: Allocator> ChainArena<P, T, A> {
         self.arena.len()
     }
 
-    /// Whether there is no entry.
+    /// Returns whether there are no entries.
     pub fn is_empty(&self) -> bool
         ensures { result ≡ (length self.now.entries == 0) }
     {
         self.len() == 0
     }
 
-    /// The generation that the next entry gets.
+    /// Returns the generation that the next entry gets.
     pub fn generation(&self) -> P::Gen
         ensures value { P.Gen.number result ≡ self.now.generation }
         ensures lawful { IsLawfulGeneration P.Gen.greatest self.now.generation }
@@ -86,10 +86,9 @@ impl<P: BasePtr, T, A: Allocator> ChainArena<P, T, A> {
         self.arena.generation()
     }
 
-    /// The allocator's handle that the arena keeps for its growths.
+    /// Returns the allocator handle that the arena keeps for growing.
     ///
-    /// It has no clause and needs none: a chain's value in contracts has no allocator, and a clause can't tell two handles of one type
-    /// apart.
+    /// It has no clause: a chain's value in contracts has no allocator, and a clause can't distinguish two handles of one type.
     pub fn alloc(&self) -> A
     where
         A: Copy,
@@ -97,15 +96,15 @@ impl<P: BasePtr, T, A: Allocator> ChainArena<P, T, A> {
         self.arena.alloc()
     }
 
-    /// The arena under the chain: its slots hold the entries with the links to their neighbours. It shows the entries by
-    /// index, and the pointer that the next insertion gives.
+    /// Returns the arena under the chain. Its slots hold the entries with the links to their neighbours. It finds entries by index, and
+    /// has the pointer that the next insertion gives.
     pub fn arena(&self) -> &Arena<P, LinkNoGen<P, T>, A>
         ensures { IsArenaOf self.now result.now }
     {
         &self.arena
     }
 
-    /// Sets the generation, and leaves each entry its own.
+    /// Sets the generation, which must be lawful. Entries keep theirs.
     pub fn set_generation(&mut self, generation: P::Gen)
         requires { IsLawfulGeneration P.Gen.greatest (P.Gen.number generation) }
         ensures { self.new ≡ record self.old { generation = P.Gen.number generation } }
@@ -113,7 +112,7 @@ impl<P: BasePtr, T, A: Allocator> ChainArena<P, T, A> {
         self.arena.set_generation(generation);
     }
 
-    /// Raises the generation, and leaves each entry its own. The result says whether the generations began again.
+    /// Raises the generation. Entries keep theirs. After the greatest comes the first again, which is an overflow.
     pub fn inc_generation(&mut self) -> InvalidationOption<()>
         ensures after { self.new ≡ raised P.Gen.greatest self.old }
         ensures overflow { is_overflow result ≡ overflows_after P.Gen.greatest self.old.generation }

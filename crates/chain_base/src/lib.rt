@@ -1,4 +1,4 @@
-//! Chain arenas: entries of an arena that stand in one list, each linked to its neighbours.
+//! Chain arenas: entries of an arena in one list, each linked to its neighbours.
 #![tactic(auto)]
 
 mod chain;

@@ -1,4 +1,4 @@
-//! `LinkNoGen`: an item and its neighbours in a chain.
+//! `LinkNoGen`: an item with its neighbours in a chain.
 ghost use Rattle.std.specs.Prelude.{◌≡◌, ◌≤◌, Some, None};
 ghost use Rattle.std.specs.Option.{option_map, ForSome};
 ghost use Rattle.arena_base.specs.Pointer.{named_of};
@@ -6,8 +6,8 @@ ghost use Rattle.arena_base.specs.Pointer.{named_of};
 use arena_base::{BasePtr, OptInx};
 use std::marker::Model;
 
-/// An item of a chain, and the indexes of the entries before and after it. The indexes are without generations, since a
-/// neighbour is always an entry.
+/// An item of a chain, with the indexes of the entries before and after it. The indexes need no generations, since a neighbour is always
+/// an entry.
 #[derive(Drop)]
 pub struct LinkNoGen<P: BasePtr, T> {
     pub t: T,
@@ -24,9 +24,7 @@ impl<P: BasePtr, T> Model for LinkNoGen<P, T> {
 }
 
 impl<P: BasePtr, T> LinkNoGen<P, T> {
-    /// A link of the item `t` between two neighbours, first the previous one, then the next.
-    ///
-    /// Index 0 names no neighbour.
+    /// Creates a link of the item `t` between two neighbours: the previous one, then the next. Index 0 names no neighbour.
     pub fn new(prev_next: (Option<P::Inx>, Option<P::Inx>), t: T) -> Self
         ensures item { result.item ≡ t }
         ensures prev { result.prev ≡ named_of (option_map P.Inx.number prev_next.0) }
@@ -39,7 +37,7 @@ impl<P: BasePtr, T> LinkNoGen<P, T> {
         }
     }
 
-    /// The index of the entry before this one.
+    /// Returns the index of the entry before this one; `None` for the first.
     pub fn prev(&self) -> Option<P::Inx>
         ensures value { option_map P.Inx.number result ≡ self.now.prev }
         ensures named { named_of self.now.prev ≡ self.now.prev }
@@ -47,7 +45,7 @@ impl<P: BasePtr, T> LinkNoGen<P, T> {
         self.prev.get()
     }
 
-    /// The index of the entry after this one.
+    /// Returns the index of the entry after this one; `None` for the last.
     pub fn next(&self) -> Option<P::Inx>
         ensures value { option_map P.Inx.number result ≡ self.now.next }
         ensures named { named_of self.now.next ≡ self.now.next }
@@ -55,7 +53,7 @@ impl<P: BasePtr, T> LinkNoGen<P, T> {
         self.next.get()
     }
 
-    /// The indexes of the entries before and after this one.
+    /// Returns the indexes of the entries before and after this one.
     pub fn prev_next(&self) -> (Option<P::Inx>, Option<P::Inx>)
         ensures prev { option_map P.Inx.number result.0 ≡ self.now.prev }
         ensures next { option_map P.Inx.number result.1 ≡ self.now.next }

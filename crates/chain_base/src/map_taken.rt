@@ -1,20 +1,20 @@
-//! `MapTaken`: what becomes of an entry that goes over from one arena into another.
+//! `MapTaken`: what an item becomes when its entry moves into another arena.
 ghost use Rattle.arena_base.specs.declared.invalidation.InvalidationOption.{InvalidationOption as Taken};
 
 use arena_base::{BasePtr, Calls, InvalidationOption};
 
-/// What makes a new item of the pointer that an entry had, its item with what its removal says, and its new pointer, as a closure
-/// `FnMut(Q, InvalidationOption<U>, P) -> T` does.
+/// Makes a new item from an entry's old pointer, its item with the result of its removal, and its new pointer, as a closure `FnMut(Q,
+/// InvalidationOption<U>, P) -> T` does.
 ///
-/// A container over a chain writes its own, which hands its part of the items on to that of its caller.
+/// A container over a chain implements it anew, and passes the inner items on to its caller's implementation.
 pub trait MapTaken<Q: BasePtr, U, P: BasePtr, T> {
-    // it may be called
+    // It may be called.
     ghost callable: { Self → Type 0 };
 
-    // a call in this state, with these arguments, may give this item and leave this state
+    // A call in this state, with these arguments, may return this item and leave this state.
     ghost step: { Self → Q → Taken U → P → T → Self → Type 0 };
 
-    /// The item of the new entry.
+    /// Returns the item of the new entry.
     fn map_taken(&mut self, old: Q, taken: InvalidationOption<U>, new: P) -> T
         requires { callable self.old }
         ensures step { step self.old old taken new result self.new }

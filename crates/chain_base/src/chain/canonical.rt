@@ -1,4 +1,4 @@
-//! Giving the entries the indexes of their positions in the list.
+//! Canonical order: each entry gets the index of its position in the list.
 ghost use Rattle.std.specs.Prelude.{◌≡◌};
 ghost use Rattle.std.specs.Option.{option_map};
 ghost use Rattle.arena_base.specs.Compression.{compressed_generation, compression_overflows};
@@ -14,12 +14,11 @@ use arena_base::{BasePtr, BasePtrInx, InvalidationOption};
 use std::alloc::Allocator;
 
 impl<P: BasePtr, T, A: Allocator> ChainArena<P, T, A> {
-    /// Moves all entries to the indexes from 1 on, in the order of the list, and gives them all one generation, which becomes
-    /// the arena's: the first where `reset` is true, else the next one. The entry at position i of the list, counted from 0, has
-    /// index i + 1 then.
+    /// Moves all entries to the indexes from 1 on, in list order, and gives them one generation, which becomes the arena's: the first if
+    /// `reset` is true, else the next. The entry at position i of the list, counted from 0, then has index i + 1.
     ///
-    /// The result says whether the generations began again because the next one comes after the greatest. The capacity stays,
-    /// and all vacant slots count as never used. It takes no memory, and goes through the list once more than `compress`.
+    /// Reports an overflow if the next generation comes after the greatest. The capacity stays, and the free list is ascending, as if no
+    /// slot had been used. No memory, and one more pass over the list than `compress`.
     pub fn compress_canonical(&mut self, reset: bool) -> InvalidationOption<()>
         ensures after { self.new
             ≡ canonical self.old (compressed_generation P.Gen.greatest reset self.old.generation) }
@@ -37,21 +36,21 @@ impl<P: BasePtr, T, A: Allocator> ChainArena<P, T, A> {
         overflow
     }
 
-    // The index after that of an entry.
+    // The index of the entry after the one at `i`.
     fn next_after(&self, i: P::Inx) -> Option<P::Inx>
         ensures { option_map P.Inx.number result ≡ index_after self.now.entries (P.Inx.number i) }
     {
         self.arena.get_inx(i)?.1.next()
     }
 
-    // Lets two entries, all having the arena's generation, change their indexes with each other.
+    // Swaps the indexes of two entries. All entries must have the arena's generation.
     fn exchange(&mut self, i: P::Inx, j: P::Inx)
         requires first { IsOccupied self.old (P.Inx.number i) }
         requires second { IsOccupied self.old (P.Inx.number j) }
         requires even { IsEven self.old }
         ensures { self.new ≡ exchanged self.old (P.Inx.number i) (P.Inx.number j) }
     {
-        // Each index of an entry can be named in a link.
+        // For the prover: each index of an entry can be named in a link.
         let _ = self.len();
         let of_i = self.neighbours_at(i);
         let of_j = self.neighbours_at(j);
@@ -76,7 +75,7 @@ impl<P: BasePtr, T, A: Allocator> ChainArena<P, T, A> {
     }
 }
 
-// The index that an entry has once those at i and j have changed theirs.
+// The index that an entry has after those at i and j swapped theirs.
 fn exchanged_inx<P: BasePtr>(at: Option<P::Inx>, i: P::Inx, j: P::Inx) -> Option<P::Inx>
     ensures { option_map P.Inx.number result
         ≡ option_map (exchanged_index (P.Inx.number i) (P.Inx.number j))

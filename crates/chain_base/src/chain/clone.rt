@@ -1,4 +1,4 @@
-//! Taking over the pointers of another chain, in its order.
+//! Clones of other chains, with their pointers and their order.
 ghost use Rattle.std.specs.Prelude.{◌≡◌, ◌<◌, ◌↔◌, ◌⊎◌, OnOk, OnErr};
 ghost use Rattle.arena_base.specs.Clone.{Grants};
 ghost use Rattle.chain_base.specs.Chain.{chain_limit, greatest_index};
@@ -10,15 +10,18 @@ use arena_base::{BasePtr, CloneEntry, ReallocationError};
 use std::alloc::{AllocError, Allocator};
 
 impl<P: BasePtr, T: Drop, A: Allocator> ChainArena<P, T, A> {
-    /// Makes this chain a clone of the source, with items that `map` makes: it has the source's pointers in the source's order,
-    /// and its generation, and its own old entries are dropped.
+    /// Makes this chain a clone of `source`: it has the source's pointers, order and generation, and items made by `map`. Its own entries
+    /// are dropped.
     ///
-    /// For each entry of the source, by rising index, `map` is called with its pointer, a reference to its item, and the indexes of
-    /// the entries before and after it. The capacity grows to the source's greatest index, where it is less, before anything else
-    /// changes; the maximum stays, and all vacant slots count as never used. It goes through the slots of both once.
+    /// `map` is called for each entry of the source, in index order, with its pointer, a reference to its item, and the indexes of the
+    /// entries before and after it. If the capacity is less than the source's greatest index, it grows to that first. The maximum stays,
+    /// and the free list is ascending, as if no slot had been used. One pass over the slots of both.
     ///
-    /// It is refused with `BeyondMaxCapacity` where that index is beyond this chain's limit, and with `AllocError` where the
-    /// capacity would grow and memory is refused. Nothing changes then, and `map` isn't called.
+    /// # Errors
+    ///
+    /// The chain is unchanged, and `map` isn't called.
+    /// - `BeyondMaxCapacity`: the source's greatest index is beyond this chain's limit.
+    /// - `AllocError`: growing failed.
     pub fn clone_from_with<
         U,
         B: Allocator + Copy,
@@ -37,10 +40,13 @@ impl<P: BasePtr, T: Drop, A: Allocator> ChainArena<P, T, A> {
         self.clone_by(source, &mut calls)
     }
 
-    /// Makes this chain a clone of the source as `clone_from_with` does, where `map` may be refused memory for an item.
+    /// Makes this chain a clone of `source`, as `clone_from_with` does. `map` may be refused memory for an item.
     ///
-    /// The first item that is refused ends the call with `AllocError`. The chain is empty then, with the source's generation and
-    /// the capacity of a clone. Where the growth is refused, or the index is beyond the limit, nothing changes.
+    /// # Errors
+    ///
+    /// - `BeyondMaxCapacity`: the source's greatest index is beyond this chain's limit. The chain is unchanged.
+    /// - `AllocError`: growing failed, and the chain is unchanged. Or `map` was refused memory, which ends the call: the chain is empty,
+    ///   with the source's generation and the capacity of a clone.
     pub fn try_clone_from_with<
         U,
         B: Allocator + Copy,
@@ -63,10 +69,10 @@ impl<P: BasePtr, T: Drop, A: Allocator> ChainArena<P, T, A> {
         self.clone_by(source, &mut calls)
     }
 
-    /// Makes this chain a clone of the source as `try_clone_from_with` does, where `map` has the place of the closure.
+    /// Makes this chain a clone of `source`, as `try_clone_from_with` does, with `map` in place of the closure.
     ///
-    /// `map` is left in the state after the call for the last entry, or after the call that was refused; it is unchanged if the growth
-    /// is refused or the index is beyond the limit.
+    /// `map` is left in the state after the call for the last entry, or after the refused call. It is unchanged if growing fails or the
+    /// index is beyond the limit.
     pub fn clone_by<U, B: Allocator + Copy, M: CloneEntry<P, LinkNoGen<P, U>, T>>(
         &mut self,
         source: &ChainArena<P, U, B>,
@@ -85,7 +91,7 @@ impl<P: BasePtr, T: Drop, A: Allocator> ChainArena<P, T, A> {
             × (self.new ≡ self.old) × (map.new ≡ map.old))
             ⊎ IsRefusedClone P.numbers M.step map.old source.now self.old self.new map.new }
     {
-        // The invariant of the source's list is needed: each of its indexes is above 0.
+        // For the prover: each index of the source's list is above 0.
         let _ = source.len();
         let mut link = CloneLink { map };
         let cloned = self.arena.clone_by(&source.arena, &mut link);
@@ -104,7 +110,7 @@ impl<P: BasePtr, T: Drop, A: Allocator> ChainArena<P, T, A> {
     }
 }
 
-/// Makes a link of a clone, which has the neighbours of the source's.
+/// Makes a link of a clone, with the neighbours of the source's link.
 #[doc(hidden)]
 #[derive(Drop)]
 pub struct CloneLink<'a, M> {
@@ -132,7 +138,7 @@ impl<'a, P: BasePtr, T, U, M: CloneEntry<P, LinkNoGen<P, U>, T>> CloneEntry<
     }
 }
 
-/// A closure that is shown the parts of a link, as what makes the items of a clone.
+/// A closure that is shown the parts of a link, and makes the items of a clone.
 #[doc(hidden)]
 #[derive(Drop)]
 pub struct ShowLink<F> {

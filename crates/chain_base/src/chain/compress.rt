@@ -1,4 +1,4 @@
-//! Moving all entries to the least indexes.
+//! Compression: all entries move to the least indexes.
 ghost use Rattle.std.specs.Prelude.{◌≡◌};
 ghost use Rattle.std.specs.Option.{option_map, ForSome};
 ghost use Rattle.arena_base.specs.Arena.{IsFresh, IsOccupied};
@@ -15,13 +15,11 @@ use arena_base::{Arena, BasePtr, BasePtrInx, Calls, InvalidationOption, MapEntry
 use std::alloc::Allocator;
 
 impl<P: BasePtr, T, A: Allocator> ChainArena<P, T, A> {
-    /// Moves all entries to the indexes from 1 on, in the order of their indexes, and gives them all one generation, which
-    /// becomes the arena's: the first where `reset` is true, else the next one. The list keeps its order.
+    /// Moves all entries to the indexes from 1 on, in index order, and gives them one generation, which becomes the arena's: the first if
+    /// `reset` is true, else the next. Reports an overflow if the next one comes after the greatest. The list keeps its order.
     ///
-    /// The result says whether the generations began again because the next one comes after the greatest. For each entry, by
-    /// rising index, `f` is called with its old pointer, its item and its new pointer, and gives the item that the entry has
-    /// then. The capacity stays, and all vacant slots count as never used. It takes no memory, and goes through the slots three
-    /// times.
+    /// `f` is called for each entry, in index order, with its old pointer, its item and its new pointer. It returns the entry's new item.
+    /// The capacity stays, and the free list is ascending, as if no slot had been used. Three passes over the slots, and no memory.
     pub fn compress_with<F: FnMut(P, T, P) -> T + Drop>(
         &mut self,
         reset: bool,
@@ -36,19 +34,19 @@ impl<P: BasePtr, T, A: Allocator> ChainArena<P, T, A> {
         self.compress_by(reset, Calls { f })
     }
 
-    /// Moves all entries to the indexes from 1 on as `compress_with` does, each with the item that it has.
+    /// Moves all entries to the indexes from 1 on, as `compress_with` does. Each keeps its item.
     pub fn compress(&mut self, reset: bool) -> InvalidationOption<()>
         ensures after { self.new
             ≡ relocated self.old (compressed_generation P.Gen.greatest reset self.old.generation) }
         ensures overflow { is_overflow result
             ≡ compression_overflows P.Gen.greatest reset self.old.generation }
     {
-        // The invariant of the list is needed: each of its indexes is within the capacity.
+        // For the prover: each index of the list is within the capacity.
         let _ = self.len();
         self.compress_with(reset, |_old, item, _new| item)
     }
 
-    /// Moves all entries to the indexes from 1 on as `compress_with` does, where `map` has the place of the closure.
+    /// Moves all entries to the indexes from 1 on, as `compress_with` does, with `map` in place of the closure.
     pub fn compress_by<M: MapEntry<P, T> + Drop>(
         &mut self,
         reset: bool,
@@ -68,7 +66,7 @@ impl<P: BasePtr, T, A: Allocator> ChainArena<P, T, A> {
     }
 }
 
-// Compresses the arena under a chain. The links keep the names of neighbours that they have.
+// Compresses the arena under a chain. The links keep the neighbours that they name.
 fn compress_items<P: BasePtr, T, A: Allocator, M: MapEntry<P, T> + Drop>(
     arena: &mut Arena<P, LinkNoGen<P, T>, A>,
     reset: bool,
@@ -112,11 +110,11 @@ pub enum Side {
     After,
 }
 
-// For each entry, by rising index, lets its neighbour on a side name the entry's compressed index: its number among all, counted
-// from 1. Returns that of the entry that has no such neighbour.
+// For each entry, by rising index, links its neighbour on a side to the entry's compressed index: its place among all entries, counted
+// from 1. Returns the compressed index of the entry without such a neighbour.
 //
-// Before a compression these are the indexes to come: an entry is met at its old index, its neighbour's link not
-// yet changed on this side. After it they are the indexes.
+// Before a compression these are the indexes to come: an entry is found at its old index, and its link on this side is still unchanged.
+// After it they are the indexes.
 fn name_compressed_indexes<P: BasePtr, T, A: Allocator>(
     arena: &mut Arena<P, LinkNoGen<P, T>, A>,
     side: Side,
@@ -151,7 +149,7 @@ fn neighbour_on<P: BasePtr, T>(link: &LinkNoGen<P, T>, side: Side) -> Option<P::
     }
 }
 
-// Links the entry at an index, if one is named, to another neighbour on the side that faces this one.
+// Links the entry at an index, if one is given, to another neighbour on the side that faces this one.
 fn link_facing<P: BasePtr, T, A: Allocator>(
     arena: &mut Arena<P, LinkNoGen<P, T>, A>,
     side: Side,

@@ -1,4 +1,4 @@
-//! Looking up entries and their neighbours.
+//! Lookup of entries and their neighbours.
 ghost use Rattle.std.specs.Prelude.{◌≡◌, ◌↔◌, [], Some, IfSome, IsNone, is_some, length};
 ghost use Rattle.std.specs.Option.{option_copied, option_map};
 ghost use Rattle.chain_base.specs.Chain.{entry_at, item_of, link_at, pointed, first_pointer, last_pointer, IsOccupied, IsFirstIndex, IsLastIndex};
@@ -9,21 +9,21 @@ use arena_base::BasePtr;
 use std::alloc::Allocator;
 
 impl<P: BasePtr, T, A: Allocator> ChainArena<P, T, A> {
-    /// Whether the pointer names an entry.
+    /// Returns whether `p` names an entry.
     pub fn contains(&self, p: P) -> bool
         ensures { result ≡ is_some (item_of self.now.entries (P.numbers p)) }
     {
         self.arena.contains(p)
     }
 
-    /// Whether there is an entry at the index.
+    /// Returns whether index `i` has an entry.
     pub fn contains_inx(&self, i: P::Inx) -> bool
         ensures { result ≡ is_some (entry_at self.now.entries (P.Inx.number i)) }
     {
         self.get_inx(i).is_some()
     }
 
-    /// The item that the pointer names.
+    /// Returns the item of `p`; `None` if `p` is stale.
     pub fn get(&self, p: P) -> Option<&T>
         ensures { option_copied result ≡ item_of self.now.entries (P.numbers p) }
     {
@@ -31,7 +31,7 @@ impl<P: BasePtr, T, A: Allocator> ChainArena<P, T, A> {
         Some(&link.t)
     }
 
-    /// Generation and item of the entry at the index.
+    /// Returns the generation and the item of the entry at index `i`; `None` if there is none.
     pub fn get_inx(&self, i: P::Inx) -> Option<(P::Gen, &T)>
         ensures { option_map (λ e. (P.Gen.number e.0, e.1.now)) result
             ≡ entry_at self.now.entries (P.Inx.number i) }
@@ -41,7 +41,7 @@ impl<P: BasePtr, T, A: Allocator> ChainArena<P, T, A> {
         Some((entry.0, &link.t))
     }
 
-    /// Generation and item of the entry at an index that has one.
+    /// Returns the generation and the item of the entry at index `i`, which must have one.
     pub fn entry(&self, i: P::Inx) -> (P::Gen, &T)
         requires { IsOccupied self.now (P.Inx.number i) }
         ensures { entry_at self.now.entries (P.Inx.number i)
@@ -52,7 +52,7 @@ impl<P: BasePtr, T, A: Allocator> ChainArena<P, T, A> {
         (pair.0, &link.t)
     }
 
-    /// Item and neighbours of the entry at an index that has one.
+    /// Returns the item and the neighbours of the entry at index `i`, which must have one.
     pub fn link(&self, i: P::Inx) -> &LinkNoGen<P, T>
         requires { IsOccupied self.now (P.Inx.number i) }
         ensures { option_map (λ e. e.1) (link_at self.now.entries (P.Inx.number i))
@@ -61,7 +61,7 @@ impl<P: BasePtr, T, A: Allocator> ChainArena<P, T, A> {
         self.arena.entry(i).1
     }
 
-    /// Generation, item and neighbours of the entry at the index.
+    /// Returns the generation, the item and the neighbours of the entry at index `i`; `None` if there is none.
     pub fn get_inx_link_no_gen(&self, i: P::Inx) -> Option<(P::Gen, LinkNoGen<P, &T>)>
         ensures { option_map
             (λ e. (
@@ -75,14 +75,14 @@ impl<P: BasePtr, T, A: Allocator> ChainArena<P, T, A> {
         Some((entry.0, LinkNoGen::new(link.prev_next(), &link.t)))
     }
 
-    /// The pointer of the first entry of the list.
+    /// Returns the pointer of the first entry of the list; `None` if it is empty.
     pub fn first(&self) -> Option<P>
         ensures { option_map P.numbers result ≡ first_pointer self.now.entries }
     {
         self.ptr_at(self.first?)
     }
 
-    /// The pointer of the last entry of the list.
+    /// Returns the pointer of the last entry of the list; `None` if it is empty.
     pub fn last(&self) -> Option<P>
         ensures pointer { option_map P.numbers result ≡ last_pointer self.now.entries }
         ensures empty { IsNone result ↔ (self.now.entries ≡ []) }
@@ -90,7 +90,7 @@ impl<P: BasePtr, T, A: Allocator> ChainArena<P, T, A> {
         self.ptr_at(self.last?)
     }
 
-    /// The pointer of the entry with the least index.
+    /// Returns the pointer of the entry with the least index; `None` if there are no entries.
     pub fn find_first_inx_ptr(&self) -> Option<P>
         ensures first { IfSome result
             (λ p. IsFirstIndex self.now.entries (P.numbers p).0 (P.numbers p).1) }
@@ -99,7 +99,7 @@ impl<P: BasePtr, T, A: Allocator> ChainArena<P, T, A> {
         self.arena.find_first_inx_ptr()
     }
 
-    /// The pointer of the entry with the greatest index.
+    /// Returns the pointer of the entry with the greatest index; `None` if there are no entries.
     pub fn find_last_inx_ptr(&self) -> Option<P>
         ensures last { IfSome result
             (λ p. IsLastIndex self.now.entries (P.numbers p).0 (P.numbers p).1) }
@@ -108,7 +108,7 @@ impl<P: BasePtr, T, A: Allocator> ChainArena<P, T, A> {
         self.arena.find_last_inx_ptr()
     }
 
-    // The pointer of the entry at the index.
+    // The pointer of the entry at an index.
     pub(super) fn ptr_at(&self, i: P::Inx) -> Option<P>
         ensures { option_map P.numbers result
             ≡ pointed (P.Inx.number i) (entry_at self.now.entries (P.Inx.number i)) }

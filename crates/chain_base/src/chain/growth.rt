@@ -1,4 +1,4 @@
-//! Making a chain arena, and changing its capacity.
+//! New chain arenas, and changes of the capacity.
 ghost use Rattle.std.specs.Prelude.{◌≡◌, ◌<◌, ◌≤◌, ◌↔◌, ◌⊎◌, max, length, IsSome, IsOk, IsErr, IfOk, OnOk, IfErr, OnErr};
 ghost use Rattle.arena_base.specs.Generation.{overflows_after};
 ghost use Rattle.arena_base.specs.Invalidation.{is_overflow};
@@ -12,7 +12,7 @@ use arena_base::{
 use std::alloc::{AllocError, Allocator};
 
 impl<P: BasePtr, T, A: Allocator> ChainArena<P, T, A> {
-    /// An empty chain arena with capacity 0 and no maximum, which takes no memory until it grows.
+    /// Creates an empty chain arena with capacity 0 and no maximum. It takes no memory until it grows.
     pub fn new(alloc: A) -> Self
     where
         A: Copy,
@@ -25,8 +25,8 @@ impl<P: BasePtr, T, A: Allocator> ChainArena<P, T, A> {
         }
     }
 
-    /// An empty chain arena with room for `n` entries. It fails where memory is refused, or the pointers' indexes can't name
-    /// so many.
+    /// Creates an empty chain arena with room for `n` entries. Fails if memory is refused, or `n` is beyond the greatest index of an
+    /// entry.
     pub fn with_min_capacity(alloc: A, n: usize) -> Result<Self, AllocError>
     where
         A: Copy,
@@ -41,10 +41,14 @@ impl<P: BasePtr, T, A: Allocator> ChainArena<P, T, A> {
         })
     }
 
-    /// Makes the capacity the greater of `n` and the greatest index with an entry. All vacant slots then count as never used.
+    /// Sets the capacity to the greater of `n` and the greatest occupied index. The free list is ascending then, as if no slot had been
+    /// used.
     ///
-    /// It is refused where `n` is beyond the maximum or the greatest index, or where the capacity would grow and memory is
-    /// refused. Nothing changes then.
+    /// # Errors
+    ///
+    /// The chain is unchanged.
+    /// - `BeyondMaxCapacity`: `n` is beyond the maximum or the greatest index of an entry.
+    /// - `AllocError`: growing failed.
     #[cold]
     #[inline(never)]
     pub fn reallocate_min_capacity(&mut self, n: usize) -> Result<(), ReallocationError>
@@ -58,12 +62,16 @@ impl<P: BasePtr, T, A: Allocator> ChainArena<P, T, A> {
         self.arena.reallocate_min_capacity(n)
     }
 
-    /// Sees to it that a slot is vacant: where none is, it grows. The next insertion takes the slot that it would have taken after
-    /// growing by itself, and needs no memory.
+    /// Makes sure that a slot is vacant: grows if none is. The next insertion takes the slot that it would have taken after growing by
+    /// itself, and needs no memory.
     ///
-    /// A growth makes the capacity twice as great, at least 4, and at most its limit, in O(capacity). It is refused with
-    /// `BeyondMaxCapacity` where no slot is vacant and the capacity is at the limit, and with `AllocError` where none is and memory
-    /// is refused. Nothing changes then.
+    /// Growing doubles the capacity, to at least 4 and at most the limit, in O(capacity).
+    ///
+    /// # Errors
+    ///
+    /// The chain is unchanged.
+    /// - `BeyondMaxCapacity`: no slot is vacant, and the capacity is at the limit.
+    /// - `AllocError`: no slot is vacant, and growing failed.
     #[inline(always)]
     pub fn make_room(&mut self) -> Result<(), InsertionError>
         ensures ok { OnOk result (self.new ≡ with_room P.Inx.most self.old) }
@@ -93,7 +101,7 @@ impl<P: BasePtr, T, A: Allocator> ChainArena<P, T, A> {
         }
     }
 
-    // How far the capacity may grow.
+    // The greatest capacity that the arena may have.
     fn limit(&self) -> usize
         ensures { result ≡ chain_limit P.Inx.most self.now }
     {
@@ -103,7 +111,11 @@ impl<P: BasePtr, T, A: Allocator> ChainArena<P, T, A> {
         }
     }
 
-    /// Sets a maximum of the capacity. It is refused where the capacity is already greater, and nothing changes then.
+    /// Sets the maximum of the capacity.
+    ///
+    /// # Errors
+    ///
+    /// The chain is unchanged: its capacity is already greater than `n`.
     pub fn set_max_capacity(&mut self, n: usize) -> Result<(), MaxCapacityReductionError>
         ensures ok { OnOk result (self.new ≡ record self.old { maximum = Some n }) }
         ensures refused { IsErr result ↔ (n < self.old.capacity) }
@@ -112,8 +124,8 @@ impl<P: BasePtr, T, A: Allocator> ChainArena<P, T, A> {
         self.arena.set_max_capacity(n)
     }
 
-    /// Drops all entries and raises the generation, once also where there was none. The capacity stays, and all slots count as
-    /// never used. It takes no memory.
+    /// Drops all entries and raises the generation once, even if there are no entries. The capacity stays, and the free list is
+    /// ascending, as if no slot had been used. No memory.
     pub fn clear(&mut self) -> InvalidationOption<()>
     where
         T: Drop,

@@ -1,4 +1,4 @@
-//! Adding entries.
+//! Insertions.
 ghost use Rattle.std.specs.Prelude.{◌≡◌, ◌≤◌, ◌↔◌, ◌⊎◌, Some, IsErr, IfOk, IfErr, OnErr, length};
 ghost use Rattle.std.specs.Option.{option_map};
 ghost use Rattle.chain_base.specs.Chain.{chain_limit, with_room};
@@ -10,21 +10,25 @@ use crate::link::LinkNoGen;
 use arena_base::{BasePtr, InsertionError};
 use std::alloc::Allocator;
 
-/// Where a new entry stands in the list.
+/// Where a new entry goes in the list.
 #[derive(Debug, PartialEq, Eq, Drop)]
 pub enum LinkInsertKind<P: BasePtr> {
     /// As the only entry. The list must be empty.
     Disconnected,
-    /// Directly after the entry of this index, which must have one.
+    /// Directly after the entry at this index, which must have one.
     NextToInx(P::Inx),
-    /// Directly before the entry of this index, which must have one.
+    /// Directly before the entry at this index, which must have one.
     PrevToInx(P::Inx),
 }
 
 impl<P: BasePtr, T: Drop, A: Allocator> ChainArena<P, T, A> {
-    /// Inserts an item at the place that `kind` names, into the slot that was freed last, else the least that was never used.
+    /// Inserts `t` at the place that `kind` names, into the first slot of the free list, and returns its pointer. That is the slot freed
+    /// last, else the least never used. The entry's generation is the arena's.
     ///
-    /// Its generation is the arena's. It is refused where no slot is vacant; the item is then dropped, and nothing else changes.
+    /// # Errors
+    ///
+    /// The chain is unchanged and `t` is dropped.
+    /// - `NotWithinCapacity`: no slot is vacant.
     #[inline(always)]
     pub fn insert_within_capacity(
         &mut self,
@@ -55,10 +59,15 @@ impl<P: BasePtr, T: Drop, A: Allocator> ChainArena<P, T, A> {
         Ok(p)
     }
 
-    /// Inserts an item as `insert_within_capacity` does, and grows first where no slot is vacant.
+    /// Inserts `t`, as `insert_within_capacity` does, and grows first if no slot is vacant.
     ///
-    /// A growth makes the capacity twice as great, at least 4, and at most its limit. It is refused where the capacity is at the
-    /// limit or memory is refused; the item is then dropped, and nothing else changes.
+    /// Growing doubles the capacity, to at least 4 and at most the limit.
+    ///
+    /// # Errors
+    ///
+    /// The chain is unchanged and `t` is dropped.
+    /// - `BeyondMaxCapacity`: the chain is full and its capacity is at the limit.
+    /// - `AllocError`: growing failed.
     pub fn insert_reallocating(
         &mut self,
         kind: LinkInsertKind<P>,

@@ -1,4 +1,4 @@
-//! The few writes that change links.
+//! The writes that change links.
 ghost use Rattle.std.specs.Prelude.{◌≡◌, is_some, if◌then◌else◌};
 ghost use Rattle.std.specs.Option.{option_map, ForSome};
 ghost use Rattle.arena_base.specs.Arena.{IsOccupied};
@@ -9,8 +9,7 @@ use crate::link::LinkNoGen;
 use arena_base::{Arena, BasePtr, ItemsMut};
 use std::alloc::Allocator;
 
-// Lets `left`, if there is one, lead on to `next`, and `right`, if there is one, back to `prev`. If one is missing, that end of the list
-// is new.
+// Links `left`, if any, on to `next`, and `right`, if any, back to `prev`. If one of them is missing, that end of the list changes.
 pub(super) fn relink<P: BasePtr, T, A: Allocator>(
     arena: &mut Arena<P, LinkNoGen<P, T>, A>,
     left: Option<P::Inx>,
@@ -43,7 +42,7 @@ pub(super) fn relink<P: BasePtr, T, A: Allocator>(
     }
 }
 
-// Links the entry at an index, if one is named, to another next one.
+// Links the entry at an index, if one is given, to another next one.
 pub(super) fn set_next<P: BasePtr, T, A: Allocator>(
     arena: &mut Arena<P, LinkNoGen<P, T>, A>,
     at: Option<P::Inx>,
@@ -60,7 +59,7 @@ pub(super) fn set_next<P: BasePtr, T, A: Allocator>(
     }
 }
 
-// Links the entry at an index, if one is named, to another previous one.
+// Links the entry at an index, if one is given, to another previous one.
 pub(super) fn set_prev<P: BasePtr, T, A: Allocator>(
     arena: &mut Arena<P, LinkNoGen<P, T>, A>,
     at: Option<P::Inx>,

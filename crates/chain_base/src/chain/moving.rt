@@ -1,4 +1,4 @@
-//! Moving an entry in the list.
+//! Moving an entry within the list.
 ghost use Rattle.std.specs.Prelude.{◌≡◌};
 ghost use Rattle.std.specs.Option.{option_map};
 ghost use Rattle.chain_base.specs.Chain.{Chain, IsOccupied};
@@ -15,13 +15,13 @@ use std::alloc::Allocator;
 impl<P: BasePtr, T, A: Allocator> ChainArena<P, T, A> {
     /// Moves the entry at `i` to the place that `kind` names in the list without it. It keeps its pointer and its item.
     ///
-    /// The other entries keep their order. Beside its own neighbour the entry stays where it is. O(1), and no memory.
+    /// The other entries keep their order. Next to its own neighbour, the entry stays where it is. O(1), and no memory.
     pub fn move_beside(&mut self, i: P::Inx, kind: LinkInsertKind<P>)
         requires entry { IsOccupied self.old (P.Inx.number i) }
         requires place { CanPlace P.Inx.number kind (without_entry self.old (P.Inx.number i)) }
         ensures { self.new ≡ with_entry_moved self.old (P.Inx.number i) (placed P.Inx.number kind) }
     {
-        // Each index of an entry can be named in a link.
+        // For the prover: each index of an entry can be named in a link.
         let _ = self.len();
         let (prev, next) = self.arena.entry(i).1.prev_next();
         relink(
@@ -48,7 +48,7 @@ impl<P: BasePtr, T, A: Allocator> ChainArena<P, T, A> {
     }
 }
 
-// The neighbours that an entry gets at a place of a list. The slots of the list's entries hold their links.
+// The neighbours that an entry gets at a place of a list, if the slots of the list's entries hold their links.
 fn neighbours_in<P: BasePtr, T, A: Allocator>(
     arena: &Arena<P, LinkNoGen<P, T>, A>,
     kind: LinkInsertKind<P>,

@@ -1,4 +1,4 @@
-//! Ending entries and their pointers.
+//! Removals, and renewals of pointers.
 ghost use Rattle.std.specs.Prelude.{◌≡◌, Some, is_some};
 ghost use Rattle.std.specs.Option.{option_map};
 ghost use Rattle.arena_base.specs.Generation.{overflows_after};
@@ -12,10 +12,10 @@ use arena_base::{BasePtr, InvalidationOption, InvalidationResult};
 use std::alloc::Allocator;
 
 impl<P: BasePtr, T, A: Allocator> ChainArena<P, T, A> {
-    /// Takes the entry at the index out, with its generation and the link that it had, links its neighbours to each other,
-    /// and raises the generation. The next insertion takes its slot. It takes no memory.
+    /// Removes the entry at index `i`, links its neighbours to each other, and raises the generation. Returns the entry's generation and
+    /// the link that it had. The next insertion takes its slot. No memory.
     ///
-    /// At an index without an entry it returns `InvalidPtr`, and nothing changes.
+    /// If the index has no entry, returns `InvalidPtr` and nothing changes.
     pub fn remove_inx_link_no_gen(
         &mut self,
         i: P::Inx,
@@ -31,8 +31,8 @@ impl<P: BasePtr, T, A: Allocator> ChainArena<P, T, A> {
         self.remove_entry(i).valid()
     }
 
-    /// Takes the entry out at an index that has one, with its generation and the link that it had, links its neighbours to each
-    /// other, and raises the generation. The next insertion takes its slot. It takes no memory.
+    /// Removes the entry at index `i`, which must have one, links its neighbours to each other, and raises the generation. Returns the
+    /// entry's generation and the link that it had. The next insertion takes its slot. No memory.
     pub fn remove_entry(&mut self, i: P::Inx) -> InvalidationOption<(P::Gen, LinkNoGen<P, T>)>
         requires { IsOccupied self.old (P.Inx.number i) }
         ensures value { link_at self.old.entries (P.Inx.number i)
@@ -54,9 +54,9 @@ impl<P: BasePtr, T, A: Allocator> ChainArena<P, T, A> {
         taken
     }
 
-    /// Gives the entry that the pointer names a new pointer, at the same index and place and with the raised generation.
+    /// Gives the entry of `p` a new pointer, with the same index and the raised generation, and returns it. The entry keeps its place.
     ///
-    /// For a pointer that names no entry it returns `InvalidPtr`, and nothing changes.
+    /// If `p` is stale, returns `InvalidPtr` and nothing changes.
     pub fn invalidate(&mut self, p: P) -> InvalidationResult<P>
         ensures { IsRenewal P.numbers P.Gen.greatest self.old.generation result (P.numbers p).0
             (is_some (item_of self.old.entries (P.numbers p)))

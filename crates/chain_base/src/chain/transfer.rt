@@ -1,4 +1,4 @@
-//! Moving all entries over into another chain.
+//! Transfers: all entries move into another chain.
 ghost use Rattle.std.specs.Prelude.{◌≡◌, ◌<◌, ◌≤◌, ◌↔◌, List, [], ◌∷◌, ◌++◌, OnOk, OnErr, length, max};
 ghost use Rattle.std.specs.Option.{option_map};
 ghost use Rattle.arena_base.specs.Generation.{IsLawfulGeneration};
@@ -15,16 +15,18 @@ use arena_base::{BasePtr, Calls, InvalidationOption, InvalidationResult, Realloc
 use std::alloc::Allocator;
 
 impl<P: BasePtr, T, A: Allocator> ChainArena<P, T, A> {
-    /// Takes all entries out of the source, in order, and puts one for each into this chain, whose old entries are dropped: at
-    /// the indexes from 1 on, with this generation, which becomes the chain's. The capacity grows to their number where it was
-    /// less.
+    /// Moves all entries of `source`, in order, into this chain, whose own entries are dropped. They get the indexes from 1 on and the
+    /// generation `new_generation`, which becomes the chain's. If the capacity is less than their number, it grows to that first.
     ///
-    /// For each entry `f` is called with its old pointer, its item, with what the removal says of the source's generations, and
-    /// its new pointer, and gives the item that the new entry has. Each removal raises the source's generation once, and the
-    /// source keeps its capacity. Of both, all vacant slots count as never used.
+    /// `f` is called for each entry with its old pointer, the result of its removal with its item, and its new pointer. It returns the
+    /// new entry's item. Each removal raises the source's generation once. The source keeps its capacity. Both free lists are ascending
+    /// then, as if no slot had been used.
     ///
-    /// It is refused with `BeyondMaxCapacity` where the source has more entries than this chain's limit, and with `AllocError`
-    /// where the capacity would grow and memory is refused. Nothing changes then, and `f` isn't called.
+    /// # Errors
+    ///
+    /// Both chains are unchanged, and `f` isn't called.
+    /// - `BeyondMaxCapacity`: the source has more entries than this chain's limit.
+    /// - `AllocError`: growing failed.
     pub fn transfer_canonical_reallocating<
         Q: BasePtr,
         U,
@@ -52,7 +54,7 @@ impl<P: BasePtr, T, A: Allocator> ChainArena<P, T, A> {
         self.transfer_by(new_generation, source, Calls { f })
     }
 
-    /// Takes all entries over as `transfer_canonical_reallocating` does, where `map` has the place of the closure.
+    /// Moves all entries, as `transfer_canonical_reallocating` does, with `map` in place of the closure.
     pub fn transfer_by<Q: BasePtr, U, B: Allocator, M: MapTaken<Q, U, P, T> + Drop>(
         &mut self,
         new_generation: P::Gen,
@@ -81,7 +83,7 @@ impl<P: BasePtr, T, A: Allocator> ChainArena<P, T, A> {
     }
 }
 
-// Makes the capacity n where it is less.
+// Raises the capacity to `n` if it is less.
 fn raise_capacity<P: BasePtr, T, A: Allocator>(
     chain: &mut ChainArena<P, T, A>,
     n: usize,
@@ -100,7 +102,7 @@ fn raise_capacity<P: BasePtr, T, A: Allocator>(
     chain.reallocate_min_capacity(n)
 }
 
-// Takes all entries of the source over into a chain without entries.
+// Moves all entries of the source into an empty chain.
 fn take_all<
     P: BasePtr,
     T: Drop,
@@ -127,7 +129,7 @@ fn take_all<
     }
 }
 
-// Takes the first entry out.
+// Removes the first entry.
 fn take_first<Q: BasePtr, U, B: Allocator>(
     source: &mut ChainArena<Q, U, B>,
 ) -> (Q, InvalidationOption<U>)
@@ -149,7 +151,7 @@ fn item_taken<Q: BasePtr, U>(
     taken.map(|(_, link)| link.t)
 }
 
-// Puts an item behind the last of those at the indexes from 1 on.
+// Inserts an item behind the last of the entries at the indexes from 1 on.
 fn put_last<P: BasePtr, T: Drop, A: Allocator>(
     chain: &mut ChainArena<P, T, A>,
     last: Option<P::Inx>,
@@ -168,7 +170,7 @@ fn put_last<P: BasePtr, T: Drop, A: Allocator>(
         .unwrap();
 }
 
-// The place behind the last entry, or alone where there is none.
+// The place behind the last entry, or the only place if there is none.
 fn kind_behind<P: BasePtr>(last: Option<P::Inx>) -> LinkInsertKind<P>
     ensures { result ≡ place_behind last }
 {

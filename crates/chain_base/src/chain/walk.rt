@@ -1,4 +1,4 @@
-//! Going along the chain.
+//! Walks along the chain.
 ghost use Rattle.std.specs.Prelude.{◌≡◌, [], Some, None, MatchOption, IfSome, is_some};
 ghost use Rattle.std.specs.Option.{option_map};
 ghost use Rattle.chain_base.specs.Chain.{item_of};
@@ -9,11 +9,11 @@ use arena_base::{Advancer, BasePtr};
 use std::alloc::Allocator;
 use std::marker::Model;
 
-/// Goes through the pointers of a chain arena, from one entry to the last.
+/// Walks over the pointers of a chain arena, from an entry to the last.
 ///
-/// It borrows nothing, and keeps the index of the entry that it gives next: a step gives the entry that has this index then, and
-/// goes on to the index that its link names at that moment. `None` is for good: it comes where no entry has the index, and
-/// after the entry that was the last one when it was given, also where others come behind it later.
+/// It borrows nothing, and keeps the index of the next entry. A step returns the pointer of the entry that has this index then, and goes
+/// on to the index that its link names at that moment. `None` is final: it is returned if no entry has the index, and after the entry
+/// that was last when it was returned, even if others are inserted behind it later.
 #[derive(Drop)]
 pub struct ChainPtrAdvancer<P: BasePtr> {
     at: Option<P::Inx>,
@@ -49,7 +49,7 @@ impl<P: BasePtr, T, A: Allocator> Advancer<ChainArena<P, T, A>> for ChainPtrAdva
 }
 
 impl<P: BasePtr, T, A: Allocator> ChainArena<P, T, A> {
-    /// Goes through the pointers from an entry on, which is the first to be given; `None` where the pointer names no entry.
+    /// Returns a walk that begins with the entry of `p`; `None` if `p` is stale.
     pub fn advancer_chain(&self, p: P) -> Option<ChainPtrAdvancer<P>>
         ensures valid { is_some result ≡ is_some (item_of self.now.entries (P.numbers p)) }
         ensures begins { IfSome result (λ s. s ≡ Some (P.numbers p).0) }

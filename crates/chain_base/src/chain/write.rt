@@ -24,15 +24,15 @@ impl<P: BasePtr, T, A: Allocator> ItemsMut<P, T> for ChainArena<P, T, A> {
     }
 }
 
-// An arena of links, as what holds their items.
+// An arena of links that lets their items be written.
 trait LinkItemsMut<P: BasePtr, T> {
-    // generation and item of the link at an index
+    // Generation and item of the link at an index.
     ghost item_at: { Self → ℕ → Option (ℕ × T) };
 
-    // the links with another item in the one at an index
+    // The links with another item in the one at an index.
     ghost written: { Self → ℕ → T → Self };
 
-    // Generation and item of the link at an index that has one; the item may be written.
+    // Generation and item of the link at an occupied index. The item may be written.
     fn link_item_mut(&mut self, i: P::Inx) -> (P::Gen, &mut T)
         requires { IsSome (item_at self.old (P.Inx.number i)) }
         ensures* writes_back { sem 𝓛

@@ -16,7 +16,7 @@ pub overflow_add-count : goal.overflow_add-count
 overflow_add-count g c =
     omega (arith, c.loop-position.invariant.fewer, c.try_from_usize.ensures.variant, c.capacity-position-end.ensures.limit, c.capacity-position-end.ensures.value)
 
--- what stands at the index that is met
+-- the entry at this index
 module _ {I G X L : Type 0} (number : I → ℕ) (era : G → ℕ) (seen : X → L) (a : Arena L) (i : I) (n : ℕ) (at : number i ≡ n) (r o : Option (G × X)) where
   read : option_map (λ (e : G × X). (era e.0, seen e.1)) r ≡ slot a (number i) → r ≡ o → slot a n ≡ option_map (λ e. (era e.0, seen e.1)) o
   read is same = rw (← at, ← same) (sym is)
