@@ -1,4 +1,4 @@
-//! Arenas as a program sees them.
+//! Arenas from a program's view.
 mod any_arena;
 mod calls;
 mod clones;
@@ -14,13 +14,13 @@ fn p0(inx: u32, generation: u64) -> P0 {
     P0::_from_raw(inx, generation)
 }
 
-/// The numbers of a pointer.
+/// Returns the numbers of a pointer.
 fn numbers(p: Option<P0>) -> Option<(u32, u64)> {
     let p = p?;
     Some((p.inx(), p.generation()))
 }
 
-/// Length, capacity and generation of an arena, and the pointer that comes next.
+/// Length, capacity and generation of an arena, and the next pointer.
 type Counts = (usize, usize, u64, Option<(u32, u64)>);
 
 fn counts<T, A: Allocator>(arena: &Arena<P0, T, A>) -> Counts {

@@ -1,4 +1,4 @@
-//! Chains as a program makes them.
+//! Chains, as a program builds them.
 mod calls;
 mod clones;
 mod memory;
@@ -18,7 +18,7 @@ enum Place {
     Before(u32),
 }
 
-/// Inserts a letter at its place. Answers what the call gives; nothing where the chain has no such place.
+/// Inserts a letter at its place and returns the call's result; `None` if the chain has no such place.
 fn insert<A: Allocator>(
     chain: &mut Letters<A>,
     place: Place,
@@ -36,13 +36,13 @@ fn insert<A: Allocator>(
 /// Index, generation and letter of an entry.
 type Entry = (u32, u64, char);
 
-/// An entry at an index, and the indexes of both its neighbours.
+/// Returns an entry at an index, and the indexes of its neighbours.
 fn seen<A: Allocator>(chain: &Letters<A>, i: u32) -> Option<(Entry, Option<u32>, Option<u32>)> {
     let (generation, link) = chain.get_inx_link_no_gen(i)?;
     Some(((i, generation, *link.t), link.prev(), link.next()))
 }
 
-/// Whether an advancer gives these entries, as many as there are. The links of each name the ones before and after it.
+/// Returns whether an advancer gives exactly these entries. The links of each must name the ones before and after it.
 fn gives<A: Allocator>(
     chain: &Letters<A>,
     advancer: &mut ChainPtrAdvancer<P0>,
@@ -66,7 +66,7 @@ fn gives<A: Allocator>(
     advancer.advance(chain).is_none() && at.is_none() && count == chain.len()
 }
 
-/// Whether these are the entries in order, as an advancer gives them.
+/// Returns whether the chain has these entries in order, as an advancer gives them.
 fn is_listed<A: Allocator>(chain: &Letters<A>, wanted: &[Entry]) -> bool {
     let Some(first) = chain.first() else {
         return wanted.is_empty();
@@ -85,7 +85,7 @@ const PLACED: [(Place, char); 4] = [
     (Place::After(2), 'd'),
 ];
 
-/// The list c, d, a with the indexes 2, 4, 1, the index 3 being vacant, and the generation 3.
+/// Returns the list c, d, a with the indexes 2, 4, 1 and generation 3. Index 3 is vacant.
 fn scattered(alloc: Global) -> Letters {
     let mut chain = Letters::new(alloc);
     for (place, letter) in &PLACED {

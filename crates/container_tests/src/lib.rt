@@ -1,5 +1,5 @@
-//! Tests of the containers that the ordered arena stands on, `arena_base`, `chain_base` and `ord_tree`, as a program that depends on them sees
-//! them: the worked examples, and what no clause can say.
+//! Tests of the containers under the ordered arena (`arena_base`, `chain_base` and `ord_tree`) from a dependent program's view: worked
+//! examples, and facts that no clause states.
 #![tactic(auto)]
 
 #[cfg(test)]

@@ -13,7 +13,7 @@ use std::cmp::Ordering;
 
 type Keys<A = Global> = OrdTree<P0, u8, A>;
 
-/// What the tree says of one key.
+/// A key with its place in the tree.
 #[derive(Clone, Copy, PartialEq, Eq)]
 struct Place {
     index: u32,
@@ -23,7 +23,7 @@ struct Place {
     children: (Option<u32>, Option<u32>),
 }
 
-/// The place of the entry that an advancer gives next.
+/// Returns the place of the entry that an advancer gives next.
 fn next_place<A: Allocator>(tree: &Keys<A>, advancer: &mut ChainPtrAdvancer<P0>) -> Option<Place> {
     let p = advancer.advance(tree.chain())?;
     let node = tree.chain().get(p)?;
@@ -36,7 +36,7 @@ fn next_place<A: Allocator>(tree: &Keys<A>, advancer: &mut ChainPtrAdvancer<P0>)
     })
 }
 
-/// Each key in order, with its place in the tree. It is shorter than the tree where a node or memory is missing.
+/// Returns each key in order, with its place in the tree. If a node or memory is missing, the result is shorter than the tree.
 fn places<A: Allocator>(alloc: Global, tree: &Keys<A>) -> Vec<Place> {
     let mut places = Vec::new(alloc);
     let first = tree.chain().first().unwrap_or(P0::invalid());
@@ -50,12 +50,12 @@ fn places<A: Allocator>(alloc: Global, tree: &Keys<A>) -> Vec<Place> {
     places
 }
 
-/// The place of a key: before the first greater one, or behind the last.
+/// Returns where a key goes: before the first greater one, or behind the last.
 fn place_of(places: &[Place], key: u8) -> Option<(u32, Ordering)> {
     place_around(places, None, key)
 }
 
-/// The same among all entries but the one with an index.
+/// Returns the same among all entries except the one at `index`.
 fn place_around(places: &[Place], index: Option<u32>, key: u8) -> Option<(u32, Ordering)> {
     let mut at = None;
     for place in places {
@@ -71,7 +71,7 @@ fn place_around(places: &[Place], index: Option<u32>, key: u8) -> Option<(u32, O
     at
 }
 
-/// Inserts a key at a place. Answers what the call gives; nothing where the tree has no such place.
+/// Inserts a key at a place and returns the call's result; `None` if the tree has no such place.
 fn insert_at<A: Allocator>(
     tree: &mut Keys<A>,
     at: Option<(u32, Ordering)>,
@@ -87,7 +87,7 @@ fn insert_at<A: Allocator>(
     Some(tree.insert_reallocating(at, key))
 }
 
-/// The index of a key.
+/// Returns the index of a key.
 fn index_of(places: &[Place], key: u8) -> Option<u32> {
     for place in places {
         if place.key == key {
@@ -97,7 +97,7 @@ fn index_of(places: &[Place], key: u8) -> Option<u32> {
     None
 }
 
-/// Inserts a key that isn't there, or removes one that is. Tells whether it is done, with the places of all entries.
+/// Inserts a key if it is absent, or removes it. Returns whether that succeeded; it needs the places of all entries.
 fn toggle<A: Allocator>(tree: &mut Keys<A>, places: &[Place], key: u8) -> bool {
     if places.len() != tree.len() {
         return false;
@@ -108,7 +108,7 @@ fn toggle<A: Allocator>(tree: &mut Keys<A>, places: &[Place], key: u8) -> bool {
     }
 }
 
-/// How many indexes of the first list have another parent in the second.
+/// Returns how many indexes of the first list have another parent in the second.
 fn moved(old: &[Place], new: &[Place]) -> usize {
     let mut moved: usize = 0;
     for before in old {
@@ -121,7 +121,7 @@ fn moved(old: &[Place], new: &[Place]) -> usize {
     moved
 }
 
-/// The rank of a child.
+/// Returns the rank of a child.
 fn rank_at(places: &[Place], index: Option<u32>) -> u8 {
     match places.iter().find(|place| Some(place.index) == index) {
         Some(place) => place.rank,
@@ -129,7 +129,7 @@ fn rank_at(places: &[Place], index: Option<u32>) -> u8 {
     }
 }
 
-/// How much higher a node's rank is than that of each child.
+/// Returns how much higher a node's rank is than that of each child.
 fn steps(places: &[Place], place: &Place) -> (u8, u8) {
     let (lesser, greater) = place.children;
     (
@@ -138,7 +138,7 @@ fn steps(places: &[Place], place: &Place) -> (u8, u8) {
     )
 }
 
-/// The potential of a tree: one for each full node, three for each slack one.
+/// Returns the potential of a tree: one for each full node, three for each slack one.
 fn potential(places: &[Place]) -> usize {
     let mut potential: usize = 0;
     for place in places {
@@ -151,7 +151,7 @@ fn potential(places: &[Place]) -> usize {
     potential
 }
 
-/// How many indexes of the first list have another rank in the second.
+/// Returns how many indexes of the first list have another rank in the second.
 fn rank_changes(old: &[Place], new: &[Place]) -> usize {
     let mut changes: usize = 0;
     for before in old {

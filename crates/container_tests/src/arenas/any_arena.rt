@@ -1,9 +1,9 @@
-//! An arena among others, through the traits; indexes and generations of each type.
+//! An arena through the traits of all arenas; indexes and generations of each type.
 use super::{numbers, p0};
 use arena_base::{Arena, ArenaTrait, BasePtrGen, BasePtrInx, P0, SetMaxCapacity, laws};
 use std::alloc::Global;
 
-/// The numbers of an arena: entries, capacity, and those of the first and of the last pointer by index.
+/// Returns the length and the capacity of an arena, and the numbers of its first and last pointers by index.
 fn ends<A: ArenaTrait<P0, u64>>(
     arena: &A,
 ) -> (usize, usize, Option<(u32, u64)>, Option<(u32, u64)>) {
@@ -21,7 +21,7 @@ fn written<A: ArenaTrait<P0, u64>>(arena: &mut A, p: P0, item: u64) -> Option<u6
     Some(*arena.get(p)?)
 }
 
-/// Whether the item of a pointer is replaced, and taken out by the next pointer.
+/// Returns whether the item of a pointer can be replaced, and then removed by the next pointer.
 fn is_taken<A: ArenaTrait<P0, u64>>(arena: &mut A, p: P0, next: P0) -> bool {
     laws::put(arena, p, 11)
         && written(arena, p, 12) == Some(12)
@@ -29,18 +29,18 @@ fn is_taken<A: ArenaTrait<P0, u64>>(arena: &mut A, p: P0, next: P0) -> bool {
         && laws::take(arena, next) == Some(12)
 }
 
-/// Whether the capacity goes down as far as it may, and a maximum below it is refused.
+/// Returns whether the capacity shrinks as far as possible, and a maximum below it is refused.
 fn is_cut<A: ArenaTrait<P0, u64> + SetMaxCapacity<P0, u64>>(arena: &mut A) -> bool {
     arena.reallocate_min_capacity(0).is_ok() && arena.set_max_capacity(1).is_err()
 }
 
-/// Whether an arena loses all entries.
+/// Returns whether an arena loses all entries.
 fn is_emptied<A: ArenaTrait<P0, u64>>(arena: &mut A) -> bool {
     laws::empty(arena);
     ends(arena) == (0, 2, None, None)
 }
 
-/// Whether the calls of the trait do what they do at any arena: one that has two items at the indexes 1 and 2, and a capacity of 4.
+/// Returns whether the trait's calls work on an arena with two items, at the indexes 1 and 2, and a capacity of 4.
 fn is_an_arena<A: ArenaTrait<P0, u64> + SetMaxCapacity<P0, u64>>(arena: &mut A) -> bool {
     ends(arena) == (2, 4, Some((1, 2)), Some((2, 2)))
         && is_taken(arena, p0(1, 2), p0(1, 3))
@@ -49,7 +49,7 @@ fn is_an_arena<A: ArenaTrait<P0, u64> + SetMaxCapacity<P0, u64>>(arena: &mut A) 
         && is_emptied(arena)
 }
 
-/// The items 10 and 20 at the indexes 1 and 2, and a capacity of 4; nothing where memory is refused.
+/// Returns an arena with the items 10 and 20 at the indexes 1 and 2, and a capacity of 4; `None` if memory is refused.
 fn two(alloc: Global) -> Option<Arena<P0, u64>> {
     let mut arena: Arena<P0, u64> = ArenaTrait::with_min_capacity(alloc, 4).ok()?;
     for item in &[10u64, 20] {

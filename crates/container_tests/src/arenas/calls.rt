@@ -1,4 +1,4 @@
-//! Calls in a row, with what each gives and leaves, and generations that begin again.
+//! Calls in a row, with the result and the state after each, and overflows of generations.
 use super::{Counts, counts, numbers, p0};
 use arena_base::{Arena, BasePtr, InvalidationOption, InvalidationResult, ItemsMut, P0, P8};
 
@@ -15,10 +15,10 @@ enum Call {
     Clear,
 }
 
-/// What a call gives: the numbers of a pointer, or an index and the item there, or nothing where it is refused.
+/// The result of a call: the numbers of a pointer, or an index and the item there; `None` on failure.
 type Given = Option<(u32, u64)>;
 
-/// What is given by a call that has nothing to give.
+/// The result of a call that returns nothing.
 const DONE: Given = Some((0, 0));
 
 fn given(arena: &mut Arena<P0, u64>, call: Call) -> Given {
@@ -38,10 +38,10 @@ fn done(is_done: bool) -> Given {
     if is_done { DONE } else { None }
 }
 
-/// A call, what it gives, and the counts after it.
+/// A call, its result, and the counts after it.
 type Row = (Call, Given, Counts);
 
-/// Calls on an arena that has no entry at first.
+/// Calls on an arena that is empty at first.
 const ROWS: [Row; 26] = [
     // two entries
     (Call::Insert(10), Some((1, 2)), (1, 4, 2, Some((2, 2)))),
@@ -56,7 +56,7 @@ const ROWS: [Row; 26] = [
     (Call::Get(2, 4), Some((2, 20)), (1, 4, 4, Some((1, 4)))),
     (Call::Invalidate(2, 2), None, (1, 4, 4, Some((1, 4)))),
     (Call::Clear, DONE, (0, 4, 5, Some((1, 5)))),
-    // the slot that was freed last comes first
+    // the slot freed last comes first
     (Call::Insert(10), Some((1, 5)), (1, 4, 5, Some((2, 5)))),
     (Call::Insert(20), Some((2, 5)), (2, 4, 5, Some((3, 5)))),
     (Call::Insert(30), Some((3, 5)), (3, 4, 5, Some((4, 5)))),
@@ -66,11 +66,11 @@ const ROWS: [Row; 26] = [
     (Call::InsertWithin(2), Some((1, 7)), (3, 4, 7, Some((4, 7)))),
     (Call::InsertWithin(3), Some((4, 7)), (4, 4, 7, None)),
     (Call::InsertWithin(4), None, (4, 4, 7, None)),
-    // the capacity goes down to the last entry, and all vacant slots count as never used
+    // the capacity shrinks to the last entry, and the free list is ascending
     (Call::Remove(2, 7), Some((2, 1)), (3, 4, 8, Some((2, 8)))),
     (Call::Remove(4, 7), Some((4, 3)), (2, 4, 9, Some((4, 9)))),
     (Call::Reallocate(0), DONE, (2, 3, 9, Some((2, 9)))),
-    // and up to a maximum
+    // and grows to a maximum
     (Call::Limit(2), None, (2, 3, 9, Some((2, 9)))),
     (Call::Limit(5), DONE, (2, 3, 9, Some((2, 9)))),
     (Call::Insert(5), Some((2, 9)), (3, 3, 9, None)),
@@ -102,7 +102,7 @@ fn generations_begin_again(rt: HostRuntime) {
     assert!(rt; arena.generation() == 2);
 }
 
-/// Inserts the item 7, and takes it out again. Answers the numbers of its pointer, and what the removal said.
+/// Inserts the item 7 and removes it. Returns the numbers of its pointer, and the result of the removal.
 fn put_and_take(arena: &mut Arena<P8, u64>) -> Option<((u8, u8), InvalidationResult<u64>)> {
     let p = arena.insert_reallocating(7).ok()?;
     Some(((p.inx(), p.generation()), arena.remove(p)))

@@ -4,7 +4,7 @@ use arena_base::{Arena, BasePtr, P0, ReallocationError, Recast, laws};
 use linked_list_allocator::LocalHeap;
 use std::alloc::{AllocError, Global};
 
-/// Three entries at the indexes 2, 3 and 5, two of them of the first generation; indexes 4 and 1 were freed, in this order.
+/// Returns three entries at the indexes 2, 3 and 5, two of them with the first generation. Indexes 4 and 1 were freed, in this order.
 fn source(alloc: Global) -> Arena<P0, char> {
     let mut arena = Arena::new(alloc);
     for item in &['a', 'b', 'c', 'd', 'e'] {
@@ -19,7 +19,7 @@ fn source(alloc: Global) -> Arena<P0, char> {
 /// An arena of vectors of letters, all on one heap.
 type Letters<'a> = Arena<P0, Vec<char, &'a LocalHeap>, &'a LocalHeap>;
 
-/// Inserts an item of two letters, where there is memory.
+/// Inserts an item of two letters, if there is memory.
 fn insert_two<'a>(heap: &'a LocalHeap, arena: &mut Letters<'a>) -> bool {
     match Vec::from_array(heap, ['x', 'y']) {
         Ok(item) => arena.insert_reallocating(item).is_ok(),
@@ -38,10 +38,10 @@ fn clone_into<'a>(
     })
 }
 
-/// What is left by a clone: whether it is one, its counts, and how many letters it has at the indexes 1 and 5.
+/// What a clone leaves: whether it succeeded, the counts, and the number of letters at the indexes 1 and 5.
 type Left = (bool, Counts, usize, usize);
 
-/// What is left by a clone into an arena without an entry, which first gets one; nothing where that has no room.
+/// Returns what a clone leaves in an empty arena that gets an entry first; `None` if there is no room for that.
 fn left_in<'a>(
     heap: &'a LocalHeap,
     arena: &mut Letters<'a>,
@@ -59,7 +59,7 @@ fn left_in<'a>(
     ))
 }
 
-/// The same on a heap.
+/// Does the same on a heap.
 fn left_on(heap: &LocalHeap, source: &Arena<P0, char>) -> Option<Left> {
     let mut arena = Letters::new(heap);
     left_in(heap, &mut arena, source)
@@ -72,14 +72,14 @@ fn letters_at(arena: &Letters, inx: u32) -> usize {
     }
 }
 
-/// The clone; the arena as it was, where its growth was refused; and one that lost all, where an item was refused.
+/// The clone; the unchanged arena, after growing failed; and an empty one, after an item was refused.
 const LEFT: [Left; 3] = [
     (true, (3, 5, 5, Some((1, 5))), 0, 40),
     (false, (1, 4, 2, Some((2, 2))), 2, 0),
     (false, (0, 5, 5, Some((1, 5))), 0, 0),
 ];
 
-/// Which of these it is.
+/// Returns which of these it is.
 fn case_of(left: &Left) -> Option<usize> {
     for (case, wanted) in LEFT.iter().enumerate() {
         if *wanted == *left {
@@ -103,7 +103,7 @@ fn each_refused_request_of_a_clone(rt: HostRuntime) {
     assert!(rt; is_met == [true; 3]);
 }
 
-/// The pointers 3.4, 1.4, 4.4 and 2.4.
+/// Returns the pointers 3.4, 1.4, 4.4 and 2.4.
 fn pointers(alloc: Global) -> Arena<P0, P0> {
     let mut pointers = Arena::new(alloc);
     for index in &[3u32, 1, 4, 2] {
@@ -112,14 +112,14 @@ fn pointers(alloc: Global) -> Arena<P0, P0> {
     pointers
 }
 
-/// The pointers from 1.2 to 4.2, which find these; a copy.
+/// Returns a copy of them, found by the pointers from 1.2 to 4.2.
 fn recaster(alloc: Global) -> Arena<P0, P0> {
     let mut recaster = Arena::new(alloc);
     let _ = laws::copy(&pointers(alloc), &mut recaster);
     recaster
 }
 
-/// Whether a pointer is recast into the second one, or left with an error that holds it.
+/// Returns whether a pointer is recast into the second one, or is left and returned as the error.
 fn is_recast(recaster: &Arena<P0, P0>, p: P0, wanted: P0) -> bool {
     let mut recast_p = p;
     let outcome = recast_p.recast(recaster);

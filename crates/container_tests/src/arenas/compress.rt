@@ -3,12 +3,12 @@ use super::{Counts, counts, p0};
 use arena_base::{Arena, BasePtr, InvalidationOption, P0};
 use std::alloc::Global;
 
-/// The place of a call among all, the pointers that it was shown, and the item.
+/// The number of a call, the pointers that it was shown, and the item.
 type Call = (u8, P0, P0, char);
 
 type Calls = Arena<P0, Call>;
 
-/// The letters e and d at the indexes 1 and 4, under the pointers 1.5 and 4.2; the next generation is 6.
+/// Returns the letters e and d at the indexes 1 and 4, with the pointers 1.5 and 4.2; the next generation is 6.
 fn scattered(alloc: Global) -> Calls {
     let mut arena = Calls::new(alloc);
     for letter in &['a', 'b', 'c', 'd', 'e'] {
@@ -23,7 +23,7 @@ fn scattered(alloc: Global) -> Calls {
     arena
 }
 
-/// A compression that writes into each item the call that met it. Answers how many calls there were.
+/// Compresses, and writes into each item the call that was shown it. Returns the number of calls.
 fn compress_calling(arena: &mut Calls) -> (InvalidationOption<()>, u8) {
     let mut calls = 0u8;
     let overflow = arena.compress_with(false, |old, item: Call, new| {
@@ -34,13 +34,13 @@ fn compress_calling(arena: &mut Calls) -> (InvalidationOption<()>, u8) {
     (overflow, calls)
 }
 
-/// A call by numbers: its place, the old pointer, the new one, and the letter.
+/// A call by numbers: its number, the old pointer, the new one, and the letter.
 type Shown = (u8, (u32, u64), (u32, u64), char);
 
-/// The calls of the compression, in their order.
+/// The calls of the compression, in order.
 const CALLS: &[Shown] = &[(1, (1, 5), (1, 7), 'e'), (2, (4, 2), (2, 7), 'd')];
 
-/// Whether an arena has the item of a call at the new pointer.
+/// Returns whether an arena has the item of a call at the new pointer.
 fn has_call(arena: &Calls, call: &Shown) -> bool {
     let (count, (old_inx, old_generation), (inx, generation), letter) = *call;
     let new = p0(inx, generation);

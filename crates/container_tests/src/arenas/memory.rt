@@ -1,11 +1,11 @@
-//! Memory that is refused.
+//! Refused memory.
 use super::{Counts, counts};
 use arena_base::{Arena, InsertionError, P0, ReallocationError};
 use linked_list_allocator::LocalHeap;
 
 type Numbers<'a> = Arena<P0, u64, &'a LocalHeap>;
 
-/// The counts of an arena, and the item at the index 1.
+/// Returns the counts of an arena, and the item at index 1.
 fn seen(arena: &Numbers) -> (Counts, Option<u64>) {
     let first = match arena.get_inx(1) {
         Some((_, item)) => Some(*item),
@@ -14,12 +14,12 @@ fn seen(arena: &Numbers) -> (Counts, Option<u64>) {
     (counts(arena), first)
 }
 
-/// Whether memory is refused for a greater capacity too, and the arena is as it was seen before.
+/// Returns whether memory for a greater capacity is refused too, and the arena is as before.
 fn is_as_before(arena: &mut Numbers, before: (Counts, Option<u64>)) -> bool {
     arena.reallocate_min_capacity(64) == Err(ReallocationError::AllocError) && seen(arena) == before
 }
 
-/// Inserts nine items until memory is refused. Answers how many found room; nothing where a refusal is wrong.
+/// Inserts nine items until memory is refused. Returns how many were inserted; `None` if a refusal is wrong.
 fn inserted_into(arena: &mut Numbers) -> Option<usize> {
     for item in 0..9u64 {
         let before = seen(arena);
@@ -31,7 +31,7 @@ fn inserted_into(arena: &mut Numbers) -> Option<usize> {
     Some(9)
 }
 
-/// The same on a heap.
+/// Does the same on a heap.
 fn inserted(heap: &LocalHeap) -> Option<usize> {
     let mut arena = Numbers::new(heap);
     inserted_into(&mut arena)
@@ -46,6 +46,6 @@ fn each_refused_request_leaves_the_arena(rt: HostRuntime) {
         is_met[len % 10] = true;
         assert!(rt; heap.used() == 0);
     }
-    // each growth was refused in turn: from nothing, from 4, from 8
+    // each growth was refused in turn: from 0, from 4, from 8
     assert!(rt; (is_met[0], is_met[4], is_met[8], is_met[9]) == (true, true, true, true));
 }

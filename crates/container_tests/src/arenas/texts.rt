@@ -1,10 +1,10 @@
-//! Arenas, pointers and refusals as they are printed.
+//! Arenas, pointers and errors, as printed.
 use arena_base::{
     Arena, BasePtr, InsertionError, MaxCapacityReductionError, P0, P8, PN, Q0, ReallocationError,
 };
 use std::alloc::Global;
 
-/// Two words in an arena.
+/// Returns an arena with two words.
 fn words(alloc: Global) -> Arena<P0, &'static str> {
     let mut arena = Arena::new(alloc);
     let _ = arena.insert_reallocating("test");
@@ -12,7 +12,7 @@ fn words(alloc: Global) -> Arena<P0, &'static str> {
     arena
 }
 
-/// Whether there was memory for a text, and it is this one.
+/// Returns whether there was memory for a text, and it is this one.
 fn is_text(text: Option<String>, wanted: &str) -> bool {
     match text {
         Some(text) => text.as_str() == wanted,
@@ -20,12 +20,12 @@ fn is_text(text: Option<String>, wanted: &str) -> bool {
     }
 }
 
-/// The text of an arena.
+/// Returns the text of an arena.
 fn text_of(alloc: Global, arena: &Arena<P0, &'static str>) -> Option<String> {
     format!(in alloc; "{arena:?} {arena:#?}").ok()
 }
 
-/// That of two words.
+/// The text of the arena with two words.
 const WORDS: &str =
     "{P0[1](2): \"test\", P0[2](2): \"hello\"} {\n    P0[1](2): \"test\",\n    P0[2](2): \"hello\",\n}";
 
@@ -34,7 +34,7 @@ fn texts_of_an_arena(rt: HostRuntime) {
     assert!(rt; is_text(text_of(rt.alloc(), &words(rt.alloc())), WORDS));
 }
 
-/// The texts of pointers of four types.
+/// Returns the texts of pointers of four types.
 fn text_of_pointers(alloc: Global) -> Option<String> {
     let (p, q) = (P0::invalid(), Q0::_from_raw(7, 3));
     let (small, plain) = (P8::invalid(), PN::_from_raw(1, ()));
@@ -47,7 +47,7 @@ fn texts_of_pointers(rt: HostRuntime) {
     assert!(rt; is_text(text_of_pointers(rt.alloc()), wanted));
 }
 
-/// The texts of the refusals of a change of the capacity.
+/// Returns the texts of the errors of a change of the capacity.
 fn text_of_reallocations(alloc: Global) -> Option<String> {
     let (beyond, memory) = (
         ReallocationError::BeyondMaxCapacity,
@@ -56,7 +56,7 @@ fn text_of_reallocations(alloc: Global) -> Option<String> {
     format!(in alloc; "{beyond}, {beyond:?}; {memory}, {memory:?}").ok()
 }
 
-/// The texts of the refusals of an insertion.
+/// Returns the texts of the errors of an insertion.
 fn text_of_insertions(alloc: Global) -> Option<String> {
     let (within, beyond, memory) = (
         InsertionError::NotWithinCapacity,
@@ -66,7 +66,7 @@ fn text_of_insertions(alloc: Global) -> Option<String> {
     format!(in alloc; "{within}, {within:?}; {beyond}, {beyond:?}; {memory}, {memory:?}").ok()
 }
 
-/// The texts of the refusal of a maximum.
+/// Returns the texts of the error of setting a maximum.
 fn text_of_reductions(alloc: Global) -> Option<String> {
     format!(in alloc; "{MaxCapacityReductionError}, {MaxCapacityReductionError:?}").ok()
 }

@@ -4,7 +4,7 @@ use arena_base::{Advancer, Arena, InvalidationOption, P0};
 use std::alloc::Global;
 use std::mem;
 
-/// Entries with generation 2 at the indexes from 1 to 3, whose items are their indexes.
+/// Returns entries with generation 2 at the indexes from 1 to 3, whose items are their indexes.
 fn three(alloc: Global) -> Arena<P0, u32> {
     let mut arena: Arena<P0, u32> = Arena::new(alloc);
     for item in 1..4u32 {
@@ -20,7 +20,7 @@ enum End {
     KeepsRest,
 }
 
-/// A drain takes the first entry, and ends. Answers what is left.
+/// Takes one entry by a drain, and ends the drain. Returns what is left.
 fn left_by_drain(mut arena: Arena<P0, u32>, end: &End) -> Option<(usize, bool)> {
     let mut drain = arena.drain();
     let first = drain.next()?;
@@ -45,7 +45,7 @@ fn drains_are_dropped_and_forgotten_and_keep_the_rest(rt: HostRuntime) {
     }
 }
 
-/// What comes before a step of both walks: two entries leave before the third one, and one comes before the last.
+/// Changes the arena before a step of both walks: two entries leave before the third step, and one comes before the last.
 fn come_and_go(arena: &mut Arena<P0, u32>, step: usize) {
     match step {
         2 => {

@@ -1,4 +1,4 @@
-//! Calls in a row, with what each gives and leaves.
+//! Calls in a row, with the result and the state after each.
 use super::{Entry, Letters, Place, insert, is_listed};
 use arena_base::{BasePtr, InvalidationOption};
 
@@ -11,7 +11,7 @@ enum Call {
     Canonical(bool),
 }
 
-/// Index and generation of the entry that a call adds or takes, or nothing where it is refused.
+/// The index and the generation of the entry that a call adds or removes; `None` on failure.
 type Given = Option<(u32, u64)>;
 
 fn given(chain: &mut Letters, call: Call) -> Given {
@@ -28,17 +28,17 @@ fn given(chain: &mut Letters, call: Call) -> Given {
     }
 }
 
-/// What is given by a call that has nothing to give.
+/// The result of a call that returns nothing.
 const DONE: Given = Some((0, 0));
 
 fn done(is_done: bool) -> Given {
     if is_done { DONE } else { None }
 }
 
-/// A call, what it gives, the entries after it, and capacity and generation.
+/// A call, its result, the entries after it, and the capacity and generation.
 type Row = (Call, Given, &'static [Entry], (usize, u64));
 
-/// Calls on a chain that has a capacity of three at first.
+/// Calls on a chain with a capacity of three at first.
 const ROWS: &[Row] = &[
     (
         Call::Insert(Place::Alone, 'a'),
@@ -91,7 +91,7 @@ const ROWS: &[Row] = &[
         (6, 5),
     ),
     (Call::Remove(1), Some((1, 2)), &[(2, 2, 'b')], (6, 6)),
-    // the last entry goes, and the chain begins again
+    // the last entry goes, and the chain starts again
     (Call::Remove(2), Some((2, 2)), &[], (6, 7)),
     (
         Call::Insert(Place::Alone, 'n'),
@@ -117,7 +117,7 @@ const ROWS: &[Row] = &[
         &[(4, 7, 'm'), (2, 7, 'n'), (1, 7, 'o')],
         (9, 7),
     ),
-    // the canonical order goes by the list
+    // the canonical order follows the list
     (
         Call::Canonical(false),
         DONE,
@@ -132,7 +132,7 @@ const ROWS: &[Row] = &[
     ),
 ];
 
-/// Whether a call gives and leaves what its row says.
+/// Returns whether a call has the result and leaves the state of its row.
 fn is_right(chain: &mut Letters, row: &Row) -> bool {
     let (call, wanted, left, counts) = row;
     given(chain, *call) == *wanted

@@ -3,10 +3,10 @@ use super::{Letters, SCATTERED, is_listed, scattered};
 use arena_base::{BasePtr, P0, ReallocationError};
 use std::alloc::AllocError;
 
-/// How a clone is refused, if it is, how often its closure was called, and how many entries it leaves.
+/// The error of a clone, if any, how often its closure was called, and how many entries are left.
 type Cloned = (Option<ReallocationError>, u8, usize);
 
-/// Makes a chain a clone of the source, where the letter at an index is refused.
+/// Makes a chain a clone of the source, with the letter at one index refused.
 fn clone_but(chain: &mut Letters, source: &Letters, refused: u32) -> Cloned {
     let mut calls = 0u8;
     let outcome = chain.try_clone_from_with(source, |p: P0, letter: &char, _neighbours| {
@@ -19,7 +19,7 @@ fn clone_but(chain: &mut Letters, source: &Letters, refused: u32) -> Cloned {
     (outcome.err(), calls, chain.len())
 }
 
-/// The same with no refusal.
+/// Does the same without a refusal.
 fn clone_all(chain: &mut Letters, source: &Letters) -> Cloned {
     let mut calls = 0u8;
     let outcome = chain.clone_from_with(source, |_p: P0, letter: &char, _neighbours| {
@@ -29,7 +29,7 @@ fn clone_all(chain: &mut Letters, source: &Letters) -> Cloned {
     (outcome.err(), calls, chain.len())
 }
 
-/// Whether a clone has the pointers of the source, in its order.
+/// Returns whether a clone has the pointers of the source, in its order.
 fn is_cloned(chain: &mut Letters, source: &Letters) -> bool {
     clone_all(chain, source) == (None, 3, 3)
         && is_listed(chain, SCATTERED)
@@ -43,7 +43,7 @@ fn a_clone_has_the_pointers_in_order(rt: HostRuntime) {
     assert!(rt; is_cloned(&mut chain, &source));
 }
 
-/// Whether a clone that is whole loses all entries at the next one, of which a letter is refused.
+/// Returns whether a complete clone loses all entries at the next one, in which a letter is refused.
 fn is_emptied(chain: &mut Letters, source: &Letters) -> bool {
     clone_but(chain, source, 0) == (None, 3, 3)
         && clone_but(chain, source, 2) == (Some(ReallocationError::AllocError), 2, 0)

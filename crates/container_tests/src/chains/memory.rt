@@ -1,4 +1,4 @@
-//! Memory that is refused.
+//! Refused memory.
 use super::{Entry, Letters, Place, SCATTERED, insert, is_listed, scattered};
 use arena_base::{BasePtr, InsertionError, InvalidationOption, P0, ReallocationError};
 use linked_list_allocator::LocalHeap;
@@ -17,7 +17,7 @@ const TEN: [Entry; 10] = [
     (10, 2, 'j'),
 ];
 
-/// Inserts the ten letters, each after the last, until memory is refused. Answers the outcome; nothing where a place is missing.
+/// Inserts the ten letters, each after the last, until memory is refused. Returns the outcome; `None` if a place is missing.
 fn fill(chain: &mut Letters<&LocalHeap>) -> Option<Result<(), InsertionError>> {
     let mut place = Place::Alone;
     for (_, _, letter) in &TEN {
@@ -29,7 +29,7 @@ fn fill(chain: &mut Letters<&LocalHeap>) -> Option<Result<(), InsertionError>> {
     Some(Ok(()))
 }
 
-/// Whether the first of the ten entries are there: all of them, or as many as there is room for where memory is refused.
+/// Returns whether the first of the ten entries are there: all of them, or as many as fit if memory was refused.
 fn has_first(chain: &Letters<&LocalHeap>, outcome: Option<Result<(), InsertionError>>) -> bool {
     let len = chain.len();
     if len > 10 || !is_listed(chain, &TEN[..len]) {
@@ -42,7 +42,7 @@ fn has_first(chain: &Letters<&LocalHeap>, outcome: Option<Result<(), InsertionEr
     }
 }
 
-/// Fills a chain on a heap. Answers how many entries are there; nothing where they are not the first ones.
+/// Fills a chain on a heap. Returns how many entries are there; `None` if they aren't the first ones.
 fn filled(heap: &LocalHeap) -> Option<usize> {
     let mut chain = Letters::new(heap);
     let outcome = fill(&mut chain);
@@ -57,11 +57,11 @@ fn keeps_all_where_memory_is_refused(rt: HostRuntime) {
         let len = filled(&heap).expect(&rt, "the first entries");
         is_met[len % 11] = true;
     }
-    // each growth was refused in turn: from nothing, from 4, from 8
+    // each growth was refused in turn: from 0, from 4, from 8
     assert!(rt; (is_met[0], is_met[4], is_met[8], is_met[10]) == (true, true, true, true));
 }
 
-/// Transfers all letters with generation 5. Tells whether it is done, and how often the closure was called.
+/// Transfers all letters with generation 5. Returns the outcome, and how often the closure was called.
 fn transfer_all(
     chain: &mut Letters<&LocalHeap>,
     source: &mut Letters,
@@ -78,12 +78,12 @@ fn transfer_all(
     (outcome, calls)
 }
 
-/// Length, capacity and generation of a chain.
+/// Returns the length, capacity and generation of a chain.
 fn counts(chain: &Letters<&LocalHeap>) -> (usize, usize, u64) {
     (chain.len(), chain.capacity(), chain.generation())
 }
 
-/// Transfers three letters into a chain on a heap. Tells whether it is done; nothing where it isn't, and anything has changed.
+/// Transfers three letters into a chain on a heap. Returns whether that succeeded; `None` if it failed and changed something.
 fn transferred(heap: &LocalHeap, source: &mut Letters) -> Option<bool> {
     let mut chain = Letters::new(heap);
     let (outcome, calls) = transfer_all(&mut chain, source);

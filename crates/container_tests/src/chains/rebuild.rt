@@ -2,7 +2,7 @@
 use super::{Entry, Letters, is_listed, scattered};
 use arena_base::{InvalidationOption, P0};
 
-/// A compression that counts its calls.
+/// Compresses, and returns the result and the number of calls.
 fn compress_calling(chain: &mut Letters) -> (InvalidationOption<()>, u8) {
     let mut calls = 0u8;
     let overflow = chain.compress_with(true, |_old: P0, letter: char, _new: P0| {

@@ -1,12 +1,12 @@
-//! The amortized bound is exact: an insertion and a removal that use all of their allowance.
+//! The amortized bound is exact: an insertion and a removal need their whole allowance.
 use super::{Keys, Place, places, potential, rank_changes, toggle};
 use std::alloc::Global;
 
 /// A key and its rank.
 type Ranked = (u8, u8);
 
-/// Keys that are inserted or, if they are there already, removed one after another; the tree then; the last key, and the tree after it;
-/// how many ranks of other entries that changes; and its allowance.
+/// Keys to insert, or to remove if present, in turn; the resulting tree; the last key, and the tree after it; how many ranks of other
+/// entries that changes; and its allowance.
 struct Step {
     keys: &'static [u8],
     before: &'static [Ranked],
@@ -26,7 +26,7 @@ const INSERTION: Step = Step {
     allowance: 4,
 };
 
-/// A removal of the root: 7 takes its place, 6 and 5 lose rank, and then 4 is lifted above 2 and 5 by a double rotation.
+/// A removal of the root: 7 replaces it, 6 and 5 are demoted, and a double rotation lifts 4 above 2 and 5.
 const REMOVAL: Step = Step {
     keys: &[12, 11, 10, 8, 7, 6, 5, 2, 1, 4, 9, 3, 9],
     before: &[
@@ -59,13 +59,13 @@ const REMOVAL: Step = Step {
     allowance: 9,
 };
 
-/// Whether a tree has these keys with these ranks, in order.
+/// Returns whether a tree has exactly these keys with these ranks, in order.
 fn has_ranks(places: &[Place], ranks: &[Ranked]) -> bool {
     let ranked = places.iter().map(|place| (place.key, place.rank));
     ranked.eq(ranks.iter().copied())
 }
 
-/// Whether the last key of a step changes as many ranks as it says, and needs its whole allowance.
+/// Returns whether the last key of a step changes as many ranks as stated, and needs its whole allowance.
 fn is_exact(alloc: Global, step: &Step) -> bool {
     let mut tree = Keys::new(alloc);
     for key in step.keys {

@@ -1,4 +1,4 @@
-//! Insertions, removals and moves in every order, beside a plain vector.
+//! Insertions, removals and moves in every order, compared with a plain vector.
 use super::{
     Keys, Place, index_of, moved, place_around, places, potential, rank_changes, steps, toggle,
 };
@@ -6,12 +6,12 @@ use arena_base::ItemsMut;
 use std::alloc::Global;
 use std::cmp::Ordering;
 
-/// No node has both children two below it.
+/// Returns whether no node has both children two below it.
 fn is_tight(places: &[Place]) -> bool {
     places.iter().all(|place| steps(places, place) != (2, 2))
 }
 
-/// The rules of the balance, seen from outside: ranks, and links that agree.
+/// Returns whether the rules of the balance hold, seen from outside: ranks, and links that agree.
 fn is_ranked(places: &[Place], root: Option<u32>) -> bool {
     for place in places {
         let (lesser, greater) = place.children;
@@ -32,13 +32,13 @@ fn is_ranked(places: &[Place], root: Option<u32>) -> bool {
     true
 }
 
-/// Whether a tree has just these keys in order, and keeps the rules of the balance.
+/// Returns whether a tree has exactly these keys in order, and keeps the rules of the balance.
 fn is_balanced(places: &[Place], root: Option<u32>, sorted: &[u8]) -> bool {
     let keys = places.iter().map(|place| place.key);
     keys.eq(sorted.iter().copied()) && is_ranked(places, root)
 }
 
-/// The order of the keys from 1 to `count` that has this number among all orders.
+/// Returns the order with this number among all orders of the keys from 1 to `count`.
 fn order_of(alloc: Global, count: u8, number: usize) -> Vec<u8> {
     let mut order = Vec::new(alloc);
     let mut number = number;
@@ -50,8 +50,7 @@ fn order_of(alloc: Global, count: u8, number: usize) -> Vec<u8> {
     order
 }
 
-/// Inserts or removes a key in a plain vector. Returns how many parents the tree may move, and how many rank changes it may add to its
-/// account.
+/// Inserts or removes a key in a plain vector. Returns how many parents the tree may move, and its allowance for rank changes.
 fn toggle_sorted(sorted: &mut Vec<u8>, key: u8) -> (usize, usize) {
     match sorted.binary_search(&key) {
         Err(at) => {
@@ -65,12 +64,12 @@ fn toggle_sorted(sorted: &mut Vec<u8>, key: u8) -> (usize, usize) {
     }
 }
 
-/// The other key of the entry that has this one at first.
+/// Returns the other key of the entry that has this one at first.
 fn other_of(key: u8) -> u8 {
     11u8.saturating_sub(key)
 }
 
-/// Moves an entry beside another, and gives it a key. Tells whether the tree has both entries.
+/// Moves an entry beside another, and gives it a key. Returns whether the tree has both entries.
 fn move_beside(tree: &mut Keys, index: u32, at: (u32, Ordering), key: u8) -> bool {
     let are_there = tree.contains_inx(index) && tree.contains_inx(at.0);
     if !are_there || at.0 == index || at.1 == Ordering::Equal {
@@ -86,7 +85,8 @@ fn move_beside(tree: &mut Keys, index: u32, at: (u32, Ordering), key: u8) -> boo
     }
 }
 
-/// Inserts a key, moves its entry to the place of its other key, or removes the entry that has that. An entry alone is removed at once.
+/// Inserts a key, or moves its entry to the place of its other key, or removes the entry with the other key. A single entry is removed at
+/// once.
 fn turn(tree: &mut Keys, places: &[Place], key: u8) -> bool {
     let other = other_of(key);
     let Some(index) = index_of(places, key) else {
@@ -99,7 +99,7 @@ fn turn(tree: &mut Keys, places: &[Place], key: u8) -> bool {
     }
 }
 
-/// The same in a plain vector. Returns how many parents the tree may move, and how many rank changes it may add to its account.
+/// Does the same in a plain vector. Returns how many parents the tree may move, and its allowance for rank changes.
 fn turn_sorted(sorted: &mut Vec<u8>, key: u8) -> (usize, usize) {
     let other = other_of(key);
     if sorted.contains(&other) {
@@ -113,7 +113,7 @@ fn turn_sorted(sorted: &mut Vec<u8>, key: u8) -> (usize, usize) {
     (15, 14)
 }
 
-/// Whether the potential of the old tree and the allowance pay for the rank changes and for the potential of the new one.
+/// Returns whether the old potential and the allowance pay for the rank changes and the new potential.
 fn is_paid(old: &[Place], new: &[Place], allowance: usize) -> bool {
     let needed = rank_changes(old, new).saturating_add(potential(new));
     needed <= potential(old).saturating_add(allowance)
@@ -127,7 +127,7 @@ struct Both {
     sorted: Vec<u8>,
 }
 
-/// What is done with a key that is there.
+/// What happens to a key that is present.
 #[derive(Clone, Copy, PartialEq, Eq)]
 enum Mix {
     /// No key comes twice.
@@ -138,8 +138,7 @@ enum Mix {
     Moves,
 }
 
-/// Does what is done with a key in both. Returns how many parents the tree may move, and how many rank changes it may add to its account,
-/// if that is done.
+/// Makes a change in both. If it succeeds, returns how many parents the tree may move, and its allowance for rank changes.
 fn change(both: &mut Both, key: u8, mix: Mix) -> Option<(usize, usize)> {
     let is_done = if mix == Mix::Moves {
         turn(&mut both.tree, &both.places, key)
@@ -156,7 +155,7 @@ fn change(both: &mut Both, key: u8, mix: Mix) -> Option<(usize, usize)> {
     })
 }
 
-/// Makes a change in both. Tells whether they agree then: insertions alone leave a tight tree.
+/// Makes a change in both and returns whether they agree. Insertions alone must leave a tight tree.
 fn agree_on(alloc: Global, both: &mut Both, key: u8, mix: Mix) -> bool {
     let Some((most_moved, allowance)) = change(both, key, mix) else {
         return false;
@@ -170,7 +169,7 @@ fn agree_on(alloc: Global, both: &mut Both, key: u8, mix: Mix) -> bool {
     is_right
 }
 
-/// Whether a tree and a plain vector agree after each of these keys, one after another.
+/// Returns whether a tree and a plain vector agree after each of these keys in turn.
 fn agree_on_all(alloc: Global, keys: &[u8], mix: Mix) -> bool {
     let mut both = Both {
         tree: Keys::new(alloc),
@@ -211,7 +210,7 @@ fn moves_in_every_mix(rt: HostRuntime) {
     }
 }
 
-/// The seven digits of a word in base 5, as keys from 1 to 5.
+/// Returns the seven digits of a word in base 5, as keys from 1 to 5.
 fn digits_of(word: usize) -> [u8; 7] {
     let mut digits = [0; 7];
     let mut rest = word;

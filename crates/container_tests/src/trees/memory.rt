@@ -1,4 +1,4 @@
-//! Memory that is refused, and calls that ask for none.
+//! Refused memory, and calls that take none.
 use super::{Keys, Place, insert_at, place_of, places, toggle};
 use arena_base::{BasePtr, InsertionError, P0};
 use linked_list_allocator::LocalHeap;
@@ -6,13 +6,13 @@ use std::alloc::Global;
 
 type OnHeap<'h> = Keys<&'h LocalHeap>;
 
-/// Whether a tree has these places still, in its first generation, and no room for more.
+/// Returns whether a tree still has these places and its first generation, and is full.
 fn is_full_of(alloc: Global, tree: &OnHeap, old: &[Place]) -> bool {
     (tree.chain().capacity(), tree.chain().generation()) == (old.len(), 2)
         && places(alloc, tree).as_slice() == old
 }
 
-/// Inserts a key. Tells whether it is done, or memory is refused and nothing has changed.
+/// Inserts a key. Returns whether that succeeded, or memory was refused and nothing changed.
 fn is_inserted_or_refused(alloc: Global, tree: &mut OnHeap, key: u8) -> bool {
     let old = places(alloc, tree);
     let is_listed = old.len() == tree.len();
@@ -26,7 +26,7 @@ fn is_inserted_or_refused(alloc: Global, tree: &mut OnHeap, key: u8) -> bool {
     is_listed && is_right
 }
 
-/// Inserts nine keys on a heap, as far as memory goes. Answers how many are there; nothing where one is neither inserted nor refused.
+/// Inserts nine keys on a heap, as far as memory allows. Returns how many are there; `None` if one is neither inserted nor refused.
 fn inserted(alloc: Global, heap: &LocalHeap) -> Option<usize> {
     let mut tree = Keys::new(heap);
     let mut is_right = true;
@@ -46,11 +46,11 @@ fn keeps_all_where_memory_is_refused(rt: HostRuntime) {
             *is_met = true;
         }
     }
-    // each growth was refused in turn: from nothing, from 4, from 8
+    // each growth was refused in turn: from 0, from 4, from 8
     assert!(&rt; is_met[0] && is_met[4] && is_met[8] && is_met[9]);
 }
 
-/// Inserts keys, or removes them. Tells whether all is done.
+/// Inserts keys, or removes them. Returns whether all succeeded.
 fn toggle_all(alloc: Global, tree: &mut OnHeap, keys: &[u8]) -> bool {
     let mut is_done = true;
     for key in keys {
@@ -60,7 +60,7 @@ fn toggle_all(alloc: Global, tree: &mut OnHeap, keys: &[u8]) -> bool {
     is_done
 }
 
-/// Takes all that is left of a heap, in small blocks. Tells whether nothing is left.
+/// Takes all that is left of a heap, in small blocks. Returns whether nothing is left.
 fn drain<'h>(heap: &'h LocalHeap, taken: &mut Vec<Vec<u8, &'h LocalHeap>>) -> bool {
     for _ in 0..4096 {
         if let Ok(room) = Vec::with_capacity(heap, 1) {
@@ -70,7 +70,7 @@ fn drain<'h>(heap: &'h LocalHeap, taken: &mut Vec<Vec<u8, &'h LocalHeap>>) -> bo
     Vec::<u8, &LocalHeap>::with_capacity(heap, 1).is_err()
 }
 
-/// Ends entries in each way that there is. Tells whether all is done.
+/// Ends entries in every possible way. Returns whether all succeeded.
 fn end_entries(alloc: Global, tree: &mut OnHeap) -> bool {
     let is_done = toggle_all(alloc, tree, &[4, 8, 1, 9]);
     let first = tree.chain().first().unwrap_or(P0::invalid());

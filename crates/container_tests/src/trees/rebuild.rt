@@ -4,7 +4,7 @@ use arena_base::{BasePtr, InvalidationOption, P0, ReallocationError};
 use std::alloc::{AllocError, Global};
 use std::cmp::Ordering;
 
-/// The index in the middle of a run.
+/// Returns the index in the middle of a run.
 fn middle_of(start: u32, len: u32) -> Option<u32> {
     if len == 0 {
         return None;
@@ -12,7 +12,7 @@ fn middle_of(start: u32, len: u32) -> Option<u32> {
     Some(start.saturating_add(len / 2))
 }
 
-/// The rank over a run, `level` where it is of five entries or more.
+/// Returns the rank over a run: `level` if it has five entries or more.
 fn rank_over(len: u32, level: u8) -> u8 {
     match len {
         1 => 1,
@@ -22,7 +22,7 @@ fn rank_over(len: u32, level: u8) -> u8 {
     }
 }
 
-/// Adds the places of a run in order. Its root hangs on the parent.
+/// Adds the places of a run in order. The parent of its root is `parent`.
 fn add_run(
     places: &mut Vec<Place>,
     start: u32,
@@ -49,7 +49,7 @@ fn add_run(
     add_run(places, after, rest, Some(index), below)
 }
 
-/// The places of the rebuilt tree of `len` entries, whose indexes rise from 1, as far as there is memory.
+/// Returns the places of the rebuilt tree of `len` entries, whose indexes rise from 1, as far as memory allows.
 fn rebuilt(alloc: Global, len: u32) -> Vec<Place> {
     let (mut power, mut top) = (1u32, 1u8);
     for _ in 0..32 {
@@ -63,7 +63,7 @@ fn rebuilt(alloc: Global, len: u32) -> Vec<Place> {
     places
 }
 
-/// Inserts `len` entries, each behind the last, so that their indexes rise from 1. Their keys are never asked. Tells whether it is done.
+/// Inserts `len` entries, each behind the last, so that their indexes rise from 1. No key is compared. Returns whether that succeeded.
 fn fill(tree: &mut Keys, len: u32) -> bool {
     let mut last = None;
     for _ in 0..len {
@@ -75,7 +75,7 @@ fn fill(tree: &mut Keys, len: u32) -> bool {
     true
 }
 
-/// Whether a tree is what the recursive function says.
+/// Returns whether a tree is as the recursive function says.
 fn is_rebuilt(alloc: Global, tree: &Keys, len: u32) -> bool {
     let found = places(alloc, tree);
     found.len() == tree.len()
@@ -83,7 +83,7 @@ fn is_rebuilt(alloc: Global, tree: &Keys, len: u32) -> bool {
         && tree.root() == middle_of(1, len)
 }
 
-/// Rebuilds a tree of `len` entries. Tells whether it is what the recursive function says then.
+/// Rebuilds a tree of `len` entries, and returns whether it is as the recursive function says.
 fn rebuild(alloc: Global, tree: &mut Keys, len: u32) -> bool {
     let is_filled = fill(tree, len);
     let _ = tree.compress(false);
@@ -100,7 +100,7 @@ fn rebuilds_in_halves(rt: HostRuntime) {
     }
 }
 
-/// Ranks in order of rebuilt trees, by their number of entries.
+/// The ranks of rebuilt trees in order, by their number of entries.
 const RANKS: &[(u32, &[u8])] = &[
     (3, &[1, 3, 1]),
     (5, &[1, 2, 3, 1, 2]),
@@ -112,7 +112,7 @@ const RANKS: &[(u32, &[u8])] = &[
     (18, &[1, 2, 3, 1, 5, 1, 2, 3, 1, 6, 1, 2, 3, 1, 5, 1, 3, 1]),
 ];
 
-/// Whether these are the ranks of the places.
+/// Returns whether the places have exactly these ranks.
 fn has_ranks(places: &[Place], wanted: &[u8]) -> bool {
     let mut left = wanted.iter();
     for place in places {
@@ -132,7 +132,7 @@ fn ranks_after_a_rebuild(rt: HostRuntime) {
     }
 }
 
-/// Transfers all entries with generation 9. Answers the outcome, and how often the closure was called.
+/// Transfers all entries with generation 9. Returns the outcome, and how often the closure was called.
 fn transfer_all(tree: &mut Keys, source: &mut Keys) -> (Result<(), ReallocationError>, u32) {
     let mut calls = 0u32;
     let outcome = tree.transfer_canonical_reallocating(
@@ -146,8 +146,8 @@ fn transfer_all(tree: &mut Keys, source: &mut Keys) -> (Result<(), ReallocationE
     (outcome, calls)
 }
 
-/// Lets a tree that may hold `maximum` entries take over `len` from another one. Tells how, and whether one of both is as the recursive
-/// function says then.
+/// Transfers `len` entries into a tree that may hold `maximum`. Returns the outcome, the number of calls, what is left of the source, and
+/// whether the tree is as the recursive function says.
 fn taken(
     alloc: Global,
     len: u32,

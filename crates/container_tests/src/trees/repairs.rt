@@ -1,16 +1,16 @@
-//! Repairs by a table, the rows of which were worked out apart from the code.
+//! Repairs by a table. Its rows were worked out independently of the code.
 use super::{Keys, Place, moved, places, toggle};
 use std::alloc::Global;
 
-/// A key, its rank and its parent's key, which is 0 for the root.
+/// A key, its rank and its parent's key; 0 for the root's parent.
 type Node = (u8, u8, u8);
 
-/// Keys that are inserted; keys that are then inserted or removed; the tree then; and how many parents the last key moves.
+/// Keys to insert; keys to insert or remove after that; the resulting tree; and how many parents the last key moves.
 type Row = (&'static [u8], &'static [u8], &'static [Node], usize);
 
-/// Keys of which the last is inserted into the tree of those before it.
+/// Keys of a tree, and one to insert into it.
 const INSERTIONS: &[Row] = &[
-    // the parent has rank 2 already
+    // the parent already has rank 2
     (&[2, 1], &[3], &[(1, 1, 2), (2, 2, 0), (3, 1, 2)], 0),
     (&[2, 3], &[1], &[(1, 1, 2), (2, 2, 0), (3, 1, 2)], 0),
     // the grandparent's rank is greater
@@ -42,10 +42,10 @@ const INSERTIONS: &[Row] = &[
     // a single rotation
     (&[1, 2], &[3], &[(1, 1, 2), (2, 2, 0), (3, 1, 2)], 2),
     (&[3, 2], &[1], &[(1, 1, 2), (2, 2, 0), (3, 1, 2)], 2),
-    // a double one
+    // a double rotation
     (&[1, 3], &[2], &[(1, 1, 2), (2, 2, 0), (3, 1, 2)], 2),
     (&[3, 1], &[2], &[(1, 1, 2), (2, 2, 0), (3, 1, 2)], 2),
-    // a single one after promotions, with an inner subtree
+    // a single rotation after promotions, with an inner subtree
     (
         &[8, 7, 6, 5, 9, 3, 1, 4],
         &[2],
@@ -78,7 +78,7 @@ const INSERTIONS: &[Row] = &[
         ],
         3,
     ),
-    // a double one after promotions, with both inner subtrees: the most that an insertion moves
+    // a double rotation after promotions, with both inner subtrees: an insertion moves no more
     (
         &[4, 1, 3, 8, 10, 2, 9, 7, 5],
         &[6],
@@ -144,15 +144,15 @@ const INSERTIONS: &[Row] = &[
     ),
 ];
 
-/// Keys of a tree, and those that are removed from it.
+/// Keys of a tree, and those to remove from it.
 const REMOVALS: &[Row] = &[
-    // a leaf; a node with one side, whose child takes its place
+    // a leaf; a node with one side, which its child replaces
     (&[1], &[1], &[], 0),
     (&[1, 2], &[1], &[(2, 1, 0)], 1),
     (&[2, 1], &[2], &[(1, 1, 0)], 1),
     (&[1, 3, 4, 2], &[1], &[(2, 1, 3), (3, 3, 0), (4, 1, 3)], 1),
     (&[1, 2, 4, 3], &[4], &[(1, 1, 2), (2, 3, 0), (3, 1, 2)], 1),
-    // a node with both sides, which the previous one takes: its child, then further down
+    // a node with both sides, replaced by its predecessor: its child, then one further down
     (&[1, 2, 3], &[2], &[(1, 2, 0), (3, 1, 1)], 2),
     (
         &[1, 4, 5, 2, 3],
@@ -160,7 +160,7 @@ const REMOVALS: &[Row] = &[
         &[(1, 1, 2), (2, 2, 3), (3, 3, 0), (5, 1, 3)],
         3,
     ),
-    // the same where the previous one has a lesser side
+    // the same if the predecessor has a lesser side
     (&[2, 3, 4, 1], &[3], &[(1, 1, 2), (2, 3, 0), (4, 1, 2)], 2),
     (
         &[50, 30, 70, 60, 10],
@@ -181,12 +181,12 @@ const REMOVALS: &[Row] = &[
         ],
         4,
     ),
-    // the parent is without children now
+    // the parent has no children left
     (&[2, 1], &[1], &[(2, 1, 0)], 0),
     (&[1, 2], &[2], &[(1, 1, 0)], 0),
     (&[2, 3, 4, 1], &[1], &[(2, 1, 3), (3, 3, 0), (4, 1, 3)], 0),
     (&[1, 2, 3, 4], &[4], &[(1, 1, 2), (2, 3, 0), (3, 1, 2)], 0),
-    // it is at most two above
+    // the parent is at most two above
     (&[1, 2, 3], &[1], &[(2, 2, 0), (3, 1, 2)], 0),
     (&[1, 2, 3], &[3], &[(1, 1, 2), (2, 2, 0)], 0),
     // the sibling is two below
@@ -259,7 +259,7 @@ const REMOVALS: &[Row] = &[
         &[(1, 1, 3), (3, 2, 5), (4, 1, 3), (5, 3, 0), (6, 1, 5)],
         0,
     ),
-    // its inner child alone is one below it: a double rotation
+    // only its inner child is one below it: a double rotation
     (&[1, 2, 4, 3], &[1], &[(2, 1, 3), (3, 3, 0), (4, 1, 3)], 3),
     (&[1, 3, 4, 2], &[4], &[(1, 1, 2), (2, 3, 0), (3, 1, 2)], 3),
     // the same further up, with both inner subtrees
@@ -291,7 +291,7 @@ const REMOVALS: &[Row] = &[
         ],
         5,
     ),
-    // the most that a removal moves
+    // a removal moves no more
     (
         &[
             14, 5, 19, 3, 11, 17, 21, 2, 4, 7, 13, 16, 18, 20, 1, 6, 9, 12, 15, 8, 10,
@@ -323,7 +323,7 @@ const REMOVALS: &[Row] = &[
     ),
 ];
 
-/// The key at an index.
+/// Returns the key at an index; 0 if there is none.
 fn key_at(places: &[Place], index: Option<u32>) -> u8 {
     for place in places {
         if Some(place.index) == index {
@@ -333,7 +333,7 @@ fn key_at(places: &[Place], index: Option<u32>) -> u8 {
     0
 }
 
-/// Whether the places are those of these nodes, in order.
+/// Returns whether the places are exactly these nodes, in order.
 fn has_nodes(places: &[Place], wanted: &[Node]) -> bool {
     let mut left = wanted.iter();
     for place in places {
@@ -345,7 +345,7 @@ fn has_nodes(places: &[Place], wanted: &[Node]) -> bool {
     left.next().is_none()
 }
 
-/// Inserts or removes keys one after another. Answers how many parents the last one moves; nothing where one isn't done.
+/// Inserts or removes keys in turn. Returns how many parents the last one moves; `None` if a key fails.
 fn moved_by(alloc: Global, tree: &mut Keys, keys: &[u8]) -> Option<usize> {
     let (mut last, mut is_done) = (0, true);
     for key in keys {
@@ -356,7 +356,7 @@ fn moved_by(alloc: Global, tree: &mut Keys, keys: &[u8]) -> Option<usize> {
     is_done.then_some(last)
 }
 
-/// Whether the tree of a row, and the parents that its last key moves, are what the row says.
+/// Returns whether a row's tree, and the parents that its last key moves, are as the row says.
 fn is_repaired(alloc: Global, row: &Row) -> bool {
     let (keys, changes, wanted, moves) = row;
     let mut tree = Keys::new(alloc);
