@@ -1,4 +1,4 @@
--- Keys stay apart along a run.
+-- Keys stay distinct along a run.
 use Rattle.std.proofs.Common.{◌≡◌, ℕ, inl, inr, List, [], ◌∷◌, ◌++◌, map, Some, None, IfSome, sym, ap, subst, ◌∙◌, arith}
 use Rattle.std.proofs.lemmas.Bool.Decides.{eqb_tells}
 use Rattle.std.specs.declared.cmp.Ordering.TheVariants.{Less, Equal, Greater}
@@ -11,7 +11,7 @@ use Rattle.ord_machine.specs.{Ascending.KeepsApart, Ascending.AscendingKeysLaw, 
 use Rattle.ord_machine.specs.{declared.command.Command.Command, declared.reply.Reply.Reply}
 use Rattle.ord_machine.proofs.Outcomes.{keys-renewed, Change, stays, comes, writes, rekeys, leaves, renews, relays, empties, outcome}
 
--- each key is less than those behind it, one after another
+-- each key is less than every key behind it
 abbrev Climbs : {K : Type 0} → (K → K → Ordering) → List K → Type 0
 Climbs cmp [] = Unit {0}
 Climbs cmp (k ∷ ks) = AllByRecursion (λ l. cmp k l ≡ Less) ks × Climbs cmp ks
@@ -25,7 +25,7 @@ module _ {T K : Type 0} (key : T → K) where
   abbrev keys : List (Entry T) → List K
   keys es = map (λ e. key e.item) es
 
-  -- what is true of each key, when an entry goes, comes, or gets another item
+  -- what holds of each key, after an entry is removed, inserted, or gets another item
   module _ (P : K → Type 0) where
     abbrev Each : List (Entry T) → Type 0
     Each es = AllByRecursion P (keys es)
@@ -108,7 +108,7 @@ module _ {T K : Type 0} (key : T → K) where
     ascends-back [] back sorted = sorted
     ascends-back (x ∷ front) back sorted = ascends-back front back sorted.1
 
--- a change
+-- one change
 module _ {P T I G K : Type 0} (r : Reading P T I G K) (total : IsTotalOrder r.cmp) (old new : Chain T) {n : ℕ} {Of : ℕ × ℕ → Type 0} {Keeps : Type 0}
     (keeps : Keeps) (sorted : Ascends r.key r.cmp total old.entries) where
   apart-change : Change r old new n Of Keeps → Ascends r.key r.cmp total new.entries
@@ -129,7 +129,7 @@ module _ {P T I G K : Type 0} (r : Reading P T I G K) (total : IsTotalOrder r.cm
   apart-change (relays all same some others) = subst (λ ks. Climbs r.cmp ks) (sym same) sorted
   apart-change (empties none some others) = rw none tt
 
--- a run
+-- a whole run
 module _ {P T I G K : Type 0} (r : Reading P T I G K) (total : IsTotalOrder r.cmp) where
   abbrev IsApart : State T → Type 0
   IsApart s = IsDistinct s.tree.list.entries × Ascends r.key r.cmp total s.tree.list.entries

@@ -1,11 +1,11 @@
--- The bounds on the visits of a search, with what the marks of a state say of its shape.
+-- The bounds on the visits of a search, given what the marks of a state say about its shape.
 use Rattle.std.proofs.Common.{ℕ, Option, Some, None, IfNone, length}
 use Rattle.ord_tree.specs.Tree.{Tree}
 use Rattle.triple_ord.specs.VisitBounds as visits
 use Rattle.ord_machine.specs.Machine.{Marks, State, AreTrue, IsWithinBoundsByMarks, IsWithinHintedBoundsByMarks}
 
 module _ {T : Type 0} (t : Tree T) (marks : Marks) (holds : AreTrue marks t.shape) where
-  -- the state of these
+  -- the state of this tree and these marks
   abbrev marked : State T
   marked = record { tree = t; marks = marks }
 
@@ -17,7 +17,7 @@ module _ {T : Type 0} (t : Tree T) (marks : Marks) (holds : AreTrue marks t.shap
   within_hinted num c b =
       record { steps = b.steps; search = b.search; sum = b.sum; few = b.few; within = b.within; bounded = within_bounds b.search b.bounded }
 
-  -- where there is no hint
+  -- the bounds without a hint
   pub within_unhinted : {X : Type 0} (hint : Option X) (c : ℕ) → IfNone hint (visits.IsWithinBounds (length t.list.entries) t.shape c) → IfNone hint (IsWithinBoundsByMarks marked c)
   within_unhinted None c b = within_bounds c b
   within_unhinted (Some x) c b = tt

@@ -11,15 +11,16 @@ use Rattle.triple_ord.specs.declared.error.OrdInsertionError.TheVariants.{AllocE
 use Rattle.ord_machine.specs.declared.command.Command.{Command}
 use Rattle.ord_machine.specs.declared.command.Command.TheVariants as commands
 
--- the shape without a node is rebuilt
+-- the empty shape is rebuilt
 rebuilt_missing : IsRebuilt missing
 rebuilt_missing = (1, (0, refl, (omega arith, λ j less. absurd (omega (arith, less)))), tt)
 
--- so any marks tell the truth of it
+-- so all marks are true of it
 pub AreTrue-missing : (marks : Marks) → AreTrue marks missing
 AreTrue-missing marks = record { only_inserted = λ _. tt; just_built = λ _. rebuilt_missing }
 
--- A run with one closure is one with another whose calls may say the same, state by state, if clones are no more often refused to it.
+-- A run with one closure is a run with another one whose calls may do the same in each state, if the first one's infallible items include
+-- the other's.
 module _ {T F H : Type 0} (asks : F → Shown T → F → Type 0) (asks' : H → Shown T → H → Type 0) (at : F → H)
     (like : (f : F) (s : Shown T) (g : F) → asks f s g → asks' (at f) s (at g)) where
   calls-like : (f : F) (shown : List (Shown T)) (g : F) → FoldsTo asks f shown g → FoldsTo asks' (at f) shown (at g)
@@ -29,7 +30,7 @@ module _ {T F H : Type 0} (asks : F → Shown T → F → Type 0) (asks' : H →
   searches-like : (entries : List (Entry T)) (f g : F) (last : Option (Shown T)) (c : ℕ) → Searches asks entries f g last c → Searches asks' entries (at f) (at g) last c
   searches-like entries f g last c n = record { shown = n.shown; calls = calls-like f n.shown g n.calls; search = n.search; last_is = n.last_is; count = n.count }
 
--- an item whose clone may be refused memory, and so where fewer clones are never refused it
+-- an item whose clone may fail, and still may if fewer clones are infallible
 may_fail : {T : Type 0} (one other : T → Type 0) → ((x : T) → other x → one x) → (item : Option T)
     → IsSomeAnd item (λ x. one x → ⊥) → IsSomeAnd item (λ x. other x → ⊥)
 may_fail one other clones None fails = absurd fails
@@ -60,7 +61,7 @@ module _ {P T I G A F H K : Type 0} (r : Reading P T I G K) (calls : Calls T F) 
   does-like old f g (commands.Get p) reply new does = ((gets-like old p reply does.0.0, does.0.1), ap at does.1)
   does-like old f g command reply new does = (does.0, ap at does.1)
 
-  -- a run by the one closure is one by the other
+  -- a run by the first closure is one by the second
   abbrev AreLike : State T → F → List (Command P T I G K) → List (Reply P T A I G) → State T → F → Type 0
   AreLike old f asked told new g = Runs r calls old f asked told new g → Runs r calls' old (at f) asked told new (at g)
 

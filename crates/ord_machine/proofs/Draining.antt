@@ -1,11 +1,11 @@
--- Entries taken out from the front of a list, one after another.
+-- Entries removed from the front of a list, one after another.
 use Rattle.std.proofs.Common.{◌≡◌, ℕ, ◌<◌, min, List, [], ◌∷◌, ◌++◌, length, map, take, Option, Some, None, IsSome, refl, sym, ap, ◌∙◌, arith, length-append}
 use Rattle.std.proofs.{lemmas.List.take_min, lemmas.List.map-append, Math.Seq.take-append_seam}
 use Rattle.chain_base.specs.Chain.{Entry, Chain, removed}
 use Rattle.ord_machine.specs.Machine.{removed_each, entry_of}
 use Rattle.ord_machine.proofs.Lists.{cut_more}
 
--- one more
+-- one more entry
 module _ {T : Type 0} (greatest : Option ℕ) where
   removed_each-more : (c : Chain T) (es : List (Entry T)) (e : Entry T)
       → removed_each greatest c (es ++ e ∷ []) ≡ removed greatest (removed_each greatest c es) e.index
@@ -28,7 +28,7 @@ module _ {P T : Type 0} (greatest : Option ℕ) (pointer : P → ℕ × ℕ) (c 
       out ∙ ap (λ d. removed greatest d (pointer x.0).0) taken ∙ sym (removed_each-more greatest c (map (entry_of pointer) pairs) (entry_of pointer x)) ∙ ap (removed_each greatest c) (sym entries_more)
 
 module _ {X : Type 0} where
-  -- so many elements before a rest are the first ones
+  -- as many elements as this, in front of a rest, are the first ones
   pub first_are : (num : ℕ) (all done rest : List X) → done ++ rest ≡ all → length done ≡ min num (length all) → take num all ≡ done
   first_are num all done rest cut count =
       sym (take_min num all) ∙ ap (λ n. take n all) (sym count) ∙ ap (take (length done)) (sym cut) ∙ take-append_seam done rest

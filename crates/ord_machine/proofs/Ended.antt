@@ -1,4 +1,4 @@
--- Pointers that ended stay so: how generations go along a run.
+-- Pointers that ended stay ended: how generations change along a run.
 use Rattle.std.proofs.Common.{◌≡◌, ℕ, zero, suc, ◌+◌, ◌<◌, ◌≤◌, ◌⊎◌, inl, inr, false, List, [], ◌∷◌, Option, Some, None, IsSome, is_some, refl, sym, ap, ◌∙◌, arith}
 use Rattle.std.proofs.lemmas.Bool.Decides.{eqb_tells}
 use Rattle.std.specs.{Option.ForSome, Option.option_map, List.AllByRecursion}
@@ -10,8 +10,8 @@ use Rattle.ord_machine.specs.Pointers.{resets, raises, raises_among, Part, Ended
 use Rattle.ord_machine.specs.{Machine.Reading, Machine.Calls, Machine.State, Machine.Runs, declared.command.Command.Command, declared.reply.Reply.Reply}
 use Rattle.ord_machine.proofs.Outcomes.{cases_pointer, found-there, there-found, elsewhere, unused, risen, Change, stays, comes, writes, rekeys, leaves, renews, relays, empties, outcome}
 
--- how generations go from one list to the next: the arena's rises by so many; an entry that wasn't there with its pointer has one from
--- the old one to the new one; and where an entry's pointer ended, it rose
+-- How generations change from one list to the next. The arena's rises by n. An entry that wasn't there with its pointer has a generation
+-- between the old one and the new one. If an entry's pointer ended, the arena's generation rose.
 pub record Goes {T : Type 0} (old : Chain T) (n : ℕ) (new : Chain T) : Type 0 where
   pub raised : new.generation ≡ old.generation + n
   pub entries : (i : ℕ) (e : ℕ × T) → entry_at new.entries i ≡ Some e → ((x : T) × (entry_at old.entries i ≡ Some (e.0, x))) ⊎ ((old.generation ≤ e.0) × (e.0 ≤ new.generation))
@@ -21,7 +21,7 @@ pub record Goes {T : Type 0} (old : Chain T) (n : ℕ) (new : Chain T) : Type 0 
 abbrev pub IsBelow : {T : Type 0} → Chain T → Type 0
 IsBelow c = (i : ℕ) → ForSome (entry_at c.entries i) (λ e. e.0 ≤ c.generation)
 
--- a pointer names no entry, and never will, as its generation has passed
+-- a pointer names no entry, and never will, because its generation has passed
 pub record IsSpent {T : Type 0} (c : Chain T) (p : ℕ × ℕ) : Type 0 where
   pub nothing : item_of c.entries p ≡ None
   pub passed : p.1 < c.generation
@@ -38,7 +38,7 @@ module _ {T : Type 0} where
         | inr late ↦ λ f same. let is_e : f ≡ e = cc in rw is_e late.1
       ]
 
-  -- a spent pointer stays so
+  -- a spent pointer stays spent
   spent-goes : (old new : Chain T) (n : ℕ) → Goes old n new → (p : ℕ × ℕ) → IsSpent old p → IsSpent new p
   spent-goes old new n goes p spent = record { nothing = go (item_of new.entries p) refl; passed = omega (arith, goes.raised, spent.passed) }
     where
@@ -66,14 +66,14 @@ module _ {T : Type 0} (p : ℕ × ℕ) where
           let there = found-there old.entries p (ap is_some was) in
           record { nothing = none; passed = omega (arith, goes.ended p (ap is_some was) none, goes.raised, watched.below p.0 (p.1, there.0) there.1) }
 
--- the generation after one that isn't the greatest
+-- the generation after one that isn't the greatest is one more
 next-counted : (greatest : Option ℕ) (top g : ℕ) → greatest ≡ Some top → g + 1 ≤ top → next_generation greatest g ≡ g + 1
 next-counted greatest top g is room = rw is (elim (eqb_tells g top) [
   | inl h ↦ absurd (omega (arith, h.1, room))
   | inr h ↦ rw h.0 refl
 ])
 
--- so it is after so many
+-- so after n raises it is n more
 risen-counted : (greatest : Option ℕ) (top n g : ℕ) → greatest ≡ Some top → g + n ≤ top → risen greatest n g ≡ g + n
 risen-counted greatest top zero g is room = omega arith
 risen-counted greatest top (suc n) g is room =
@@ -82,7 +82,7 @@ risen-counted greatest top (suc n) g is room =
 same-first : {T : Type 0} (g : ℕ) (x : T) (e : ℕ × T) → Some (g, x) ≡ Some e → g ≡ e.0
 same-first {T} g x e same = let both : (g, x) ≡ e = cc in ap (λ (p : ℕ × T). p.0) both
 
--- how generations go by a change
+-- how generations change in one step
 module _ {P T I G K : Type 0} (r : Reading P T I G K) (old new : Chain T) (n : ℕ) (distinct : IsDistinct old.entries) (raised : new.generation ≡ old.generation + n) where
   goes-change : {Of : ℕ × ℕ → Type 0} {Keeps : Type 0} → Change r old new n Of Keeps → Goes old n new
   goes-change (stays same) = record {
@@ -171,16 +171,16 @@ module _ {P T I G K : Type 0} (r : Reading P T I G K) (old new : Chain T) (n : �
     ended = λ p there gone. some;
   }
 
--- the end of a run: the arena is lawful, its generation is raised so often, and a fact of its list still holds
+-- the end of a run: the arena is sound, its generation was raised n times, and a fact of its list still holds
 pub record Ends {T : Type 0} (most : ℕ) (greatest : Option ℕ) (Holds : Chain T → Type 0) (s : State T) (n : ℕ) (t : State T) : Type 0 where
   pub lawful : IsSound most greatest t.tree.list
   pub raised : t.tree.list.generation ≡ s.tree.list.generation + n
   pub holds : Holds t.tree.list
 
--- how a fact of lists goes along a run, whose steps go so
+-- how a fact of lists is kept along a run whose steps keep it
 module _ {P T I G K : Type 0} (r : Reading P T I G K) (top : ℕ) (counted : r.greatest ≡ Some top)
     (Holds : Chain T → Type 0) (goes : (old new : Chain T) (n : ℕ) → Goes old n new → Holds old → Holds new) where
-  -- from a lawful arena of which the fact holds, and that has room for so many raises, to the end of the run
+  -- from a sound arena for which the fact holds, with room for this many raises, to the end of the run
   abbrev Leads : State T → ℕ → State T → Type 0
   Leads s n t = IsSound r.most r.greatest s.tree.list → Holds s.tree.list → s.tree.list.generation + n ≤ top → Ends r.most r.greatest Holds s n t
 

@@ -10,7 +10,7 @@ use Rattle.ord_machine.specs.declared.reply.Reply.TheVariants.{Inserted, Refused
 use Rattle.ord_machine.specs.Machine.{Calls, Reading, HaveRanks, Inserts, Ranked}
 use Rattle.ord_machine.specs.{Laws.AreFirstReplies, Laws.FirstRankLaw, declared.reply.Reply.Reply}
 
--- where nothing is cut in two, both parts are nothing
+-- if the empty list is cut in two, both parts are empty
 no_parts : {X : Type 0} (front back : List X) → [] ≡ front ++ back → (front ≡ []) × (back ≡ [])
 no_parts [] back cut = (refl, sym cut)
 no_parts (x ∷ front) back cut = cc
@@ -25,7 +25,7 @@ only_rank (node (node a b c d) j m r) i k listed ranked has =
     absurd (omega (arith, ap length listed, length-append (walk a ++ b ∷ walk d) (j ∷ walk r), length-append (walk a) (b ∷ walk d)))
 only_rank (node missing j m (node a b c d)) i k listed ranked has = absurd (omega (arith, ap length listed, length-append (walk a) (b ∷ walk d)))
 
--- the list after an insertion into a gap where there was no entry
+-- the list after an insertion into an empty one
 module _ {T : Type 0} (c : Chain T) (place : Entry T → List (Entry T)) (item : T) (alone : (e : Entry T) → place e ≡ e ∷ []) where
   first_entries : (i : ℕ) → next_index c ≡ Some i → (e : Entry T) × ((inserted c place item).entries ≡ e ∷ [])
   first_entries i next =
@@ -33,7 +33,7 @@ module _ {T : Type 0} (c : Chain T) (place : Entry T → List (Entry T)) (item :
       [ [] ↦ λ none. cc | (j ∷ rest) ↦ λ _. (record { index = j; generation = c.generation; item = item }, alone _) ]) next
 
 module _ {T : Type 0} where
-  -- the ranks of no entry, and of a single one
+  -- the ranks of no entry, and of one
   no_ranks : (shape : Shape) (entries : List (Entry T)) (ranks : List ℕ) → entries ≡ [] → HaveRanks shape entries ranks → ranks ≡ []
   no_ranks shape [] [] none have = refl
   no_ranks shape [] (k ∷ ranks) none have = absurd have
@@ -44,14 +44,14 @@ module _ {T : Type 0} where
   one_rank shape e (k ∷ []) listed ranked have = ap (λ r. r ∷ []) (only_rank shape e.index k listed ranked have.0)
   one_rank shape e (k ∷ m ∷ ranks) listed ranked have = absurd have.1
 
-  -- between two parts that are nothing stands the entry alone
+  -- between two empty parts there is only the entry
   alone : (front back : List (Entry T)) (e : Entry T) → (front ≡ []) × (back ≡ []) → front ++ e ∷ back ≡ e ∷ []
   alone [] [] e none = refl
   alone [] (f ∷ back) e none = absurd (omega (arith, ap length none.1))
   alone (f ∷ front) back e none = absurd (omega (arith, ap length none.0))
 
 module _ {T K : Type 0} (key : T → K) (cmp : K → K → Ordering) (most : ℕ) where
-  -- what an insertion of a new entry leaves where there was none
+  -- the result of inserting a new entry into an empty tree
   new_alone : (old new : Tree T) (item : T) (p : ℕ × ℕ) → old.list.entries ≡ []
       → InsertsNew key cmp most reallocating (at_key (key item)) old item p new → (e : Entry T) × (new.list.entries ≡ e ∷ [])
   new_alone old new item p none inserts =
@@ -73,13 +73,13 @@ module _ {P T I G A K : Type 0} (r : Reading P T I G K) (old new : Tree T) (none
   ranks_of_new item p (Refused AllocError) inserts ranked = tt
   ranks_of_new item p second inserts ranked = absurd ranked
 
-  -- the ranks after a refusal
+  -- the ranks after a failure
   ranks_of_none : (refusal : OrdInsertionError) (second : Reply P T A I G) → new ≡ old → Follows second (Refused refusal)
   ranks_of_none refusal (Ranks ranks) same ranked = no_ranks new.shape new.list.entries ranks.items (ap (λ t. t.list.entries) same ∙ none) ranked
   ranks_of_none refusal (Refused AllocError) same ranked = absurd (omega (arith, ranked, ap length (ap (λ t. t.list.entries) same ∙ none)))
   ranks_of_none refusal second same ranked = absurd ranked
 
-  -- both replies, from the first
+  -- both replies, given the first
   first_and_ranks : (item : T) (first second : Reply P T A I G)
       → Inserts r.key r.cmp r.most reallocating (at_key (r.key item)) r.pointer old item first new → Follows second first
   first_and_ranks item (Inserted (New p) None) second inserts ranked = ranks_of_new item p second inserts ranked
@@ -87,7 +87,7 @@ module _ {P T I G A K : Type 0} (r : Reading P T I G K) (old new : Tree T) (none
   first_and_ranks item (Refused refusal) second inserts ranked = ranks_of_none refusal second inserts.after ranked
   first_and_ranks item first second inserts ranked = absurd inserts
 
--- a run over both commands
+-- a run of both commands
 pub first_rank : (P T I G A K : Type 0) {F : Type 0} (calls : Calls T F) → FirstRankLaw P T I G A K calls
 first_rank P T I G A K calls r old new f g item [] none run = absurd run
 first_rank P T I G A K calls r old new f g item (first ∷ []) none run = absurd run.3

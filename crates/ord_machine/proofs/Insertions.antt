@@ -1,4 +1,4 @@
--- What is said of an insertion is what the arena said of it.
+-- The reply to an insertion says what the arena says.
 use Rattle.std.proofs.Common.{◌≡◌, ℕ, Option, Result, Ok, Err, sym, subst}
 use Rattle.std.specs.declared.cmp.Ordering.{Ordering}
 use Rattle.ord_tree.specs.Tree.{Tree}
@@ -16,7 +16,7 @@ module _ {P T K : Type 0} (I G A : Type 0) (key : T → K) (cmp : K → K → Or
   inserts-replied (Ok inserted) inserts = inserts
   inserts-replied (Err refusal) inserts = inserts
 
--- an insertion with its kind, its answer and what it leaves by other names
+-- an insertion whose kind, answer and result have other names
 module _ {P T K I G : Type 0} (key : T → K) (cmp : K → K → Ordering) (most : ℕ) (growth : Growth) (number : I → ℕ) (numbers : P → ℕ × ℕ)
     (old : Tree T) (item : T) (before : Option T) where
   abbrev Done : OrdInsertKind P K I G → OrdEntryKind P → Tree T → Type 0

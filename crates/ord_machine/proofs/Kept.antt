@@ -1,4 +1,4 @@
--- A pointer keeps its entry while commands are to others, and the new item of an entry that was rekeyed.
+-- A pointer keeps its entry during commands to other entries, and a rekeyed entry's pointer names the new item.
 use Rattle.std.proofs.Common.{◌≡◌, ℕ, List, [], ◌∷◌, IsSome, is_some, refl, sym, ap, ◌∙◌}
 use Rattle.arena_base.specs.Arena.{item_if}
 use Rattle.chain_base.specs.Chain.{Entry, Chain, entry_at, item_of}
@@ -7,7 +7,7 @@ use Rattle.triple_ord.proofs.CallerLemmas.{rekeys-updates}
 use Rattle.ord_machine.specs.{Machine.Reading, Machine.Calls, Machine.State, Pointers.KeptPointerLaw, Pointers.RekeyedPointerLaw}
 use Rattle.ord_machine.proofs.Outcomes.{elsewhere, unused, Change, stays, comes, writes, rekeys, leaves, renews, relays, empties, outcome}
 
--- a change
+-- one change
 module _ {P T I G K : Type 0} (r : Reading P T I G K) (old new : Chain T) (p : ℕ × ℕ) (there : IsSome (item_of old.entries p)) where
   keeps-there : {es : List (Entry T)} → new.entries ≡ es → entry_at es p.0 ≡ entry_at old.entries p.0 → item_of new.entries p ≡ item_of old.entries p
   keeps-there is same = ap (λ es. item_of es p) is ∙ ap (item_if p.1) same
@@ -23,7 +23,7 @@ module _ {P T I G K : Type 0} (r : Reading P T I G K) (old new : Chain T) (p : �
   keeps-change of (relays all same some others) = absurd (others p of)
   keeps-change of (empties none some others) = absurd (others p of)
 
--- a run
+-- a whole run
 pub kept_pointer : (P T I G A K : Type 0) {F : Type 0} (calls : Calls T F) → KeptPointerLaw P T I G A K calls
 kept_pointer P T I G A K calls r old new f g [] [] p lawful others run there = ap (λ (s : State T). item_of s.tree.list.entries p) run.0
 kept_pointer P T I G A K calls r old new f g [] (q ∷ told) p lawful others run there = absurd run
@@ -34,7 +34,7 @@ kept_pointer P T I G A K calls r old new f g (c ∷ asked) (q ∷ told) p lawful
     let kept = keeps-change r old.tree.list mid.tree.list p there others.0 leads in
     kept_pointer P T I G A K calls r mid new run.1 g asked told p run.2.lawful others.1 run.3 (ap is_some kept ∙ there) ∙ kept
 
--- a run that begins by giving the pointer's own entry another item
+-- a run that begins by rekeying the pointer's own entry
 pub rekeyed_pointer : (P T I G A K : Type 0) {F : Type 0} (calls : Calls T F) → RekeyedPointerLaw P T I G A K calls
 rekeyed_pointer P T I G A K calls r old new f g p item before asked told lawful others run =
     let mid = run.0 in

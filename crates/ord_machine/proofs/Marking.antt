@@ -1,4 +1,4 @@
--- The marks of a state keep telling the truth.
+-- The marks of a state stay true.
 use Rattle.std.proofs.Common.{◌≡◌, ℕ, zero, suc, ◌==◌, cond, true, inl, inr, ◌∷◌, length, refl, sym, subst, arith, length-append}
 use Rattle.std.proofs.{lemmas.List.length-map, Math.Dec.eqb-suc-zero}
 use Rattle.ord_tree.specs.{Shape.Shape, Shape.missing, Shape.node, Shape.walk, Tree.Tree, Tree.IsSoundTree}
@@ -6,12 +6,12 @@ use Rattle.ord_machine.specs.Machine.{Calls, Reading, State, Marks, Effect, adds
 use Rattle.ord_machine.specs.{declared.command.Command.Command, declared.reply.Reply.Reply}
 use Rattle.ord_machine.proofs.{Outcomes.Affects, Outcomes.outcome, CallerLemmas.AreTrue-missing}
 
--- where there is no entry, there is no node
+-- a shape with no entry has no node
 no_node : (shape : Shape) (n : ℕ) → length (walk shape) ≡ n → n ≡ 0 → shape ≡ missing
 no_node missing n counted none = refl
 no_node (node l i k r) n counted none = absurd (omega (arith, counted, none, length-append (walk l) (i ∷ walk r)))
 
--- both marks are true where no node is left
+-- both marks are true if no node is left
 AreTrue-by_count : (n : ℕ) (shape : Shape) (marks : Marks) → (n ≡ 0 → shape ≡ missing) → AreTrue marks shape
     → AreTrue (cond (n == 0) (record { only_inserted = true; just_built = true }) marks) shape
 AreTrue-by_count zero shape marks empty holds = rw (empty refl) (AreTrue-missing (record { only_inserted = true; just_built = true }))
@@ -25,7 +25,7 @@ module _ {T : Type 0} where
   AreTrue-settled : (t : Tree T) (marks : Marks) → IsSoundTree t → AreTrue marks t.shape → AreTrue (settled t marks) t.shape
   AreTrue-settled t marks sound holds = AreTrue-by_count (length t.list.entries) t.shape marks (no_entry t sound) holds
 
--- the marks that it leaves tell the truth
+-- the marks after an effect are true
 AreTrue-marked : (effect : Effect) (old new : Shape) (marks : Marks) → Affects effect old new → AreTrue marks old → AreTrue (marked_by effect marks) new
 AreTrue-marked adds old new marks tight holds = record { only_inserted = λ e. tight.0 (holds.only_inserted e); just_built = λ e. cc }
 AreTrue-marked removes old new marks any holds = record { only_inserted = λ e. cc; just_built = λ e. cc }
@@ -34,7 +34,7 @@ AreTrue-marked rebuilds old new marks rebuilt holds = record { only_inserted = �
 AreTrue-marked keeps old new marks (inl same) holds = subst (λ (s : Shape). AreTrue marks s) (sym same) holds
 AreTrue-marked keeps old new marks (inr none) holds = subst (λ (s : Shape). AreTrue marks s) (sym none) (AreTrue-missing marks)
 
--- so the marks after a step tell the truth
+-- so the marks after a step are true
 module _ {P T I G A F K : Type 0} (r : Reading P T I G K) (calls : Calls T F) (s : State T) (f : F) (command : Command P T I G K)
     (reply : Reply P T A I G) (new : Tree T) (g : F) where
   pub AreTrue-does : IsSoundTree new → AreTrue s.marks s.tree.shape → Does r calls s f command reply new g

@@ -1,4 +1,4 @@
--- What a step makes of the list: all that the laws of pointers and keys look at.
+-- What a step does to the list: all that the laws of pointers and keys use.
 use Rattle.std.proofs.Common.{◌≡◌, ◌≢◌, ℕ, zero, suc, ◌+◌, ◌<◌, Bool, false, List, [], ◌∷◌, ◌++◌, ◌⊎◌, inl, inr, length, map, take, Option, Some, None, IsSome, is_some, Result, Ok, refl, sym, ap, subst, ◌∙◌, arith, length-append}
 use Rattle.std.proofs.{lemmas.Bool.Decides.eqb_tells, lemmas.List.length-map, lemmas.Cmp.tied_itself}
 use Rattle.std.specs.declared.cmp.Ordering.{Ordering, TheVariants.Less, TheVariants.Equal, TheVariants.Greater}
@@ -26,7 +26,7 @@ use Rattle.ord_machine.specs.{Ascending.IsPlacedByKey, Ascending.KeepsApart, InO
 use Rattle.ord_machine.specs.declared.command.Command.TheVariants as commands
 
 module _ {T : Type 0} where
-  -- what a pointer finds is at its index, with its generation
+  -- an item found by a pointer is at its index, with its generation
   pub found-there : (es : List (Entry T)) (p : ℕ × ℕ) → IsSome (item_of es p) → (x : T) × (entry_at es p.0 ≡ Some (p.1, x))
   found-there es p there = go (entry_at es p.0) refl
     where
@@ -43,7 +43,7 @@ module _ {T : Type 0} where
     | inr h ↦ absurd (h.1 refl)
   ]
 
-  -- two pointers that differ and find something have different indexes
+  -- two different pointers that find something have different indexes
   other_index : (es : List (Entry T)) (p q : ℕ × ℕ) → q ≢ p → IsSome (item_of es q) → IsSome (item_of es p) → p.0 ≢ q.0
   other_index es p q apart there here same =
       let one = found-there es q there in
@@ -52,7 +52,7 @@ module _ {T : Type 0} where
       let pair : ◌≡◌ {A = ℕ × T} (q.1, one.0) (p.1, two.0) = cc in
       apart (ap (λ i. (i, q.1)) (sym same) ∙ ap (λ g. (p.0, g)) (ap (λ (e : ℕ × T). e.0) pair))
 
--- two pointers are one, or differ
+-- two pointers are equal or differ
 pub cases_pointer : (p q : ℕ × ℕ) → (p ≡ q) ⊎ (p ≢ q)
 cases_pointer p q = elim (eqb_tells p.0 q.0) [
   | inl i ↦ elim (eqb_tells p.1 q.1) [
@@ -62,40 +62,40 @@ cases_pointer p q = elim (eqb_tells p.0 q.0) [
   | inr i ↦ inr (λ same. i.1 (ap (λ (x : ℕ × ℕ). x.0) same))
 ]
 
--- the generation after so many raises
+-- the generation after n raises
 abbrev pub risen : Option ℕ → ℕ → ℕ → ℕ
 risen greatest zero g = g
 risen greatest (suc n) g = risen greatest n (next_generation greatest g)
 
--- of removals one after another, and one raise more
+-- the generation after removals one after another, and one more raise
 risen-each : {T : Type 0} (greatest : Option ℕ) (c : Chain T) (es : List (Entry T))
     → next_generation greatest (removed_each greatest c es).generation ≡ risen greatest (suc (length es)) c.generation
 risen-each greatest c [] = refl
 risen-each greatest c (e ∷ es) = risen-each greatest (removed greatest c e.index) es
 
--- what an insertion goes by is a key that is equal to the item's
+-- the insertion goes by a key that equals the item's
 abbrev pub IsByKey : {P T I G K : Type 0} → Reading P T I G K → T → Aim K → Type 0
 IsByKey r item (at_key k) = r.cmp k (r.key item) ≡ Equal
 IsByKey r item aim = ⊥
 
--- so it is in a step that keeps the keys apart
+-- it does so in a step that keeps the keys apart
 abbrev pub GoesByKey : {P T I G K : Type 0} → Reading P T I G K → Type 0 → T → Aim K → Type 0
 GoesByKey r Keeps item aim = IsTotalOrder r.cmp → Keeps → IsByKey r item aim
 
--- two items have equal keys in a step that keeps the keys apart
+-- the two items have equal keys, in a step that keeps the keys apart
 abbrev pub AreAlike : {P T I G K : Type 0} → Reading P T I G K → Type 0 → T → T → Type 0
 AreAlike r Keeps x item = IsTotalOrder r.cmp → Keeps → r.cmp (r.key x) (r.key item) ≡ Equal
 
--- an insertion goes by a key that is equal to the item's, in its place or behind it, in a step that leaves the keys in order
+-- the insertion goes by a key that equals the item's, to its place or behind it, in a step that keeps the keys in order
 abbrev pub GoesInOrder : {P T I G K : Type 0} → Reading P T I G K → Type 0 → T → Aim K → Type 0
 GoesInOrder {K = K} r InOrder item aim = IsTotalOrder r.cmp → InOrder → (k : K) × GoesBy aim k × (r.cmp k (r.key item) ≡ Equal)
 
--- such a step leaves them in order
+-- a step that keeps the keys in order
 abbrev pub LeavesInOrder : {P T I G K : Type 0} → Reading P T I G K → Type 0 → Chain T → Chain T → Type 0
 LeavesInOrder r InOrder old new =
     IsTotalOrder r.cmp → IsDistinct old.entries → InOrder → IsInOrder r.key r.cmp old.entries → IsInOrder r.key r.cmp new.entries
 
--- the keys of a list, one after another, are those of another
+-- the lists have the same keys, in order
 abbrev pub HasKeysOf : {P T I G K : Type 0} → Reading P T I G K → Chain T → Chain T → Type 0
 HasKeysOf r old new = map (λ e. r.key e.item) new.entries ≡ map (λ e. r.key e.item) old.entries
 
@@ -123,9 +123,9 @@ IsOfNone Of = (p : ℕ × ℕ) → Of p → ⊥
 abbrev pub Spares : {T : Type 0} → Chain T → (ℕ × ℕ → Type 0) → ℕ → Type 0
 Spares c Of i = (p : ℕ × ℕ) → IsSome (item_of c.entries p) → Of p → p.0 ≢ i
 
--- What becomes of the entries: they stay; one comes, gets another item, in its place or in another, leaves, or gets a new pointer; all
--- get new pointers, or leave.
--- Here n is how often the generation is raised, Of p that the call is to others than p's entry, Keeps that it keeps the keys apart.
+-- What happens to the entries: they stay; one comes, gets another item in its place or elsewhere, leaves, or gets a new pointer; all get
+-- new pointers, or leave. Here n is how often the generation is raised, Of p says that the call is to others than p's entry, and Keeps
+-- that it keeps the keys apart.
 pub data Change {P T I G K : Type 0} (r : Reading P T I G K) (old new : Chain T) (n : ℕ) (Of : ℕ × ℕ → Type 0) (Keeps : Type 0) : Type 0 where
   stays : new.entries ≡ old.entries → Change r old new n Of Keeps
   comes : (gap : Gap old.entries) (i : ℕ) (item : T) → Enters old new gap i item → (aim : Aim K) → IsPlace r.key r.cmp aim (into gap)
@@ -140,7 +140,7 @@ pub data Change {P T I G K : Type 0} (r : Reading P T I G K) (old new : Chain T)
       → Change r old new n Of Keeps
   empties : new.entries ≡ [] → 0 < n → IsOfNone Of → Change r old new n Of Keeps
 
--- what an effect says of the shapes before and after it
+-- what an effect says about the shapes before and after it
 abbrev pub Affects : Effect → Shape → Shape → Type 0
 Affects adds old new = (IsTight old → IsTight new) × (ChangesRanksWithin 4 old new ⊎ (new ≡ old))
 Affects removes old new = ChangesRanksWithin 9 old new ⊎ (new ≡ old)
@@ -148,14 +148,14 @@ Affects moves old new = ChangesRanksWithin 14 old new ⊎ (new ≡ old)
 Affects rebuilds old new = IsRebuilt new
 Affects keeps old new = (new ≡ old) ⊎ (new ≡ missing)
 
--- and of the shape, of the generation, if it isn't set back, and of the order of the keys
+-- and about the shape, the generation, if it isn't reset, and the order of the keys
 pub record Outcome {P T I G K : Type 0} (r : Reading P T I G K) (old new : Tree T) (effect : Effect) (back : Bool) (n : ℕ) (Of : ℕ × ℕ → Type 0) (Keeps InOrder : Type 0) : Type 0 where
   pub affects : Affects effect old.shape new.shape
   pub raised : back ≡ false → new.list.generation ≡ risen r.greatest n old.list.generation
   pub change : IsDistinct old.list.entries → Change r old.list new.list n Of Keeps
   pub ordered : LeavesInOrder r InOrder old.list new.list
 
--- the keys of relaid entries
+-- the keys of entries that were laid out again
 module _ {T K : Type 0} (key : T → K) where
   keys-relocated : (all es : List (Entry T)) (g : ℕ) → map (λ e. key e.item) (map (at_compressed_index all g) es) ≡ map (λ e. key e.item) es
   keys-relocated all [] g = refl
@@ -165,7 +165,7 @@ module _ {T K : Type 0} (key : T → K) where
   keys-numbered [] g from = refl
   keys-numbered (e ∷ es) g from = ap (λ ks. key e.item ∷ ks) (keys-numbered es g (from + 1))
 
-  -- and of one with another pointer
+  -- the keys after an entry got another pointer
   pub keys-renewed : (es : List (Entry T)) (i g : ℕ) → map (λ e. key e.item) (with_generation es i g) ≡ map (λ e. key e.item) es
   keys-renewed [] i g = refl
   keys-renewed (e ∷ es) i g = elim (eqb_tells e.index i) [
@@ -173,7 +173,7 @@ module _ {T K : Type 0} (key : T → K) where
     | inr h ↦ rw h.0 (ap (λ ks. key e.item ∷ ks) (keys-renewed es i g))
   ]
 
--- lists whose keys are the same, one after another, are both in order or neither
+-- if two lists have the same keys in order, both are in order or neither is
 module _ {T K : Type 0} (key : T → K) (cmp : K → K → Ordering) where
   in_order-none : IsInOrder {T = T} key cmp []
   in_order-none front back e f cut = absurd (omega (arith, ap length cut, length-append front (e ∷ f ∷ back)))
@@ -198,7 +198,7 @@ module _ {T : Type 0} (room new : Chain T) (put : Entry T → List (Entry T)) (i
   is-put g inserted = let after = (after-insertion room new put item i g inserted).1 in
       (ap (λ (c : Chain T). c.entries) after ∙ ap (λ era. put (record { index = i; generation = era; item = item })) inserted.generation, ap (λ (c : Chain T). c.generation) after)
 
--- a step
+-- one step
 module _ {P T I G K : Type 0} (r : Reading P T I G K) (s : State T) (new : Tree T) where
   abbrev es : List (Entry T)
   es = s.tree.list.entries
@@ -263,7 +263,7 @@ module _ {P T I G K : Type 0} (r : Reading P T I G K) (s : State T) (new : Tree 
           ordered = λ total _ _ order. in_order_as (ap (λ c. c.entries) is.0) (in_order-without r.key r.cmp total i es order);
         }
 
-    -- the entry of a pointer goes to the place of its key
+    -- the entry of a pointer moves to the place of its key
     rekeyed : (q : ℕ × ℕ) (item : T) → IsSome (item_of es q) → Rekeys r.key r.cmp s.tree q item new → ((p : ℕ × ℕ) → Of p → q ≢ p) → (Keeps → ⊥)
         → Outcome r s.tree new moves back 0 Of Keeps InOrder
     rekeyed q item there does apart never = record {
@@ -340,7 +340,7 @@ module _ {P T I G K : Type 0} (r : Reading P T I G K) (s : State T) (new : Tree 
     outcome-insertion (Refused refusal) does = kept does.after
     outcome-insertion reply does = absurd does
 
-  -- what a command leaves with this reply
+  -- the result of a command with this reply
   abbrev pub After : {A : Type 0} → Command P T I G K → Reply P T A I G → Type 0
   After command reply =
       Outcome r s.tree new (effect_of command reply) (resets command) (raises command reply) (λ p. IsOfOthers r p command reply) (KeepsApart r command)

@@ -15,11 +15,11 @@ use Rattle.ord_machine.specs.{declared.command.Command.Command, declared.reply.R
 use Rattle.ord_machine.specs.declared.command.Command.TheVariants as commands
 use Rattle.ord_machine.proofs.Outcomes.{Affects, outcome}
 
--- each index has one rank in the shape
+-- each index has at most one rank in the shape
 abbrev IsSingle : Shape → Type 0
 IsSingle s = (i k l : ℕ) → HasRank s i k → HasRank s i l → k ≡ l
 
--- so in a sound tree
+-- so it is in a sound tree
 single_sound : {T : Type 0} (most : ℕ) (greatest : Option ℕ) (t : Tree T) → IsSound most greatest t.list → IsSoundTree t → IsSingle t.shape
 single_sound most greatest t lawful sound i k l a b =
     let once : times_in i t.shape ≤ 1 = omega (arith, lawful.distinct i, times-indexes t.list.entries i, ap (times i) sound.listed, times-walk i t.shape) in

@@ -14,7 +14,7 @@ module _ {T : Type 0} where
   link_there prev next (f ∷ front) back e =
       elim (eqb_tells f.index e.index) [ inl same ↦ rw same.0 refl | inr other ↦ rw other.0 (link_there (Some f.index) next front back e) ]
 
-  -- the next of a rest has one too
+  -- the next entry of a rest has one too
   pub link_next : (all done rest left : List (Entry T)) (e : Entry T) (i : ℕ) → done ++ rest ≡ all → rest ≡ e ∷ left → i ≡ e.index → IsSome (link_at all i)
   link_next all done rest left e i cut next is =
       let there = subst (λ (k : ℕ). IsSome (link_at (done ++ e ∷ left) k)) (sym is) (link_there None None done left e) in

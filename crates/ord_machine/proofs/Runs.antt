@@ -7,22 +7,22 @@ use Rattle.ord_machine.specs.{declared.command.Command.Command, declared.reply.R
 use Rattle.ord_machine.proofs.Marking.{AreTrue-does}
 
 module _ {P T I G A F K : Type 0} (r : Reading P T I G K) (calls : Calls T F) where
-  -- a step between trees, whatever marks tell the truth of the first
+  -- a step between trees, with any marks that are true of the first
   pub record StepsBetween (old : Tree T) (f : F) (command : Command P T I G K) (reply : Reply P T A I G) (new : Tree T) (g : F) : Type 0 where
     pub does : (marks : Marks) → AreTrue marks old.shape → Does r calls (record { tree = old; marks = marks }) f command reply new g
     pub lawful : IsSound r.most r.greatest new.list
     pub sound : IsSoundTree new
 
-  -- a run over nothing
+  -- a run of no commands
   pub RunsBetween-none : (t : Tree T) (f : F) (replies : List (Reply P T A I G)) → replies ≡ [] → RunsBetween r calls t f [] replies t f
   RunsBetween-none t f [] none = λ marks holds. (marks, holds, (refl, refl))
   RunsBetween-none t f (q ∷ replies) none = cc
 
--- a run goes on by one step
+-- a run continues with one step
 module _ {P T I G A F K : Type 0} (r : Reading P T I G K) (calls : Calls T F) (command : Command P T I G K)
     (reply : Reply P T A I G) (mid : State T) (between : F) (new : State T) (g : F)
     (step : Step r calls mid between command reply new g) where
-  -- from the state old and the closure f
+  -- from the state `old` and the closure f
   abbrev GoesOn : State T → F → List (Command P T I G K) → List (Reply P T A I G) → Type 0
   GoesOn old f asked told = Runs r calls old f asked told mid between → Runs r calls old f (asked ++ command ∷ []) (told ++ reply ∷ []) new g
 
@@ -33,12 +33,12 @@ module _ {P T I G A F K : Type 0} (r : Reading P T I G K) (calls : Calls T F) (c
   Runs-more old f (c ∷ asked) [] run = absurd run
   Runs-more old f (c ∷ asked) (q ∷ told) run = (run.0, run.1, run.2, Runs-more run.0 run.1 asked told run.3)
 
--- and so does one between trees
+-- and so does a run between trees
 module _ {P T I G A F K : Type 0} (r : Reading P T I G K) (calls : Calls T F) (command : Command P T I G K)
     (reply : Reply P T A I G) (old : Tree T) (f : F) (mid : Tree T) (between : F) (new : Tree T) (g : F)
     (step : StepsBetween r calls mid between command reply new g)
     (asked : List (Command P T I G K)) (told : List (Reply P T A I G)) where
-  -- a step between the states that the marks make of the trees
+  -- a step between the states that the marks and the trees make
   step_from : (marks : Marks) → AreTrue marks mid.shape
       → Step r calls (record { tree = mid; marks = marks }) between command reply
       (record { tree = new; marks = marks_after command reply new marks }) g

@@ -7,7 +7,7 @@ use Rattle.ord_machine.specs.{Machine.Reading, Machine.Calls, Machine.State, Mac
 use Rattle.ord_machine.specs.declared.command.Command.TheVariants as commands
 
 module _ {P T I G K : Type 0} (r : Reading P T I G K) where
-  -- an item goes in the place of an entry with an equal key, or behind those with an equal key, and has an equal key itself
+  -- an item goes to the place of an entry with an equal key, or behind those with an equal key, and has an equal key itself
   abbrev pub GoesByEqualKey : OrdInsertKind P K I G → T → Type 0
   GoesByEqualKey (Normal k) item = r.cmp k (r.key item) ≡ Equal
   GoesByEqualKey (Nonhereditary k) item = r.cmp k (r.key item) ≡ Equal
@@ -15,7 +15,7 @@ module _ {P T I G K : Type 0} (r : Reading P T I G K) where
   GoesByEqualKey (NonhereditaryLinear i num k) item = r.cmp k (r.key item) ≡ Equal
   GoesByEqualKey kind item = ⊥
 
-  -- a command that leaves keys in order: any but `Set` and an insertion whose place isn't that of its item's key
+  -- a command that keeps keys in order: any except `Set` and an insertion whose place isn't that of its item's key
   abbrev pub KeepsInOrder : Command P T I G K → Type 0
   KeepsInOrder (commands.Entry kind item) = GoesByEqualKey kind item
   KeepsInOrder (commands.EntryWithin kind item) = GoesByEqualKey kind item

@@ -1,19 +1,19 @@
--- What is true of every run, as a statement of its own.
+-- The law of the first rank, as a statement of its own.
 use Rattle.std.specs.Prelude.{◌≡◌, List, [], ◌∷◌, None}
 use Rattle.triple_ord.specs.{declared.error.OrdInsertionError.TheVariants.AllocError, declared.entry_kind.OrdEntryKind.TheVariants.New}
 use Rattle.ord_machine.specs.declared.command.Command.TheVariants as commands
 use Rattle.ord_machine.specs.declared.reply.Reply.TheVariants.{Inserted, Refused, Ranks}
 use Rattle.ord_machine.specs.{Machine.Reading, Machine.Calls, Machine.State, Machine.Runs, declared.reply.Reply.Reply}
 
--- The replies to an insertion and to `ranks`, where there was no entry: one new entry of rank 1, if memory isn't refused to
--- the ranks; or a refusal, and no ranks.
+-- The replies to an insertion into an empty arena and to `ranks`: one new entry and its rank 1, unless memory for the ranks is refused;
+-- or a failure and no ranks.
 abbrev pub AreFirstReplies : {P T I G A : Type 0} → List (Reply P T A I G) → Type 0
 AreFirstReplies (Inserted (New p) None ∷ Ranks ranks ∷ []) = ranks.items ≡ 1 ∷ []
 AreFirstReplies (Inserted (New p) None ∷ Refused AllocError ∷ []) = Unit {0}
 AreFirstReplies (Refused refusal ∷ Ranks ranks ∷ []) = ranks.items ≡ []
 AreFirstReplies replies = ⊥
 
--- a run over these two commands, with any closure, from any state without entries, gives such replies
+-- a run of these two commands, with any closure, from any empty state, gives such replies
 abbrev pub FirstRankLaw : (P T I G A K : Type 0) {F : Type 0} → Calls T F → Type 0
 FirstRankLaw P T I G A K {F} calls =
     (r : Reading P T I G K) (old new : State T) (f g : F) (item : T) (replies : List (Reply P T A I G))

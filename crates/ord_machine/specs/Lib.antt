@@ -1,4 +1,4 @@
--- The definitions that the contracts cite.
+-- The definitions that the contracts use.
 pub mod Machine
 pub mod Laws
 pub mod Pointers

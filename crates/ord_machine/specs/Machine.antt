@@ -1,4 +1,4 @@
--- The list machine: what each command may answer on an ordered arena, and what it leaves.
+-- The list machine: the possible replies to each command on an ordered arena, and the state that it leaves.
 use Rattle.std.specs.Prelude.{◌≡◌, ℕ, ◌+◌, ◌^◌, ◌<◌, ◌≤◌, ◌==◌, ◌↔◌, Bool, true, false, if◌then◌else◌, List, [], ◌∷◌, length, map, take, max, Option, Some, IsSomeAnd, is_some, IfSome, IfNone, MatchOption, Result, Ok, Err}
 use Rattle.std.specs.{declared.cmp.Ordering.Ordering, Option.option_map}
 use Rattle.arena_base.specs.declared.invalidation.InvalidationResult.TheVariants.{Success, GenerationOverflow}
@@ -28,34 +28,34 @@ pub record Reading (P T I G K : Type 0) : Type 0 where
   pub most : ℕ
   -- the greatest generation, if generations are counted
   pub greatest : Option ℕ
-  -- index and generation of a pointer, and the numbers of an index and of a generation
+  -- the index and generation of a pointer, and the numbers of an index and of a generation
   pub pointer : P → ℕ × ℕ
   pub index : I → ℕ
   pub generation : G → ℕ
 
--- the reading of these; a pointer is read by its index and its generation
+-- the reading with these parts; a pointer is read as its index and generation
 abbrev pub reading_by : {P T I G K : Type 0} → (T → K) → (K → K → Ordering) → ℕ → Option ℕ → (P → ℕ × ℕ) → (I → ℕ) → (G → ℕ) → Reading P T I G K
 reading_by key cmp most greatest pointer index generation =
     record { key = key; cmp = cmp; most = most; greatest = greatest; pointer = pointer; index = index; generation = generation }
 
--- What the code of the items and of the closure may do: `asks f s g` where the closure f is shown the entry of s, gives the answer of s and
--- is left as g; and the items whose clone is never refused memory.
+-- What the code of the items and of the closure may do: `asks f s g` if the closure f, shown the entry of s, gives the answer of s and
+-- becomes g; and the items whose clone is never refused memory.
 pub record Calls (T F : Type 0) : Type 1 where
   pub asks : F → Shown T → F → Type 0
   pub is_infallible : T → Type 0
 
--- the calls of these
+-- the calls with these parts
 abbrev pub calls_by : {T F : Type 0} → (F → Shown T → F → Type 0) → (T → Type 0) → Calls T F
 calls_by asks is_infallible = record { asks = asks; is_infallible = is_infallible }
 
--- what is known of how a shape came about
+-- what is known of the history of a shape
 pub record Marks : Type 0 where
-  -- only insertions have come since there was no entry
+  -- since it was empty, only insertions came
   pub only_inserted : Bool
-  -- no entry has come, gone or moved since there was none, or since the last rebuild
+  -- since it was empty or rebuilt, no entry came, went or moved
   pub just_built : Bool
 
--- what a step does to the entries: one more comes, one leaves, one goes to another place, the tree over them is rebuilt, or none of these
+-- what a step does: it adds an entry, removes one, moves one, rebuilds the tree, or keeps the entries
 pub data Effect : Type 0 where
   adds : Effect
   removes : Effect
@@ -63,7 +63,7 @@ pub data Effect : Type 0 where
   rebuilds : Effect
   keeps : Effect
 
--- the marks that it leaves
+-- the marks after such a step
 abbrev pub marked_by : Effect → Marks → Marks
 marked_by adds marks = record { only_inserted = marks.only_inserted; just_built = false }
 marked_by removes marks = record { only_inserted = false; just_built = false }
@@ -76,24 +76,24 @@ pub record State (T : Type 0) : Type 0 where
   pub tree : Tree T
   pub marks : Marks
 
--- marks that tell the truth of a shape
+-- the marks are true of the shape
 pub record AreTrue (marks : Marks) (shape : Shape) : Type 0 where
   pub only_inserted : marks.only_inserted ≡ true → IsTight shape
   pub just_built : marks.just_built ≡ true → IsRebuilt shape
 
--- both marks are true where there is no entry
+-- both marks are true if there are no entries
 abbrev pub settled : {T : Type 0} → Tree T → Marks → Marks
 settled t marks = if length t.list.entries == 0 then record { only_inserted = true; just_built = true } else marks
 
--- how few entries a search is shown: c of the n entries of the state
+-- bounds on a search that was shown c of the n entries of the state
 pub record IsWithinBoundsByMarks {T : Type 0} (s : State T) (c : ℕ) : Type 0 where
   pub always : let n = length s.tree.list.entries in 0 < n → 2 ^ (c + 1) ≤ (n + 1) ^ 2
   pub inserted : let n = length s.tree.list.entries in s.marks.only_inserted ≡ true → fib (c + 2) ≤ n + 1
   pub built : let n = length s.tree.list.entries in s.marks.just_built ≡ true → (digits : ℕ) → HasDigits n digits → c ≤ digits
   pub empty : let n = length s.tree.list.entries in n ≡ 0 → c ≡ 0
 
--- how few entries a search is shown that first makes at most num steps from a hint: to the steps, of which there are no more than
--- entries, it adds a whole search, or none
+-- Bounds on a search that first makes at most num steps from a hint. The steps are at most as many as the entries; to them it adds a
+-- whole search, or none.
 pub record IsWithinHintedBoundsByMarks {T : Type 0} (s : State T) (num c : ℕ) : Type 0 where
   pub steps : ℕ
   pub search : ℕ
@@ -102,20 +102,20 @@ pub record IsWithinHintedBoundsByMarks {T : Type 0} (s : State T) (num c : ℕ) 
   pub within : steps ≤ length s.tree.list.entries
   pub bounded : IsWithinBoundsByMarks s search
 
--- the entry at index i is taken out, and the generation raised
+-- the entry at index i was removed, and the generation raised
 abbrev pub IsTakenOut : {T : Type 0} → Option ℕ → Tree T → ℕ → Tree T → Type 0
 IsTakenOut greatest old i new = (new.list ≡ removed greatest old.list i) × IsShrunk old.shape new.shape
 
--- the chain after these entries have been taken out one after another, each by a removal
+-- the chain after these entries were removed one after another
 abbrev pub removed_each : {T : Type 0} → Option ℕ → Chain T → List (Entry T) → Chain T
 removed_each greatest c [] = c
 removed_each greatest c (e ∷ es) = removed_each greatest (removed greatest c e.index) es
 
--- a pointer with an item, as an entry
+-- a pointer and an item as an entry
 abbrev pub entry_of : {P T : Type 0} → (P → ℕ × ℕ) → P × T → Entry T
 entry_of pointer pair = record { index = (pointer pair.0).0; generation = (pointer pair.0).1; item = pair.1 }
 
--- each entry's node has this rank in the shape, one after another
+-- each entry's node has this rank in the shape, in order
 abbrev pub HaveRanks : {T : Type 0} → Shape → List (Entry T) → List ℕ → Type 0
 HaveRanks shape [] [] = Unit {0}
 HaveRanks shape (e ∷ es) (k ∷ ks) = HasRank shape e.index k × HaveRanks shape es ks
@@ -131,12 +131,12 @@ abbrev pub both_numbers : {I : Type 0} → (I → ℕ) → Option I × Option I 
 both_numbers index l = (option_map index l.0, option_map index l.1)
 
 module _ {P T I G A : Type 0} where
-  -- what is said of an insertion
+  -- the reply to an insertion
   abbrev pub insertion_reply : Result (OrdEntryKind P × Option T) OrdInsertionError → Reply P T A I G
   insertion_reply (Ok inserted) = Inserted inserted.0 inserted.1
   insertion_reply (Err refusal) = Refused refusal
 
-  -- an insertion, as the ordered arena says it: how it gets its slot, and what it goes by
+  -- an insertion as the ordered arena defines it: how it gets its slot, and what it goes by
   abbrev pub Inserts : {K : Type 0} → (T → K) → (K → K → Ordering) → ℕ → Growth → Aim K → (P → ℕ × ℕ) → Tree T → T → Reply P T A I G → Tree T → Type 0
   Inserts key cmp most growth aim pointer old item (Inserted kind before) new = InsertsBy key cmp most growth aim pointer old item (Ok (kind, before)) new
   Inserts key cmp most growth aim pointer old item (Refused refusal) new = InsertsBy key cmp most growth aim pointer old item (Err refusal) new
@@ -147,7 +147,7 @@ module _ {P T I G A : Type 0} where
   Finds key cmp pointer s k (Found p c) = FindsKey key cmp s.tree.list.entries k (option_map pointer p) c × IsWithinBoundsByMarks s c
   Finds key cmp pointer s k reply = ⊥
 
-  -- the same from the entry under a pointer, by at most num steps; a pointer that names no entry adds none
+  -- the same from the entry of a pointer, by at most num steps; a stale pointer adds none
   abbrev pub FindsFrom : {K : Type 0} → (T → K) → (K → K → Ordering) → (P → ℕ × ℕ) → State T → P → ℕ → K → Reply P T A I G → Type 0
   FindsFrom key cmp pointer s p num k (Found q c) =
       FindsKey key cmp s.tree.list.entries k (option_map pointer q) c × IsWithinHintedBoundsByMarks s num c
@@ -160,8 +160,8 @@ module _ {P T I G A : Type 0} where
       FindsSimilar key cmp s.tree.list.entries k (option_map (λ a. (pointer a.0, a.1)) found) c × IsWithinBoundsByMarks s c
   FindsNear key cmp pointer s k reply = ⊥
 
-  -- the same from the entry at an index, by at most num steps; an index without an entry adds none, and on a list in the order of
-  -- its keys a near one makes few
+  -- The same from the entry at an index, by at most num steps. An index without an entry adds none. If the keys are in order, a near one
+  -- makes few.
   abbrev pub FindsNearFrom : {K : Type 0} → (T → K) → (K → K → Ordering) → (P → ℕ × ℕ) → State T → ℕ → ℕ → K → Reply P T A I G → Type 0
   FindsNearFrom key cmp pointer s i num k (Similar found c) =
       FindsSimilar key cmp s.tree.list.entries k (option_map (λ a. (pointer a.0, a.1)) found) c × IsWithinHintedBoundsByMarks s num c
@@ -173,28 +173,28 @@ module _ {P T I G A : Type 0} where
   Visits key cmp s k (Count c) = ((found : Option (ℕ × ℕ)) × FindsKey key cmp s.tree.list.entries k found c) × IsWithinBoundsByMarks s c
   Visits key cmp s k reply = ⊥
 
-  -- the item under a pointer; memory may be refused to its clone alone, unless that is never refused
+  -- The item of a pointer. Its clone may be refused memory, unless that never happens.
   abbrev pub Gets : (T → Type 0) → (P → ℕ × ℕ) → Tree T → P → Reply P T A I G → Type 0
   Gets is_infallible pointer t p (Item item) = item ≡ item_of t.list.entries (pointer p)
   Gets is_infallible pointer t p (Refused AllocError) =
       IsSomeAnd (item_of t.list.entries (pointer p)) (λ item. is_infallible item → ⊥)
   Gets is_infallible pointer t p reply = ⊥
 
-  -- the item under a pointer, in the place of which another is put; the shape stays
+  -- the item of a pointer, which another one replaces; the shape stays
   abbrev pub Sets : (P → ℕ × ℕ) → Tree T → P → T → Reply P T A I G → Tree T → Type 0
   Sets pointer old p item (Item before) new =
       (before ≡ item_of old.list.entries (pointer p))
       × MatchOption before (new ≡ old) (λ _. new ≡ with_item old (pointer p).0 item)
   Sets pointer old p item reply new = ⊥
 
-  -- the entry under a pointer gets another item and goes to the place of its key; the pointer stays
+  -- the entry of a pointer gets another item and moves to the place of its key; the pointer stays
   abbrev pub MovesToKey : {K : Type 0} → (T → K) → (K → K → Ordering) → (P → ℕ × ℕ) → Tree T → P → T → Reply P T A I G → Tree T → Type 0
   MovesToKey key cmp pointer old p item (Item before) new =
       (before ≡ item_of old.list.entries (pointer p))
       × MatchOption before (new ≡ old) (λ _. Rekeys key cmp old (pointer p) item new)
   MovesToKey key cmp pointer old p item reply new = ⊥
 
-  -- the entry under a pointer, taken out
+  -- the entry of a pointer is removed
   abbrev pub Removes : Option ℕ → (P → ℕ × ℕ) → Tree T → P → Reply P T A I G → Tree T → Type 0
   Removes greatest pointer old p (Removed result) new =
       IfSome (valid_value result) (λ taken. taken.0 ≡ p)
@@ -202,7 +202,7 @@ module _ {P T I G A : Type 0} where
       (IsTakenOut greatest old (pointer p).0 new) (new ≡ old)
   Removes greatest pointer old p reply new = ⊥
 
-  -- the entry at an index, taken out
+  -- the entry at an index is removed
   abbrev pub RemovesAt : Option ℕ → (P → ℕ × ℕ) → Tree T → ℕ → Reply P T A I G → Tree T → Type 0
   RemovesAt greatest pointer old i (Removed result) new =
       IfSome (valid_value result) (λ taken. (pointer taken.0).0 ≡ i)
@@ -210,21 +210,21 @@ module _ {P T I G A : Type 0} where
       (IsTakenOut greatest old i new) (new ≡ old)
   RemovesAt greatest pointer old i reply new = ⊥
 
-  -- the entry under a pointer, under a new one of the same index and the raised generation; the shape stays
+  -- the entry of a pointer gets a new one with the same index and the raised generation; the shape stays
   abbrev pub Renews : Option ℕ → (P → ℕ × ℕ) → Tree T → P → Reply P T A I G → Tree T → Type 0
   Renews greatest pointer old p (Renewed result) new =
       IsRenewal pointer greatest old.list.generation result (pointer p).0 (is_some (item_of old.list.entries (pointer p)))
       (new ≡ record old { list = renewed greatest old.list (pointer p).0 }) (new ≡ old)
   Renews greatest pointer old p reply new = ⊥
 
-  -- a change of all that raises the generation
+  -- a change of all entries that raises the generation
   abbrev pub Changes : Option ℕ → Tree T → Tree T → Reply P T A I G → Tree T → Type 0
   Changes greatest old after (Changed result) new =
       (new ≡ after) × (is_overflow result ≡ overflows_after greatest old.list.generation)
   Changes greatest old after reply new = ⊥
 
-  -- A rebuild: the entries get other pointers, all of one generation, as `after` lays them out; the tree is built anew. The generation is
-  -- the first where it is reset, else the next one, with an overflow where it begins again.
+  -- A rebuild: the entries get new pointers of one generation, as `after` lays them out, and the tree is rebuilt. The generation is the
+  -- first if it is reset, else the next, with an overflow if it starts again.
   abbrev pub Rebuilds : Option ℕ → Bool → Tree T → (ℕ → Chain T) → Reply P T A I G → Tree T → Type 0
   Rebuilds greatest reset old after (Changed result) new =
       let generation = old.list.generation in
@@ -243,20 +243,20 @@ module _ {P T I G A : Type 0} where
       option_map (both_numbers index) links ≡ option_map prev_next (link_at t.list.entries (index i))
   HasNeighbours index t i reply = ⊥
 
-  -- the whole list, each entry as its pointer and its item; memory may be refused where there is an entry
+  -- the whole list, each entry as its pointer and its item; memory may be refused if there is an entry
   abbrev pub Lists : (P → ℕ × ℕ) → Tree T → Reply P T A I G → Type 0
   Lists pointer t (Entries pairs) = map (entry_of pointer) pairs.items ≡ t.list.entries
   Lists pointer t (Refused AllocError) = 0 < length t.list.entries
   Lists pointer t reply = ⊥
 
-  -- the ranks of all entries in order; memory may be refused where there is an entry
+  -- the ranks of all entries in order; memory may be refused if there is an entry
   abbrev pub Ranked : Tree T → Reply P T A I G → Type 0
   Ranked t (Ranks ranks) = HaveRanks t.shape t.list.entries ranks.items
   Ranked t (Refused AllocError) = 0 < length t.list.entries
   Ranked t reply = ⊥
 
-  -- The first num entries are taken out one after another, each by a removal that raises the generation; then the others are dropped,
-  -- which raises it once more, and all slots count as never used. Memory may be refused where there is an entry to take; then none is.
+  -- The first num entries are removed one after another, each of which raises the generation. Then the others are dropped, which raises
+  -- it once more, and the free list is ascending. Memory may be refused if there is an entry to remove; then nothing changes.
   abbrev pub Drains : Option ℕ → (P → ℕ × ℕ) → Tree T → ℕ → Reply P T A I G → Tree T → Type 0
   Drains greatest pointer old num (Entries pairs) new =
       let first = take num old.list.entries in
@@ -265,8 +265,8 @@ module _ {P T I G A : Type 0} where
   Drains greatest pointer old num (Refused AllocError) new = (0 < length (take num old.list.entries)) × (new ≡ old)
   Drains greatest pointer old num reply new = ⊥
 
-  -- The capacity becomes the greater of n and the greatest index of an entry, and all vacant slots count as never used. It is refused
-  -- where n is beyond the limit; memory may be refused to a greater capacity.
+  -- The capacity becomes the greater of n and the greatest index of an entry, and the free list is ascending. It fails if n is beyond the
+  -- limit. Memory may be refused for a greater capacity.
   abbrev pub Reserves : ℕ → Tree T → ℕ → Reply P T A I G → Tree T → Type 0
   Reserves most old n Done new =
       (n ≤ chain_limit most old.list)
@@ -276,14 +276,14 @@ module _ {P T I G A : Type 0} where
       (n ≤ chain_limit most old.list) × (old.list.capacity < n) × (new ≡ old)
   Reserves most old n reply new = ⊥
 
-  -- the maximum of the capacity becomes n; it is refused where the capacity is greater
+  -- the maximum of the capacity becomes n; it fails if the capacity is greater
   abbrev pub SetsMaximum : Tree T → ℕ → Reply P T A I G → Tree T → Type 0
   SetsMaximum old n Done new =
       (old.list.capacity ≤ n) × (new ≡ record old { list = record old.list { maximum = Some n } })
   SetsMaximum old n ReductionRefused new = (n < old.list.capacity) × (new ≡ old)
   SetsMaximum old n reply new = ⊥
 
-  -- whether no entry's key is greater than that of the entry directly after it
+  -- whether no entry's key is greater than that of the next entry
   abbrev pub Checks : {K : Type 0} → (T → K) → (K → K → Ordering) → Tree T → Reply P T A I G → Type 0
   Checks key cmp t (Sorted sorted) = (sorted ≡ true) ↔ IsInOrder key cmp t.list.entries
   Checks key cmp t reply = ⊥
@@ -294,7 +294,7 @@ module _ {P T I G A : Type 0} where
       (len ≡ length t.list.entries) × (capacity ≡ t.list.capacity) × (generation g ≡ t.list.generation) × (maximum ≡ t.list.maximum)
   Counts generation t reply = ⊥
 
-  -- what a command that only asks may be told
+  -- the possible replies to a command that only reads
   abbrev pub Tells : {K : Type 0} → Reading P T I G K → State T → Command P T I G K → Reply P T A I G → Type 0
   Tells r s (commands.Find k) reply = Finds r.key r.cmp r.pointer s k reply
   Tells r s (commands.FindLinear p num k) reply = FindsFrom r.key r.cmp r.pointer s p num k reply
@@ -310,8 +310,8 @@ module _ {P T I G A : Type 0} where
   Tells r s commands.Stats reply = Counts r.generation s.tree reply
   Tells r s command reply = ⊥
 
-  -- From the state old, the reply to the command may be this one, and the tree goes on to new. Of a search by a closure and of a clone
-  -- nothing is said here.
+  -- From the state `old`, the command may get this reply, and the tree becomes `new`. Searches by a closure and clones aren't covered
+  -- here.
   abbrev pub Replies : {K : Type 0} → Reading P T I G K → State T → Command P T I G K → Reply P T A I G → Tree T → Type 0
   Replies r old (commands.Insert item) reply new =
       Inserts r.key r.cmp r.most reallocating (at_key (r.key item)) r.pointer old.tree item reply new
@@ -326,7 +326,7 @@ module _ {P T I G A : Type 0} where
   Replies r old (commands.Remove p) reply new = Removes r.greatest r.pointer old.tree p reply new
   Replies r old (commands.RemoveInx i) reply new = RemovesAt r.greatest r.pointer old.tree (r.index i) reply new
   Replies r old (commands.Invalidate p) reply new = Renews r.greatest r.pointer old.tree p reply new
-  -- there is no entry left, and all slots count as never used
+  -- no entry is left, and the free list is ascending
   Replies r old commands.Clear reply new =
       Changes r.greatest old.tree (record { list = cleared r.greatest old.tree.list; shape = missing }) reply new
   Replies r old commands.IncGeneration reply new =
@@ -338,7 +338,7 @@ module _ {P T I G A : Type 0} where
   Replies r old (commands.DrainOrdered num) reply new = Drains r.greatest r.pointer old.tree num reply new
   Replies r old command reply new = Tells r old command reply × (new ≡ old.tree)
 
-  -- what a reply tells of the entries: a refusal keeps them
+  -- the effect of a command by its reply; a failure keeps the entries
   abbrev pub told_effect : Reply P T A I G → Effect
   told_effect (Inserted (New p) before) = adds
   told_effect (Removed (Success taken)) = removes
@@ -351,13 +351,13 @@ module _ {P T I G A : Type 0} where
   effect_of (commands.Canonical reset) reply = rebuilds
   effect_of command reply = told_effect reply
 
-  -- the marks after a command and its reply; where no entry is left, both are true
+  -- the marks after a command and its reply; if no entry is left, both are true
   abbrev pub marks_after : {K : Type 0} → Command P T I G K → Reply P T A I G → Tree T → Marks → Marks
   marks_after command reply new marks = settled new (marked_by (effect_of command reply) marks)
 
 -- The same with what the closure and the clones of items may do.
 module _ {P T I G A F : Type 0} where
-  -- a search by the closure, which goes on from f to g
+  -- a search by the closure, which changes from f to g
   abbrev pub AnswersWith : (F → Shown T → F → Type 0) → (P → ℕ × ℕ) → State T → F → Reply P T A I G → F → Type 0
   AnswersWith asks pointer s f (Found p c) g = FindsWith asks s.tree.list.entries f g (option_map pointer p) c × IsWithinBoundsByMarks s c
   AnswersWith asks pointer s f reply g = ⊥
@@ -368,16 +368,16 @@ module _ {P T I G A F : Type 0} where
       FindsSimilarWith asks s.tree.list.entries f g (option_map (λ a. (pointer a.0, a.1)) found) c × IsWithinBoundsByMarks s c
   AnswersSimilarWith asks pointer s f reply g = ⊥
 
-  -- From the state old and the closure f, the reply to the command may be this one, and tree and closure go on to new and g. A
-  -- command that doesn't search by the closure leaves it.
+  -- From the state `old` and the closure f, the command may get this reply, and tree and closure become `new` and g. Only a search by the
+  -- closure changes it.
   abbrev pub Does : {K : Type 0} → Reading P T I G K → Calls T F → State T → F → Command P T I G K → Reply P T A I G → Tree T → F → Type 0
   Does r calls old f commands.FindWith reply new g = AnswersWith calls.asks r.pointer old f reply g × (new ≡ old.tree)
   Does r calls old f commands.SimilarWith reply new g = AnswersSimilarWith calls.asks r.pointer old f reply g × (new ≡ old.tree)
   Does r calls old f (commands.Get p) reply new g = (Gets calls.is_infallible r.pointer old.tree p reply × (new ≡ old.tree)) × (g ≡ f)
   Does r calls old f command reply new g = Replies r old command reply new × (g ≡ f)
 
-  -- From the state old and the closure f, the machine may give this reply to the command, and go on to the state new and to g. The
-  -- state is one that an arena can have: its list is lawful, and its shape is one over this list that keeps the rank rules.
+  -- From the state `old` and the closure f, the machine may give this reply to the command and go on to the state `new` and to g. The
+  -- state is one that an arena can have: its list is sound, and its shape is one over this list that keeps the rank rules.
   pub record Step {K : Type 0} (r : Reading P T I G K) (calls : Calls T F) (old : State T) (f : F)
       (command : Command P T I G K) (reply : Reply P T A I G) (new : State T) (g : F) : Type 0 where
     pub does : Does r calls old f command reply new.tree g
@@ -385,7 +385,7 @@ module _ {P T I G A F : Type 0} where
     pub lawful : IsSound r.most r.greatest new.tree.list
     pub sound : IsSoundTree new.tree
 
-  -- The machine may give these replies to these commands, one after another.
+  -- The machine may give these replies to these commands, in order.
   abbrev pub Runs : {K : Type 0} → Reading P T I G K → Calls T F → State T → F → List (Command P T I G K) → List (Reply P T A I G) → State T → F → Type 0
   Runs r calls old f [] [] new g = (new ≡ old) × (g ≡ f)
   Runs r calls old f (command ∷ commands) (reply ∷ replies) new g =
@@ -393,7 +393,7 @@ module _ {P T I G A F : Type 0} where
   Runs r calls old f [] (reply ∷ replies) new g = ⊥
   Runs r calls old f (command ∷ commands) [] new g = ⊥
 
-  -- Whatever marks tell the truth of the tree old, a run from there ends in the tree new, with marks that tell the truth of it.
+  -- Whatever marks are true of the tree `old`, a run from it ends in the tree `new`, with marks that are true of that.
   abbrev pub RunsBetween : {K : Type 0} → Reading P T I G K → Calls T F → Tree T → F → List (Command P T I G K) → List (Reply P T A I G) → Tree T → F → Type 0
   RunsBetween r calls old f commands replies new g =
       (marks : Marks) → AreTrue marks old.shape

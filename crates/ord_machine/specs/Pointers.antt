@@ -1,4 +1,4 @@
--- What pointers name along a run: that an entry keeps its pointer while others come and go, and that a pointer which ended stays so.
+-- What pointers name along a run: an entry keeps its pointer while others come and go, and a pointer that has ended stays ended.
 use Rattle.std.specs.Prelude.{◌≡◌, ◌≢◌, ℕ, ◌+◌, ◌≤◌, Bool, false, List, ◌∷◌, length, Some, None, IsSome}
 use Rattle.std.specs.{List.AllByRecursion, Option.ForSome}
 use Rattle.arena_base.specs.declared.invalidation.InvalidationResult.TheVariants.{Success, GenerationOverflow}
@@ -8,14 +8,14 @@ use Rattle.ord_machine.specs.declared.reply.Reply.TheVariants.{Inserted, Item, R
 use Rattle.ord_machine.specs.{Machine.Reading, Machine.Calls, Machine.State, Machine.Runs, declared.command.Command.Command, declared.reply.Reply.Reply}
 use Rattle.ord_machine.specs.declared.command.Command.TheVariants as commands
 
--- the command sets the generation back to the first
+-- the command resets the generation to the first
 abbrev pub resets : {P T I G K : Type 0} → Command P T I G K → Bool
 resets (commands.Compress reset) = reset
 resets (commands.Canonical reset) = reset
 resets command = false
 
 module _ {P T I G A : Type 0} where
-  -- how often the generation is raised, by the reply to a call that raises it for each entry, or once
+  -- how often the generation was raised, by the reply to a call that raises it for each entry, or once
   abbrev pub raises_by : Reply P T A I G → ℕ
   raises_by (Removed (Success taken)) = 1
   raises_by (Removed (GenerationOverflow taken)) = 1
@@ -25,8 +25,8 @@ module _ {P T I G A : Type 0} where
   raises_by (Entries pairs) = length pairs.items + 1
   raises_by reply = 0
 
-  -- how often a command raises the generation: one that takes an entry out or renews its pointer, or that changes all pointers,
-  -- once; a drain once for each entry that it took, and once more for the others
+  -- How often a command raises the generation: once for a removal, a renewal or a change of all pointers; for a drain, once for each
+  -- entry that it removed and once more for the others.
   abbrev pub raises : {K : Type 0} → Command P T I G K → Reply P T A I G → ℕ
   raises (commands.Remove p) reply = raises_by reply
   raises (commands.RemoveInx i) reply = raises_by reply
@@ -38,12 +38,12 @@ module _ {P T I G A : Type 0} where
   raises (commands.DrainOrdered num) reply = raises_by reply
   raises command reply = 0
 
-  -- and all of them together
+  -- the sum over all commands
   abbrev pub raises_among : {K : Type 0} → List (Command P T I G K) → List (Reply P T A I G) → ℕ
   raises_among (command ∷ commands) (reply ∷ replies) = raises command reply + raises_among commands replies
   raises_among commands replies = 0
 
--- a part of a run, in which no command sets the generation back, and which raises it so often
+-- a part of a run, in which no command resets the generation, and which raises it this often
 pub record Part {P T I G K F : Type 0} (A : Type 0) (r : Reading P T I G K) (calls : Calls T F) (old : State T) (f : F) (raised : ℕ) (new : State T) (g : F) : Type 0 where
   pub commands : List (Command P T I G K)
   pub replies : List (Reply P T A I G)
@@ -51,9 +51,9 @@ pub record Part {P T I G K F : Type 0} (A : Type 0) (r : Reading P T I G K) (cal
   pub never_back : AllByRecursion (λ command. resets command ≡ false) commands
   pub count : raised ≡ raises_among commands replies
 
--- An arena goes through a run in three parts. No entry's generation is above the arena's at its beginning, the generation is never set
--- back, and all raises together don't go beyond the greatest generation. Then a pointer that names an entry after the first part, and
--- none after the second, names none after the third.
+-- A run has three parts. At its beginning no entry's generation is above the arena's. The generation is never reset, and all raises
+-- together don't go beyond the greatest one. Then a pointer that names an entry after the first part, and none after the second, names
+-- none after the third.
 abbrev pub EndedPointerLaw : (P T I G A K : Type 0) {F : Type 0} → Calls T F → Type 0
 EndedPointerLaw P T I G A K {F} calls =
     (r : Reading P T I G K) (greatest : ℕ) (s0 s1 s2 s3 : State T) (f0 f1 f2 f3 : F) (k l m : ℕ)
@@ -66,13 +66,13 @@ EndedPointerLaw P T I G A K {F} calls =
     → item_of s3.tree.list.entries p ≡ None
 
 module _ {P T I G A K : Type 0} (r : Reading P T I G K) (p : ℕ × ℕ) where
-  -- an insertion that replaces no item, or that of an entry with another pointer
+  -- an insertion that replaces no item, or the item of an entry with another pointer
   abbrev pub ReplacesAnother : Reply P T A I G → Type 0
   ReplacesAnother (Inserted (Replacing q) before) = r.pointer q ≢ p
   ReplacesAnother reply = Unit {0}
 
-  -- a command, with its reply, that is to other entries than that of the pointer: it writes, moves, takes out and renews none or another,
-  -- and it doesn't take all out or give all another pointer
+  -- A command that, with its reply, is to other entries than the pointer's: it writes, moves, removes and renews none or another, and it
+  -- doesn't remove all entries or give all of them new pointers.
   abbrev pub IsOfOthers : Command P T I G K → Reply P T A I G → Type 0
   IsOfOthers (commands.Insert item) reply = ReplacesAnother reply
   IsOfOthers (commands.InsertWithin item) reply = ReplacesAnother reply
@@ -89,7 +89,7 @@ module _ {P T I G A K : Type 0} (r : Reading P T I G K) (p : ℕ × ℕ) where
   IsOfOthers (commands.DrainOrdered num) reply = ⊥
   IsOfOthers command reply = Unit {0}
 
-  -- and all of them
+  -- the same for all commands of a list
   abbrev pub AreOfOthers : List (Command P T I G K) → List (Reply P T A I G) → Type 0
   AreOfOthers (command ∷ commands) (reply ∷ replies) = IsOfOthers command reply × AreOfOthers commands replies
   AreOfOthers commands replies = Unit {0}
@@ -101,7 +101,7 @@ KeptPointerLaw P T I G A K {F} calls =
     → IsSound r.most r.greatest old.tree.list → AreOfOthers r p asked told → Runs r calls old f asked told new g
     → IsSome (item_of old.tree.list.entries p) → item_of new.tree.list.entries p ≡ item_of old.tree.list.entries p
 
--- An entry that is rekeyed keeps its pointer: directly afterwards, and after any commands to other entries, the pointer names the new item.
+-- A rekeyed entry keeps its pointer. Directly afterwards, and after any commands to other entries, the pointer names the new item.
 abbrev pub RekeyedPointerLaw : (P T I G A K : Type 0) {F : Type 0} → Calls T F → Type 0
 RekeyedPointerLaw P T I G A K {F} calls =
     (r : Reading P T I G K) (old new : State T) (f g : F) (p : P) (item before : T)

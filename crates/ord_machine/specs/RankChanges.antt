@@ -7,7 +7,7 @@ use Rattle.ord_machine.specs.Machine.{Calls, Reading, State, Step, Runs, Effect,
 use Rattle.ord_machine.specs.{declared.command.Command.Command, declared.reply.Reply.Reply}
 use Rattle.ord_machine.specs.declared.command.Command.TheVariants as commands
 
--- how many rank changes a step adds to the bound: 4 for a new entry, 9 for a removal, 14 for an entry that goes to another place
+-- how many rank changes a step adds to the bound: 4 for a new entry, 9 for a removal, 14 for a move
 abbrev pub allowance : Effect → ℕ
 allowance adds = 4
 allowance removes = 9
@@ -22,14 +22,14 @@ KeepsTree (commands.Canonical reset) = ⊥
 KeepsTree command = Unit {0}
 
 module _ {P T I G A : Type 0} where
-  -- the sum over all steps: 4m + 9d + 14k for m new entries, d removals and k entries that go to another place
+  -- the sum over all steps: 4m + 9d + 14k for m new entries, d removals and k moves
   abbrev pub allowance_of : {K : Type 0} → List (Command P T I G K) → List (Reply P T A I G) → ℕ
   allowance_of (command ∷ commands) (reply ∷ replies) = allowance (effect_of command reply) + allowance_of commands replies
   allowance_of commands replies = 0
 
 module _ {P T I G A F : Type 0} where
-  -- A run of these commands with these replies, in whose steps together the ranks of at most `count` entries change. An entry counts
-  -- once for each step that changes its rank.
+  -- A run of these commands with these replies, whose steps change the ranks of at most `count` entries in all. An entry counts once for
+  -- each step that changes its rank.
   abbrev pub CountsRankChanges : {K : Type 0} → Reading P T I G K → Calls T F → State T → F → List (Command P T I G K) → List (Reply P T A I G) → State T → F → ℕ → Type 0
   CountsRankChanges r calls old f [] [] new g count = (new ≡ old) × (g ≡ f) × (count ≡ 0)
   CountsRankChanges r calls old f (command ∷ commands) (reply ∷ replies) new g count =
@@ -39,8 +39,8 @@ module _ {P T I G A F : Type 0} where
   CountsRankChanges r calls old f [] (reply ∷ replies) new g count = ⊥
   CountsRankChanges r calls old f (command ∷ commands) [] new g count = ⊥
 
--- Every run from a sound tree without a rebuild can be counted: at most 4 rank changes for each new entry, 9 for each removal, 14 for
--- each entry that goes to another place, and 3 for each entry that was there at first.
+-- In every run from a sound tree without a rebuild, ranks change at most 4 times for each new entry, 9 for each removal, 14 for each
+-- move, and 3 for each entry at the beginning.
 abbrev pub RankChangesLaw : (P T I G A K : Type 0) {F : Type 0} → Calls T F → Type 0
 RankChangesLaw P T I G A K {F} calls =
     (r : Reading P T I G K) (old new : State T) (f g : F) (asked : List (Command P T I G K)) (told : List (Reply P T A I G))

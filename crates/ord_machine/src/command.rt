@@ -1,4 +1,4 @@
-//! What an arena can be asked.
+//! The commands to an ordered arena.
 use arena_base::BasePtr;
 use triple_ord::{OrdInsertKind, SimpleOrdItem};
 
@@ -13,59 +13,59 @@ pub enum Command<P: BasePtr, T: SimpleOrdItem> {
     Entry(OrdInsertKind<P, T::Key>, T),
     /// The same, within the capacity.
     EntryWithin(OrdInsertKind<P, T::Key>, T),
-    /// Gives the entry that the pointer names another item, whatever its key.
+    /// Replaces the item of the pointer's entry, whatever the new key.
     Set(P, T),
-    /// Gives the entry that the pointer names another item, and moves it to the place of the item's key. The entry keeps its pointer.
+    /// Replaces the item of the pointer's entry, and moves the entry to the place of the new key. The entry keeps its pointer.
     Rekey(P, T),
-    /// Takes the entry that the pointer names out.
+    /// Removes the entry of the pointer.
     Remove(P),
-    /// Takes the entry at the index out.
+    /// Removes the entry at the index.
     RemoveInx(P::Inx),
-    /// Gives the entry that the pointer names a new pointer.
+    /// Gives the entry of the pointer a new one.
     Invalidate(P),
     /// Drops all entries.
     Clear,
-    /// Raises the generation that the next entry gets.
+    /// Raises the generation of the next entry.
     IncGeneration,
-    /// Moves the entries to the indexes from 1 on in the order of their indexes, all with one generation: the first where the flag is set,
-    /// else the next one. The tree is built anew.
+    /// Moves the entries to the indexes from 1 on, in index order, with one generation: the first if the flag is set, else the next. The
+    /// tree is rebuilt.
     Compress(bool),
-    /// Gives the entries the indexes from 1 on in their order, with one generation as `Compress` does. The tree is built anew.
+    /// Gives the entries the indexes from 1 on, in list order, with one generation as in `Compress`. The tree is rebuilt.
     Canonical(bool),
-    /// Searches the first of the entries with an equal key.
+    /// Searches for the first entry with an equal key.
     Find(T::Key),
-    /// Searches it after at most so many steps along the list from the entry that the pointer names.
+    /// Does the same, after at most this many steps along the list from the entry of the pointer.
     FindLinear(P, usize, T::Key),
-    /// Searches the first of the entries with an equal key, or one beside a gap that fits the key.
+    /// Searches for the first entry with an equal key, or for one beside a gap that fits the key.
     Similar(T::Key),
-    /// Searches so after at most so many steps along the list from the entry at the index.
+    /// Does the same, after at most this many steps along the list from the entry at the index.
     SimilarLinear(P::Inx, usize, T::Key),
-    /// Searches the entry at which the closure answers Equal.
+    /// Searches for the entry at which the closure answers `Equal`.
     FindWith,
-    /// Searches by the closure, and asks for the entry that it was shown last.
+    /// Searches by the closure, and returns the entry that it was shown last.
     SimilarWith,
-    /// Searches the first of the entries with an equal key, and asks how many entries the search was shown.
+    /// Searches for the first entry with an equal key, and returns how many entries the search was shown.
     Visits(T::Key),
-    /// Asks for the item that the pointer names.
+    /// Returns the item of the pointer.
     Get(P),
-    /// Asks for the pointer of the first entry.
+    /// Returns the pointer of the first entry.
     First,
-    /// Asks for the pointer of the last entry.
+    /// Returns the pointer of the last entry.
     Last,
-    /// Asks for the neighbours of the entry at the index.
+    /// Returns the neighbours of the entry at the index.
     Neighbours(P::Inx),
-    /// Asks for all entries in order.
+    /// Returns all entries in order.
     List,
-    /// Asks for the ranks of all entries in the tree, in order.
+    /// Returns the ranks of all entries in the tree, in order.
     Ranks,
-    /// Asks whether no entry's key is greater than that of the entry after it.
+    /// Returns whether no entry's key is greater than that of the next entry.
     Check,
-    /// Makes the capacity at least this, and at least the greatest index with an entry.
+    /// Sets the capacity to the greater of this number and the greatest occupied index.
     Reserve(usize),
     /// Sets the maximum of the capacity.
     SetMax(usize),
-    /// Takes the first so many entries out, or all where there are no more, and then drops the others.
+    /// Removes this many entries from the front, or all if there are fewer, and then drops the others.
     DrainOrdered(usize),
-    /// Asks for the numbers that go with the entries.
+    /// Returns the numbers of the arena.
     Stats,
 }

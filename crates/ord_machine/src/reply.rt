@@ -1,4 +1,4 @@
-//! What an arena answers.
+//! The replies of an ordered arena.
 use arena_base::{BasePtr, InvalidationOption, InvalidationResult};
 use std::alloc::Allocator;
 use std::cmp::Ordering;
@@ -7,42 +7,42 @@ use triple_ord::{OrdEntryKind, OrdInsertionError};
 /// A reply to a command.
 #[derive(Drop)]
 pub enum Reply<P: BasePtr, T, A: Allocator> {
-    /// The item is in a new entry, or replaces the item that an entry had, which stands beside.
+    /// The item is in a new entry, or has replaced an entry's item, which is returned too.
     Inserted(OrdEntryKind<P>, Option<T>),
-    /// The command was refused, and changed nothing. `Reserve` is refused as a growth is, beyond the limit or for want of memory; a
-    /// command that is no insertion else for want of memory alone.
+    /// The command failed and changed nothing. `Reserve` fails as growing does: beyond the limit, or for lack of memory. Other commands
+    /// that insert nothing fail only for lack of memory.
     Refused(OrdInsertionError),
-    /// The pointer of an entry with an equal key whose previous entry, if any, has a lesser one, `None` where the search stopped at a gap
-    /// that fits the key; and how many entries the search was shown.
+    /// The pointer of an entry with an equal key whose predecessor, if any, has a smaller one; `None` if the search stopped at a gap that
+    /// fits the key. And how many entries the search was shown.
     Found(Option<P>, u128),
-    /// The pointer of such an entry, or else of the one that a search was shown last, with the order of the key to its key, or with the
-    /// closure's answer; `None` where there is no entry. And how many entries the search was shown.
+    /// The pointer of such an entry, or else of the entry shown last, with the order of the key to its key, or with the closure's answer;
+    /// `None` if there are no entries. And how many entries the search was shown.
     Similar(Option<(P, Ordering)>, u128),
     /// How many entries the search was shown.
     Count(u128),
-    /// A clone of the item, or the item that was replaced; `None` where the pointer names no entry.
+    /// A clone of the item, or the replaced item; `None` if the pointer is stale.
     Item(Option<T>),
-    /// The pointer and the item of the entry that was taken out.
+    /// The pointer and the item of the removed entry.
     Removed(InvalidationResult<(P, T)>),
     /// The entry's new pointer.
     Renewed(InvalidationResult<P>),
-    /// The generation was raised, or begins again.
+    /// The generation changed, with or without an overflow.
     Changed(InvalidationOption<()>),
-    /// The pointer of the entry, `None` where there is none.
+    /// The pointer of the entry; `None` if there is none.
     At(Option<P>),
-    /// The indexes of the entries before and after the one at the index, each `None` at an end of the list; `None` where the index
-    /// has no entry.
+    /// The indexes of the entries before and after the one at the index, each `None` at an end of the list; `None` if the index has no
+    /// entry.
     Links(Option<(Option<P::Inx>, Option<P::Inx>)>),
-    /// The pointer of each entry and a clone of its item, in order; or those of the entries that were taken out, with the items themselves.
+    /// The pointer of each entry and a clone of its item, in order; or those of the removed entries, with the items themselves.
     Entries(Vec<(P, T), A>),
     /// The rank of each entry in the tree, in order.
     Ranks(Vec<u8, A>),
-    /// The capacity is as it was asked for, or the maximum is set.
+    /// The capacity or the maximum is set.
     Done,
-    /// The maximum isn't set, since the capacity is already greater.
+    /// The maximum isn't set, because the capacity is already greater.
     ReductionRefused,
-    /// Whether the entries are in the order of their keys.
+    /// Whether the entries are in key order.
     Sorted(bool),
-    /// Length, capacity, the generation that the next entry gets, and the maximum of the capacity, if one is set.
+    /// The length, the capacity, the generation of the next entry, and the maximum of the capacity, if one is set.
     Stats(usize, usize, P::Gen, Option<usize>),
 }

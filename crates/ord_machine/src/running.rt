@@ -1,4 +1,4 @@
-//! Runs commands on an ordered arena.
+//! Running commands on an ordered arena.
 ghost use Rattle.std.specs.Prelude.{◌≡◌, ◌<◌, IfOk, OnErr, length};
 ghost use Rattle.chain_base.specs.Chain.{IsSound};
 ghost use Rattle.ord_tree.specs.Tree.{IsSoundTree};
@@ -15,13 +15,13 @@ use triple_ord::{SimpleOrdArena, SimpleOrdItem};
 
 /// Runs the commands in order and returns one reply for each.
 ///
-/// A command that is refused, also for want of memory, says so in its reply and changes nothing; the others go on. `FindWith` and
-/// `SimilarWith` call the closure, whose state is passed on; it may answer anything, and has to be callable at every pointer and item,
-/// again and again. A clone of an item has to equal it. What the replies hold is allocated on `alloc` too.
+/// A command that fails, even for lack of memory, says so in its reply and changes nothing; the others still run. `FindWith` and
+/// `SimilarWith` call the closure, whose state is passed on. It may answer anything, and must be callable for every pointer and item,
+/// repeatedly. A clone of an item must equal it. What the replies hold is allocated on `alloc` too.
 ///
 /// # Errors
 ///
-/// `AllocError`: memory for the list of replies is refused. Nothing has changed. It is never refused for no commands.
+/// `AllocError`: memory for the list of replies is refused, and nothing changes. An empty list of commands never fails.
 pub fn run<
     P: BasePtr,
     T: SimpleOrdItem + Clone + Drop,
@@ -80,12 +80,12 @@ where
     ensures sound { IsSoundTree arena.new }
 {
     let reply = reply_to(alloc, arena, command, closure);
-    // with its length an arena tells what holds of its list and its shape
+    // For the prover: the list and the shape are sound.
     let _ = arena.len();
     reply
 }
 
-// What a command does, and what it answers.
+// What a command does, and its reply.
 fn reply_to<
     P: BasePtr,
     T: SimpleOrdItem + Clone + Drop,

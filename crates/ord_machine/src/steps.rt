@@ -1,4 +1,4 @@
-//! What each command does, and what it answers.
+//! What each command does, and its reply.
 ghost use Rattle.std.specs.Prelude.{◌≡◌, ◌<◌, IfOk, OnOk, OnErr, IfSome, is_some, length, map, take};
 ghost use Rattle.chain_base.specs.Chain.{link_at, first_pointer, last_pointer, cleared, raised};
 ghost use Rattle.chain_base.specs.Compression.{canonical, relocated};
@@ -16,7 +16,7 @@ use std::cmp::Ordering;
 use std::mem;
 use triple_ord::{OrdEntryKind, OrdInsertKind, OrdInsertionError, SimpleOrdArena, SimpleOrdItem};
 
-/// `Command::Insert`
+/// Runs `Command::Insert`.
 pub fn insert<P: BasePtr, T: SimpleOrdItem + Drop, A: Allocator>(
     arena: &mut SimpleOrdArena<P, T, A>,
     item: T,
@@ -27,7 +27,7 @@ pub fn insert<P: BasePtr, T: SimpleOrdItem + Drop, A: Allocator>(
     reply_to_insertion(arena.insert(item))
 }
 
-/// `Command::InsertWithin`
+/// Runs `Command::InsertWithin`.
 pub fn insert_within<P: BasePtr, T: SimpleOrdItem + Drop, A: Allocator>(
     arena: &mut SimpleOrdArena<P, T, A>,
     item: T,
@@ -38,7 +38,7 @@ pub fn insert_within<P: BasePtr, T: SimpleOrdItem + Drop, A: Allocator>(
     reply_to_insertion(arena.insert_within_capacity(item))
 }
 
-/// The reply to an insertion by the item's key.
+/// Returns the reply to an insertion by the item's key.
 fn reply_to_insertion<P: BasePtr, T, A: Allocator>(
     inserted: Result<(P, Option<T>), OrdInsertionError>,
 ) -> Reply<P, T, A>
@@ -56,7 +56,7 @@ fn reply_to_insertion<P: BasePtr, T, A: Allocator>(
     }
 }
 
-/// `Command::Entry`
+/// Runs `Command::Entry`.
 pub fn entry<P: BasePtr, T: SimpleOrdItem + Drop, A: Allocator>(
     arena: &mut SimpleOrdArena<P, T, A>,
     kind: &OrdInsertKind<P, T::Key>,
@@ -66,7 +66,7 @@ pub fn entry<P: BasePtr, T: SimpleOrdItem + Drop, A: Allocator>(
         P.numbers
         arena.old item result arena.new }
 {
-    // with its length an arena tells that its pointers are different
+    // For the prover: the arena's pointers are distinct.
     let _ = arena.len();
     match arena.entry_insert(kind.as_ref()) {
         Ok(entry) => {
@@ -78,7 +78,7 @@ pub fn entry<P: BasePtr, T: SimpleOrdItem + Drop, A: Allocator>(
     }
 }
 
-/// `Command::EntryWithin`
+/// Runs `Command::EntryWithin`.
 pub fn entry_within<P: BasePtr, T: SimpleOrdItem + Drop, A: Allocator>(
     arena: &mut SimpleOrdArena<P, T, A>,
     kind: &OrdInsertKind<P, T::Key>,
@@ -87,7 +87,7 @@ pub fn entry_within<P: BasePtr, T: SimpleOrdItem + Drop, A: Allocator>(
     ensures { Inserts T.key_of T.Key.cmp P.Inx.most within (aim_of P.Inx.number kind.now) P.numbers
         arena.old item result arena.new }
 {
-    // with its length an arena tells that its pointers are different
+    // For the prover: the arena's pointers are distinct.
     let _ = arena.len();
     match arena.entry_insert_within_capacity(kind.as_ref()) {
         Ok(entry) => {
@@ -99,7 +99,7 @@ pub fn entry_within<P: BasePtr, T: SimpleOrdItem + Drop, A: Allocator>(
     }
 }
 
-/// `Command::Set`
+/// Runs `Command::Set`.
 pub fn set<P: BasePtr, T: Drop, A: Allocator>(
     arena: &mut SimpleOrdArena<P, T, A>,
     p: P,
@@ -115,7 +115,7 @@ pub fn set<P: BasePtr, T: Drop, A: Allocator>(
     Reply::Item(Some(mem::replace(held, item)))
 }
 
-/// `Command::Rekey`
+/// Runs `Command::Rekey`.
 pub fn rekey<P: BasePtr, T: SimpleOrdItem + Drop, A: Allocator>(
     arena: &mut SimpleOrdArena<P, T, A>,
     p: P,
@@ -126,7 +126,7 @@ pub fn rekey<P: BasePtr, T: SimpleOrdItem + Drop, A: Allocator>(
     Reply::Item(arena.rekey(p, item).ok())
 }
 
-/// `Command::Remove`
+/// Runs `Command::Remove`.
 pub fn remove<P: BasePtr, T: Drop, A: Allocator>(
     arena: &mut SimpleOrdArena<P, T, A>,
     p: P,
@@ -136,7 +136,7 @@ pub fn remove<P: BasePtr, T: Drop, A: Allocator>(
     Reply::Removed(arena.remove(p).map(|item| (p, item)))
 }
 
-/// `Command::RemoveInx`
+/// Runs `Command::RemoveInx`.
 pub fn remove_inx<P: BasePtr, T: Drop, A: Allocator>(
     arena: &mut SimpleOrdArena<P, T, A>,
     i: P::Inx,
@@ -151,7 +151,7 @@ pub fn remove_inx<P: BasePtr, T: Drop, A: Allocator>(
     )
 }
 
-/// `Command::Invalidate`
+/// Runs `Command::Invalidate`.
 pub fn invalidate<P: BasePtr, T, A: Allocator>(
     arena: &mut SimpleOrdArena<P, T, A>,
     p: P,
@@ -161,7 +161,7 @@ pub fn invalidate<P: BasePtr, T, A: Allocator>(
     Reply::Renewed(arena.invalidate(p))
 }
 
-/// `Command::Clear`
+/// Runs `Command::Clear`.
 pub fn clear<P: BasePtr, T: Drop, A: Allocator>(
     arena: &mut SimpleOrdArena<P, T, A>,
 ) -> Reply<P, T, A>
@@ -172,7 +172,7 @@ pub fn clear<P: BasePtr, T: Drop, A: Allocator>(
     Reply::Changed(arena.clear())
 }
 
-/// `Command::IncGeneration`
+/// Runs `Command::IncGeneration`.
 pub fn inc_generation<P: BasePtr, T, A: Allocator>(
     arena: &mut SimpleOrdArena<P, T, A>,
 ) -> Reply<P, T, A>
@@ -182,7 +182,7 @@ pub fn inc_generation<P: BasePtr, T, A: Allocator>(
     Reply::Changed(arena.inc_generation())
 }
 
-/// `Command::Compress`
+/// Runs `Command::Compress`.
 pub fn compress<P: BasePtr, T, A: Allocator>(
     arena: &mut SimpleOrdArena<P, T, A>,
     reset: bool,
@@ -192,7 +192,7 @@ pub fn compress<P: BasePtr, T, A: Allocator>(
     Reply::Changed(arena.compress(reset))
 }
 
-/// `Command::Canonical`
+/// Runs `Command::Canonical`.
 pub fn canonical<P: BasePtr, T, A: Allocator>(
     arena: &mut SimpleOrdArena<P, T, A>,
     reset: bool,
@@ -202,7 +202,7 @@ pub fn canonical<P: BasePtr, T, A: Allocator>(
     Reply::Changed(arena.compress_canonical(reset))
 }
 
-/// `Command::Find`
+/// Runs `Command::Find`.
 pub fn find<P: BasePtr, T: SimpleOrdItem, A: Allocator>(
     arena: &SimpleOrdArena<P, T, A>,
     key: &T::Key,
@@ -215,7 +215,7 @@ pub fn find<P: BasePtr, T: SimpleOrdItem, A: Allocator>(
     Reply::Found(found, visits.count())
 }
 
-/// `Command::FindLinear`
+/// Runs `Command::FindLinear`.
 pub fn find_linear<P: BasePtr, T: SimpleOrdItem, A: Allocator>(
     arena: &SimpleOrdArena<P, T, A>,
     p: P,
@@ -230,7 +230,7 @@ pub fn find_linear<P: BasePtr, T: SimpleOrdItem, A: Allocator>(
     Reply::Found(found, visits.count())
 }
 
-/// `Command::Similar`
+/// Runs `Command::Similar`.
 pub fn similar<P: BasePtr, T: SimpleOrdItem, A: Allocator>(
     arena: &SimpleOrdArena<P, T, A>,
     key: &T::Key,
@@ -243,7 +243,7 @@ pub fn similar<P: BasePtr, T: SimpleOrdItem, A: Allocator>(
     Reply::Similar(found, visits.count())
 }
 
-/// `Command::SimilarLinear`
+/// Runs `Command::SimilarLinear`.
 pub fn similar_linear<P: BasePtr, T: SimpleOrdItem, A: Allocator>(
     arena: &SimpleOrdArena<P, T, A>,
     i: P::Inx,
@@ -258,7 +258,7 @@ pub fn similar_linear<P: BasePtr, T: SimpleOrdItem, A: Allocator>(
     Reply::Similar(found, visits.count())
 }
 
-/// `Command::FindWith`
+/// Runs `Command::FindWith`.
 pub fn find_with<P: BasePtr, T, F: FnMut(P, &T) -> Ordering, A: Allocator>(
     arena: &SimpleOrdArena<P, T, A>,
     closure: &mut F,
@@ -273,7 +273,7 @@ pub fn find_with<P: BasePtr, T, F: FnMut(P, &T) -> Ordering, A: Allocator>(
     Reply::Found(found, visits.count())
 }
 
-/// `Command::SimilarWith`
+/// Runs `Command::SimilarWith`.
 pub fn similar_with<P: BasePtr, T, F: FnMut(P, &T) -> Ordering, A: Allocator>(
     arena: &SimpleOrdArena<P, T, A>,
     closure: &mut F,
@@ -288,7 +288,7 @@ pub fn similar_with<P: BasePtr, T, F: FnMut(P, &T) -> Ordering, A: Allocator>(
     Reply::Similar(found, visits.count())
 }
 
-/// `Command::Visits`
+/// Runs `Command::Visits`.
 pub fn visits<P: BasePtr, T: SimpleOrdItem, A: Allocator>(
     arena: &SimpleOrdArena<P, T, A>,
     key: &T::Key,
@@ -300,7 +300,7 @@ pub fn visits<P: BasePtr, T: SimpleOrdItem, A: Allocator>(
     Reply::Count(visits.count())
 }
 
-/// `Command::Get`
+/// Runs `Command::Get`.
 pub fn get<P: BasePtr, T: Clone, A: Allocator>(
     arena: &SimpleOrdArena<P, T, A>,
     p: P,
@@ -317,21 +317,21 @@ pub fn get<P: BasePtr, T: Clone, A: Allocator>(
     }
 }
 
-/// `Command::First`
+/// Runs `Command::First`.
 pub fn first<P: BasePtr, T, A: Allocator>(arena: &SimpleOrdArena<P, T, A>) -> Reply<P, T, A>
     ensures { IsEnd P.numbers (first_pointer arena.now.list.entries) result }
 {
     Reply::At(arena.first())
 }
 
-/// `Command::Last`
+/// Runs `Command::Last`.
 pub fn last<P: BasePtr, T, A: Allocator>(arena: &SimpleOrdArena<P, T, A>) -> Reply<P, T, A>
     ensures { IsEnd P.numbers (last_pointer arena.now.list.entries) result }
 {
     Reply::At(arena.last())
 }
 
-/// `Command::Neighbours`
+/// Runs `Command::Neighbours`.
 pub fn neighbours<P: BasePtr, T, A: Allocator>(
     arena: &SimpleOrdArena<P, T, A>,
     i: P::Inx,
@@ -347,7 +347,7 @@ pub fn neighbours<P: BasePtr, T, A: Allocator>(
     }
 }
 
-/// `Command::List`
+/// Runs `Command::List`.
 pub fn list<P: BasePtr, T: Clone, A: Allocator>(
     alloc: A,
     arena: &SimpleOrdArena<P, T, A>,
@@ -361,7 +361,7 @@ pub fn list<P: BasePtr, T: Clone, A: Allocator>(
     }
 }
 
-/// `Command::Ranks`
+/// Runs `Command::Ranks`.
 pub fn ranks<P: BasePtr, T, A: Allocator>(
     alloc: A,
     arena: &SimpleOrdArena<P, T, A>,
@@ -374,7 +374,7 @@ pub fn ranks<P: BasePtr, T, A: Allocator>(
     }
 }
 
-/// `Command::Check`
+/// Runs `Command::Check`.
 pub fn check<P: BasePtr, T: SimpleOrdItem, A: Allocator>(
     arena: &SimpleOrdArena<P, T, A>,
 ) -> Reply<P, T, A>
@@ -383,7 +383,7 @@ pub fn check<P: BasePtr, T: SimpleOrdItem, A: Allocator>(
     Reply::Sorted(SimpleOrdArena::_check_invariants(arena).is_ok())
 }
 
-/// `Command::Reserve`
+/// Runs `Command::Reserve`.
 pub fn reserve<P: BasePtr, T, A: Allocator>(
     arena: &mut SimpleOrdArena<P, T, A>,
     n: usize,
@@ -399,7 +399,7 @@ pub fn reserve<P: BasePtr, T, A: Allocator>(
     }
 }
 
-/// `Command::SetMax`
+/// Runs `Command::SetMax`.
 pub fn set_max<P: BasePtr, T, A: Allocator>(
     arena: &mut SimpleOrdArena<P, T, A>,
     n: usize,
@@ -412,7 +412,7 @@ pub fn set_max<P: BasePtr, T, A: Allocator>(
     }
 }
 
-/// `Command::DrainOrdered`
+/// Runs `Command::DrainOrdered`.
 pub fn drain_ordered<P: BasePtr, T: Drop, A: Allocator>(
     alloc: A,
     arena: &mut SimpleOrdArena<P, T, A>,
@@ -426,7 +426,7 @@ pub fn drain_ordered<P: BasePtr, T: Drop, A: Allocator>(
     }
 }
 
-/// `Command::Stats`
+/// Runs `Command::Stats`.
 pub fn stats<P: BasePtr, T, A: Allocator>(arena: &SimpleOrdArena<P, T, A>) -> Reply<P, T, A>
     ensures { Counts P.Gen.number arena.now result }
 {
@@ -455,7 +455,7 @@ fn entries<P: BasePtr, T: Clone, A: Allocator>(
     Ok(pairs)
 }
 
-// The first entries in order, taken out; then the others are dropped. The room for them is asked for before.
+// Removes the first entries, in order, and then drops the others. Their memory is requested first.
 fn drained<P: BasePtr, T: Drop, A: Allocator>(
     alloc: A,
     arena: &mut SimpleOrdArena<P, T, A>,
@@ -499,7 +499,7 @@ fn ranks_of<P: BasePtr, T, A: Allocator>(
     Ok(ranks)
 }
 
-// The rank of the node at the index.
+// The rank of the node at an index.
 fn rank_at<P: BasePtr, T, A: Allocator>(arena: &SimpleOrdArena<P, T, A>, i: P::Inx) -> Option<u8>
     ensures there { is_some result ≡ is_some (link_at arena.now.list.entries (P.Inx.number i)) }
     ensures rank { IfSome result (λ rank. HasRank arena.now.shape (P.Inx.number i) rank) }

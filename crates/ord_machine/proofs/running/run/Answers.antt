@@ -34,7 +34,7 @@ returns-clause-run g c =
     cut_all _ _ _ c.loop-command.invariant.cut (sym c.loop-command.invariant.count ∙ c.in-None.ensures.steps.0) in
     rw all at c.loop-command.invariant.runs
 
--- what is refused room was asked for some
+-- memory can be refused only if some was requested
 asked_some : {V E : Type 0} (result : Result V E) (n : ℕ) → (n ≡ 0 → false ≡ true) → OnErr result (0 < n)
 asked_some (Ok v) n room = tt
 asked_some (Err e) zero room = let never : false ≡ true = room refl in cc

@@ -4,7 +4,7 @@ use Rattle.triple_ord.specs.ClosureSearch.{Asks}
 use Rattle.ord_machine.specs.Machine.{calls_by, reading_by, RunsBetween}
 use Rattle.ord_machine.proofs.running.run.Given as goal
 
--- a run over the commands so far, and room for the replies to the others
+-- a run of the commands so far, and room for the replies to the others
 abbrev pub invariant-loop-command : goal.invariant-loop-command
 invariant-loop-command g l = let reading = reading_by g.T.SimpleOrdItem.key_of g.T.Key.Ord.cmp g.P.Inx.BasePtrInx.most g.P.Gen.BasePtrGen.greatest
     g.P.BasePtr.numbers g.P.Inx.BasePtrInx.number g.P.Gen.BasePtrGen.number in record {

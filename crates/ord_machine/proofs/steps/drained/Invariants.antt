@@ -3,7 +3,7 @@ use Rattle.triple_ord.specs.OrderedDrain.{ordered_drain_arena, ordered_drain_len
 use Rattle.ord_machine.specs.Machine.{entry_of, removed_each}
 use Rattle.ord_machine.proofs.steps.drained.Given as goal
 
--- the entries so far have been taken out, and there is room for the others
+-- the entries so far have been removed, and there is room for the others
 abbrev pub invariant-loop : goal.invariant-loop
 invariant-loop g l =
     let before = map (entry_of g.P.BasePtr.numbers) l.pairs.items in
