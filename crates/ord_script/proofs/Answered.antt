@@ -1,4 +1,4 @@
--- The replies of a script's run, from where it begins.
+-- The replies of a script's run from the beginning.
 use Rattle.std.proofs.Common.{◌≡◌, ℕ, List, Result, Ok, Err, IfOk, Bor, subst}
 use Rattle.std.specs.{declared.cmp.Ordering.TheVariants.Equal, declared.cmp.Ordering.Ordering}
 use Rattle.ord_tree.specs.Tree.{Tree}
@@ -7,12 +7,12 @@ use Rattle.ord_machine.specs.Machine.{calls_by, State, Runs, RunsBetween}
 use Rattle.ord_script.specs.Pairs.{Pair, Pointer, PairCommand, PairReply, reading, beginning, script_calls}
 use Rattle.ord_machine.proofs.CallerLemmas.{AreTrue-missing, Runs-like}
 
--- A run of a script, from where it begins, with a closure that answers Equal always.
+-- A run of a script from the beginning, with a closure that always answers `Equal`.
 module _ {A F : Type 0} (pointer_of : Pointer → ℕ × ℕ) (step : F → Pointer → Bor Pair → Ordering → F → Type 0)
     (equal : (f : F) (p : Pointer) (pair : Bor Pair) (o : Ordering) (g : F) → step f p pair o g → o ≡ Equal) (commands : List PairCommand)
     (old : Tree Pair) (f : F) (new : Tree Pair) (g : F) (empty : old ≡ beginning.tree)
     (is_infallible : Pair → Type 0) (always : (pair : Pair) → is_infallible pair) where
-  -- these are replies of a run over the commands
+  -- these are the replies of a run of the commands
   abbrev IsRun : List (PairReply A) → Type 0
   IsRun replies = (end : State Pair) × Runs reading script_calls beginning tt commands replies end tt
 
@@ -30,7 +30,7 @@ module _ {A F : Type 0} (pointer_of : Pointer → ℕ × ℕ) (step : F → Poin
             (record { tree = new; marks = run.0 }) g run.2,
       )
 
-  -- the same of what a call answers
+  -- the same for the result of a call
   pub answered : {V E : Type 0} (result : Result V E) (replies : V → List (PairReply A))
       → IfOk result (λ v. RunsThere (replies v)) → IfOk result (λ v. IsRun (replies v))
   answered (Ok v) replies between = from_beginning (replies v) between

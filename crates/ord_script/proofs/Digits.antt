@@ -2,7 +2,7 @@
 use Rattle.std.proofs.Common.{◌≡◌, ℕ, ◌+◌, ◌<◌, Bool, true, false, ◌&&◌, List, [], ◌∷◌, length, take, get_or, suc, zero, refl, arith}
 use Rattle.std.specs.{Str.all_ascii_digits, Char.is_ascii_digit}
 
--- a byte that is no digit
+-- a byte that isn't a digit
 pub all_ascii_digits_bad : (word : List ℕ) (i : ℕ) → i < length word → is_ascii_digit (get_or word i 0) ≡ false → all_ascii_digits word ≡ false
 all_ascii_digits_bad [] i within bad = absurd (omega (arith, within))
 all_ascii_digits_bad (c ∷ word) zero within bad = rw bad refl

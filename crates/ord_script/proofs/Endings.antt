@@ -1,9 +1,9 @@
--- How a script ends, from what was read, answered and written.
+-- How a script ends, given what was read, answered and written.
 use Rattle.std.proofs.Common.{◌≡◌, ℕ, ◌<◌, ◌≤◌, List, ◌++◌, length, sym, subst}
 use Rattle.ord_script.specs.{declared.script_end.ScriptEnd.TheVariants.WriteFailed, Service.Answers, Service.Ends, Script.script_of}
 use Rattle.ord_script.specs.Devices.{limit}
 
--- an answer of which a part was written
+-- an answer that was written in part
 module _ {A : Type 0} (read bytes text written rest : List ℕ) (same : read ≡ bytes) (short : length read ≤ limit) (answer : Answers A (script_of bytes) text) where
   pub Ends-part : text ≡ written ++ rest → 0 < length rest → Ends A WriteFailed read written
   Ends-part parts more =

@@ -1,4 +1,4 @@
--- The script of two lines, an insertion and `ranks`, from its bytes to those of its answers.
+-- The script of two lines, an insertion and `ranks`, from its bytes to the bytes of its answers.
 use Rattle.std.proofs.Common.{◌≡◌, ℕ, pos, List, [], ◌∷◌, Contains, codes, Some, None, refl, sym, ◌∙◌, subst, arith, append-nil}
 use Rattle.std.proofs.lemmas.Fmt.{decimal_digit}
 use Rattle.triple_ord.specs.declared.error.OrdInsertionError.TheVariants.{FailedOrdRequirement, NotWithinCapacity, BeyondMaxCapacity, AllocError}
@@ -12,7 +12,7 @@ use Rattle.ord_script.specs.{Laws.FirstRankTextLaw, Laws.first_answers, declared
 use Rattle.ord_script.specs.{Script.Script, Script.script_of, Arguments.arguments_in, Text.reply_lines, Service.Answers}
 use Rattle.ord_machine.proofs.FirstRank.{first_rank}
 
--- the script, read
+-- the script as read
 two_lines : script_of (codes "insert 5 1\nranks\n") ≡ record { commands = commands.Insert (pos 5, 1) ∷ commands.Ranks ∷ []; fault = None }
 unfolding arguments_in
 two_lines = refl
@@ -34,15 +34,15 @@ abbrev both_commands : List PairCommand
 both_commands = commands.Insert (pos 5, 1) ∷ commands.Ranks ∷ []
 
 module _ {A : Type 0} where
-  -- what the insertion does first
+  -- the effect of the insertion
   abbrev InsertsFirst : Pair → PairReply A → Tree Pair → Type 0
   InsertsFirst item reply new = Inserts reading.key reading.cmp reading.most reallocating (at_key (reading.key item)) reading.pointer beginning.tree item reply new
 
-  -- these replies, as lines, are one of the answers
+  -- the lines of these replies are one of the answers
   abbrev AreAnswer : List (PairReply A) → Type 0
   AreAnswer replies = Contains first_answers (reply_lines both_forms replies)
 
-  -- both replies, as lines
+  -- the lines of both replies
   first_lines : (item : Pair) (first second : PairReply A) (new : Tree Pair) → InsertsFirst item first new → AreFirstReplies (first ∷ second ∷ []) → AreAnswer (first ∷ second ∷ [])
   first_lines item (Inserted (New p) None) (Ranks ranks) new inserts replies =
       let is = first_pointer item p new inserts in
@@ -56,7 +56,7 @@ module _ {A : Type 0} where
   first_lines item (Refused NotWithinCapacity) second new inserts replies = absurd inserts.refused.2
   first_lines item first second new inserts replies = absurd replies
 
-  -- all replies
+  -- the lines of all replies
   answer_lines : (replies : List (PairReply A)) (end : State Pair) → Runs reading script_calls beginning tt both_commands replies end tt → AreAnswer replies
   answer_lines [] end run = absurd run
   answer_lines (first ∷ []) end run = absurd run.3

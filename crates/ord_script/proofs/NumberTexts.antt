@@ -1,4 +1,4 @@
--- Numbers and pointers in decimal, and what is read of their texts.
+-- Numbers and pointers in decimal, and what is read from their texts.
 use Rattle.std.proofs.Common.{◌≡◌, ℕ, suc, ◌-◌, ◌^◌, ◌<◌, ◌≤◌, Bool, true, false, ℤ, pos, negsuc, neg_ℤ, List, [], ◌∷◌, ◌++◌, length, decimal, Some, option_map, refl, ◌∙◌, ap, arith, append_assoc}
 use Rattle.std.proofs.lemmas.Str.Parse.{IsNumeralModel, tells_all_ascii_digits, numerals_by_value}
 use Rattle.std.proofs.{lemmas.Fmt.decimal_nonempty, lemmas.Fmt.digits_decimal, lemmas.Fmt.digits_value-decimal, Math.Numerals.one-add}
@@ -13,14 +13,14 @@ use Rattle.ord_script.specs.Spelling as spelling
 own : IsNumeralModel (λ ds. all_ascii_digits ds ≡ true) (digits_value 10)
 own = numerals_by_value (λ ds. all_ascii_digits ds ≡ true) tells_all_ascii_digits
 
--- what is true of the ten digits is true of each digit
+-- what holds of the ten digits holds of each digit of a word
 pub digits_all : (P : ℕ → Type 0) → ((b : ℕ) → IsInRange 48 57 b → P b) → (word : List ℕ) → all_ascii_digits word ≡ true → AllByRecursion P word
 digits_all P each [] digits = tt
 digits_all P each (b ∷ word) digits =
     let parts = tells_all_ascii_digits.parts b word digits in
     (each b parts.0, digits_all P each word parts.1)
 
--- a number in decimal has digits alone
+-- a number in decimal consists of digits
 pub decimal_digits : (n : ℕ) → n < 2 ^ 64 → all_ascii_digits (decimal n) ≡ true
 decimal_digits n fits = digits_decimal own n fits
 
@@ -29,7 +29,7 @@ pub number_up_to-decimal : (greatest n : ℕ) → n ≤ greatest → n < 2 ^ 64 
 number_up_to-decimal greatest n within fits =
     rw (digits_value-decimal own n fits, decimal_digits n fits, lt-ltb 0 (length (decimal n)) (decimal_nonempty n fits), le-leb n greatest within) refl
 
--- an index, and a value or a generation
+-- an index, a value or a generation
 pub index_of-text : (i : ℕ) → i < 2 ^ 32 → index_of (decimal i) ≡ Some i
 index_of-text i range = number_up_to-decimal (2 ^ 32 - 1) i (omega (arith, range)) (omega (arith, range))
 
@@ -58,12 +58,12 @@ key_of-text (negsuc n) range =
     let fits : n < 2 ^ 63 = omega (arith, ints, range.0) in
     ap (option_map (λ m. neg_ℤ (pos m))) (number_up_to-decimal (2 ^ 63) (suc n) (omega (arith, fits)) (omega (arith, fits)))
 
--- where the first that passes stands behind some that don't
+-- the position of the first element that passes, behind some that don't
 position_or_len-at : (p : ℕ → Bool) (xs : List ℕ) (y : ℕ) (ys : List ℕ) → AllByRecursion (λ x. p x ≡ false) xs → p y ≡ true → position_or_len p (xs ++ y ∷ ys) ≡ length xs
 position_or_len-at p [] y ys none here = rw here refl
 position_or_len-at p (x ∷ xs) y ys none here = rw (none.0, position_or_len-at p xs y ys none.1 here, one-add) refl
 
--- what stands before it, and behind it
+-- the elements before it, and those behind it
 before_first-at : (p : ℕ → Bool) (xs : List ℕ) (y : ℕ) (ys : List ℕ) → AllByRecursion (λ x. p x ≡ false) xs → p y ≡ true → before_first p (xs ++ y ∷ ys) ≡ xs
 before_first-at p xs y ys none here = rw (position_or_len-at p xs y ys none here) (take-append_seam xs (y ∷ ys))
 

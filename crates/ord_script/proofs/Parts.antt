@@ -18,7 +18,7 @@ split_first p (x ∷ xs) =
     elim (p x) as (λ b. cond b ([] ∷ slice_split p xs) (onto_first x (slice_split p xs)) ≡ take (cond (not b) (1 + position_or_len p xs) 0) (x ∷ xs) ∷ cond b (slice_split p xs) (parts_after p xs))
     [ true ↦ refl | false ↦ rw (split_first p xs, one-add) refl ]
 
--- where an element passes, the parts after the first are those of what follows it
+-- if an element passes, the parts after the first are those of the elements behind it
 parts_after_some : (p : ℕ → Bool) (xs : List ℕ) → position_or_len p xs < length xs → parts_after p xs ≡ slice_split p (drop (position_or_len p xs + 1) xs)
 parts_after_some p [] within = absurd (omega (arith, within))
 parts_after_some p (x ∷ xs) within =
@@ -27,7 +27,7 @@ parts_after_some p (x ∷ xs) within =
     (elim (p x) as (λ b. cond (not b) (1 + n) 0 < suc (length xs) → cond b (slice_split p xs) (parts_after p xs) ≡ slice_split p (drop (cond (not b) (1 + n) 0 + 1) (x ∷ xs)))
     [ true ↦ λ _. refl | false ↦ λ below. rw next (parts_after_some p xs (omega (arith, below))) ]) within
 
--- where none passes, there are none
+-- if none passes, there are none
 parts_after_none : (p : ℕ → Bool) (xs : List ℕ) → length xs ≤ position_or_len p xs → parts_after p xs ≡ []
 parts_after_none p [] past = refl
 parts_after_none p (x ∷ xs) past =
@@ -39,7 +39,7 @@ parts_after_none p (x ∷ xs) past =
 pub lines_onto : (p : ℕ → Bool) (line rest : List ℕ) → lines_of_parts (line ∷ slice_split p rest) ≡ strip_carriage_return line ∷ lines_of_parts (slice_split p rest)
 lines_onto p line rest = rw (split_first p rest) refl
 
--- what `position` found
+-- the position that `position` found
 position_some : (p : ℕ → Bool) (xs : List ℕ) (n : ℕ) → Some n ≡ position p xs → (position_or_len p xs ≡ n) × (n < length xs)
 position_some p xs n is =
     let found = cond_some (nat_lt (position_or_len p xs) (length xs)) _ _ (sym is) in
@@ -58,7 +58,7 @@ lines_some bytes end is =
     let within : position_or_len (λ b. b == 10) bytes < length bytes = omega (arith, found.0, found.1) in
     rw (split_first (λ b. b == 10) bytes, parts_after_some (λ b. b == 10) bytes within, found.0) (lines_onto (λ b. b == 10) (take end bytes) (drop (end + 1) bytes))
 
--- or with the bytes
+-- or with the bytes, if there is none
 pub lines_none : (bytes : List ℕ) → 0 < length bytes → None ≡ position (λ b. b == 10) bytes → lines bytes ≡ bytes ∷ []
 lines_none [] some is = absurd (omega (arith, some))
 lines_none (x ∷ xs) some is =
@@ -70,7 +70,7 @@ lines_none (x ∷ xs) some is =
 words_of_blank : (x : ℕ) (xs : List ℕ) → is_blank x ≡ true → words_of (x ∷ xs) ≡ words_of xs
 words_of_blank x xs blank = rw blank refl
 
--- the first word begins at the first byte that is no blank
+-- the first word begins at the first byte that isn't a blank
 pub words_of_start : (xs : List ℕ) → words_of (drop (position_or_len (λ b. not (is_blank b)) xs) xs) ≡ words_of xs
 words_of_start [] = refl
 words_of_start (x ∷ xs) =
@@ -81,12 +81,12 @@ words_of_start (x ∷ xs) =
 abbrev pub words_among : List (List ℕ) → List (List ℕ)
 words_among parts = filter (λ part. not (length part == 0)) parts
 
--- a part that isn't empty is one
+-- a part that isn't empty is a word
 pub words_among-cons : (part : List ℕ) (parts : List (List ℕ)) → 0 < length part → words_among (part ∷ parts) ≡ part ∷ words_among parts
 words_among-cons [] parts some = absurd (omega (arith, some))
 words_among-cons (x ∷ part) parts some = rw eqb-suc-zero refl
 
--- the words that come after the first part
+-- the words after the first part
 words_after : (xs : List ℕ) → words_among (parts_after is_blank xs) ≡ words_of (drop (position_or_len is_blank xs) xs)
 words_after [] = refl
 words_after (x ∷ xs) =
@@ -94,7 +94,7 @@ words_after (x ∷ xs) =
     (elim (is_blank x) as (λ b. is_blank x ≡ b → words_among (cond b (slice_split is_blank xs) (parts_after is_blank xs)) ≡ words_of (drop (cond (not b) (1 + n) 0) (x ∷ xs)))
     [ true ↦ λ blank. sym (words_of_blank x xs blank) | false ↦ λ _. rw one-add (words_after xs) ]) refl
 
--- and ends at the next blank
+-- and it ends at the next blank
 words_of_cons : (x : ℕ) (xs : List ℕ) (end : ℕ) → is_blank x ≡ false → end ≡ position_or_len is_blank (x ∷ xs)
     → words_of (x ∷ xs) ≡ take end (x ∷ xs) ∷ words_of (drop end (x ∷ xs))
 words_of_cons x xs end dark ends =
@@ -103,7 +103,7 @@ words_of_cons x xs end dark ends =
     ap words_among (split_first is_blank (x ∷ xs))
     ∙ rw ends (words_among-cons (take (position_or_len is_blank (x ∷ xs)) (x ∷ xs)) parts some ∙ ap (λ words. take (position_or_len is_blank (x ∷ xs)) (x ∷ xs) ∷ words) (words_after (x ∷ xs)))
 
--- a line of blanks has no word
+-- a line of blanks has no words
 pub words_none : (line : List ℕ) → None ≡ position (λ b. not (is_blank b)) line → words_of line ≡ []
 words_none line is = sym (words_of_start line) ∙ rw (drop_all (position_or_len (λ b. not (is_blank b)) line) line (position_none (λ b. not (is_blank b)) line is)) refl
 
@@ -111,7 +111,7 @@ not_not : (b : Bool) → not (not b) ≡ false → b ≡ false
 not_not true h = h
 not_not false h = refl
 
--- the first word, where it begins and where it ends
+-- the first word, with its beginning and its end
 module _ (line : List ℕ) (start end : ℕ) (starts : Some start ≡ position (λ b. not (is_blank b)) line) where
   words_split : end ≡ position_or_len is_blank (drop start line) → words_of line ≡ take end (drop start line) ∷ words_of (drop end (drop start line))
   words_split ends =

@@ -19,7 +19,7 @@ record IsWhole (word : List ℕ) : Type 0 where
   some : 0 < length word
   dark : All (λ b. 32 < b) word
 
--- numbers in decimal, and the arguments that they make
+-- numbers in decimal, and the arguments made of them
 number_dark : (n : ℕ) → n < 2 ^ 64 → All (λ b. 32 < b) (decimal n)
 number_dark n fits = All-from_recursion (λ b. 32 < b) (decimal n) (digits_all (λ b. 32 < b) (λ b digit. omega (arith, digit.0)) (decimal n) (decimal_digits n fits))
 
@@ -83,7 +83,7 @@ no_blank word whole = All-weaker (λ b. 32 < b) (λ b. is_blank b ≡ false) oth
     other : (b : ℕ) → 32 < b → is_blank b ≡ false
     other b dark = rw (ne_eqb b 32 (λ same. omega (arith, dark, same)), ne_eqb b 9 (λ same. omega (arith, dark, same))) refl
 
--- words that were joined by a space, cut again
+-- words that were joined by a space are cut again
 words_of-joined : (words : List (List ℕ)) → All IsWhole words → words_of (join_with_byte 32 words) ≡ words
 words_of-joined [] whole = refl
 words_of-joined (word ∷ []) whole =

@@ -1,4 +1,4 @@
--- What a script says for a command, read: by the kinds of its arguments, and then for each command.
+-- Reading what a script says for a command: by the kinds of its arguments, and then for each command.
 use Rattle.std.proofs.Common.{◌≡◌, ℕ, ℤ, Bool, List, [], ◌∷◌, ◌++◌, map, Option, Some, Ok, refl, sym, ◌∙◌, ap, append-nil}
 use Rattle.std.proofs.lemmas.List.Elements.{recursion_from_All}
 use Rattle.std.specs.declared.cmp.Ordering.TheVariants.{Less, Equal, Greater}
@@ -13,11 +13,11 @@ use Rattle.ord_script.specs.Numbers.{key_of, value_of, index_of, flag_of, pointe
 use Rattle.ord_script.specs.Pairs.{Pair, Pointer, PairCommand}
 use Rattle.ord_script.proofs.NumberTexts.{key_of-text, pointer_of-text, index_of-text, value_of-text, flag_of-text}
 
--- a reader reads the texts of these arguments as this, where they are in their ranges, and leaves what stands behind them
+-- a reader reads the texts of these arguments as x, if they are in range, and leaves the words behind them
 record Reads {X : Type 0} (reader : Reader X) (arguments : List Argument) (x : X) : Type 0 where
   reads : AllByRecursion IsInRange arguments → (rest : List (List ℕ)) → reader (map argument_text arguments ++ rest) ≡ Some (Some x, rest)
 
--- none, one, and another after it
+-- no argument, one, and one after another
 nothing-reads : Reads nothing [] tt
 nothing-reads = record { reads = λ range rest. refl }
 
@@ -53,7 +53,7 @@ pair-reads p = both-reads (key-reads p.0) (value-reads p.1)
 hint-reads : (i n : ℕ) (p : Pair) → Reads hint_and_pair (index i ∷ count n ∷ pair_arguments p) (i, (n, p))
 hint-reads i n p = both-reads (index-reads i) (both-reads (count-reads n) (pair-reads p))
 
--- the command that takes them
+-- the command with these arguments
 module _ {X : Type 0} {reader : Reader X} {arguments : List Argument} {x : X} where
   taken : (command : X → PairCommand) → Reads reader arguments x → AllByRecursion IsInRange arguments → Some (taking reader command (map argument_text arguments)) ≡ Some (Ok (command x))
   unfolding arguments_in
@@ -61,11 +61,11 @@ module _ {X : Type 0} {reader : Reader X} {arguments : List Argument} {x : X} wh
       ap (λ words. Some (taking reader command words)) (sym (append-nil (map argument_text arguments)))
       ∙ ap (λ found. Some (none_left found >>= λ x. Ok (command x))) (read.reads range [])
 
--- the line that a command is written as says the command
+-- the line of a command is read as the command
 abbrev IsSaid : PairCommand → Type 0
 IsSaid command = AllByRecursion IsInRange (saying_of command).arguments → said_by (spelled command) ≡ Some (Ok command)
 
--- an insertion at a place that a line names, by the pair's own key if by one
+-- an insertion at a place that a line names, by the pair's own key if by a key
 said_by-entry : (kind : OrdInsertKind Pointer ℤ ℕ ℕ) (pair : Pair) → GoesByItsKey kind pair → IsSaid (commands.Entry kind pair)
 said_by-entry kinds.Empty pair by range = taken (commands.Entry kinds.Empty) (pair-reads pair) range
 said_by-entry (kinds.Normal k) pair by range = absurd by
@@ -106,7 +106,7 @@ said_by-spelled (commands.SetMax n) sayable range = taken commands.SetMax (count
 said_by-spelled (commands.DrainOrdered n) sayable range = taken commands.DrainOrdered (count-reads n) range
 said_by-spelled command sayable range = taken (λ _. command) nothing-reads tt
 
--- its numbers are in their ranges
+-- its numbers are in range
 pub in_range : (command : PairCommand) → CanBeSaid command → All IsInRange (saying_of command).arguments
 in_range commands.FindWith sayable = absurd sayable
 in_range commands.SimilarWith sayable = absurd sayable
@@ -118,7 +118,7 @@ in_range command sayable = sayable
 pub command_text : (command : PairCommand) → CanBeSaid command → said_by (spelled command) ≡ Some (Ok command)
 command_text command sayable = said_by-spelled command sayable (recursion_from_All IsInRange (saying_of command).arguments (in_range command sayable))
 
--- the word that begins it
+-- its first word
 pub command_word : (command : PairCommand) → word_text (word_of command) ≡ (saying_of command).word
 command_word (commands.Insert pair) = refl
 command_word (commands.Entry kinds.Empty pair) = refl

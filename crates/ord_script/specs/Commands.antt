@@ -1,4 +1,4 @@
--- Commands as the words of a line spell them.
+-- Commands as spelled by the words of a line.
 use Rattle.std.specs.Prelude.{ℕ, ℤ, List, [], ◌∷◌, ◌==◌, ok_or, Option, Some, None, Result, Ok, Err, codes, bytes_eq, slice_index, if◌then◌else◌}
 use Rattle.std.specs.declared.cmp.Ordering.TheVariants.{Less, Equal, Greater}
 use Rattle.std.specs.declared.cmp.Ordering.{Ordering}
@@ -10,7 +10,7 @@ use Rattle.ord_script.specs.{declared.fault.FaultKind.FaultKind, declared.word.W
 use Rattle.ord_machine.specs.declared.command.Command.TheVariants as commands
 use Rattle.ord_script.specs.declared.word.Word.TheVariants as words
 
--- how a script writes the words that begin a command
+-- the text of the first word of a command
 abbrev pub word_text : Word → List ℕ
 word_text words.Insert = codes "insert"
 word_text words.Within = codes "within"
@@ -47,7 +47,7 @@ word_text words.SetMax = codes "max"
 word_text words.DrainOrdered = codes "drain"
 word_text words.Stats = codes "stats"
 
--- all of them
+-- all words
 abbrev pub all_words : List Word
 all_words =
     words.Insert ∷ words.Within ∷ words.Empty ∷ words.Nonhereditary ∷ words.Linear ∷ words.NonhereditaryLinear
@@ -56,18 +56,18 @@ all_words =
     ∷ words.Visits ∷ words.Get ∷ words.First ∷ words.Last ∷ words.Neighbours ∷ words.List ∷ words.Ranks
     ∷ words.Check ∷ words.Reserve ∷ words.SetMax ∷ words.DrainOrdered ∷ words.Stats ∷ []
 
--- the one among them that has this text
+-- the word in the list with this text
 abbrev pub word_in : List Word → List ℕ → Option Word
 word_in [] text = None
 word_in (word ∷ rest) text = if bytes_eq text (word_text word) then Some word else word_in rest text
 
--- and then, unless there was a fault
+-- go on with f, unless there was a fault
 infixl 10 ◌>>=◌
 abbrev pub ◌>>=◌ : {A B : Type 0} → Result A FaultKind → (A → Result B FaultKind) → Result B FaultKind
 (Ok x) >>= f = f x
 (Err kind) >>= f = Err kind
 
--- a command with what all of the arguments are read as
+-- a command whose arguments are all read by `reader`
 abbrev pub taking : {X : Type 0} → Reader X → (X → PairCommand) → List (List ℕ) → Result PairCommand FaultKind
 taking reader command arguments = arguments_in reader arguments >>= λ x. Ok (command x)
 
@@ -75,8 +75,8 @@ taking reader command arguments = arguments_in reader arguments >>= λ x. Ok (co
 abbrev pub without_arguments : PairCommand → List (List ℕ) → Result PairCommand FaultKind
 without_arguments command = taking nothing (λ _. command)
 
--- insertions at a place that the line names: as a new entry beside those with the pair's key; from a hint, an index and a number of
--- steps; and before, at or after the entry with an index
+-- Insertions at a place that the line names: as a new entry beside those with the pair's key; from a hint, which is an index and a number
+-- of steps; and before, at or after the entry with an index.
 abbrev pub nonhereditary : Pair → PairCommand
 nonhereditary pair = commands.Entry (kinds.Nonhereditary pair.0) pair
 
@@ -89,29 +89,29 @@ nonhereditary_linear a = commands.Entry (kinds.NonhereditaryLinear a.0 a.1.0 a.1
 abbrev pub entry_beside : Ordering → ℕ × Pair → PairCommand
 entry_beside order a = commands.Entry (kinds.Manual a.0 order) a.1
 
--- another item for the entry that a pointer names
+-- another item for the entry of a pointer
 abbrev pub set : Pointer × Pair → PairCommand
 set a = commands.Set a.0 a.1
 
--- another item for it, by whose key it goes to its place
+-- another item for it, by whose key the entry moves to its place
 abbrev pub rekey : Pointer × Pair → PairCommand
 rekey a = commands.Rekey a.0 a.1
 
--- searches from a hint: the entry that a pointer names, or the one at an index, and a number of steps
+-- searches from a hint: the entry of a pointer, or the one at an index, and a number of steps
 abbrev pub find_linear : Pointer × (ℕ × ℤ) → PairCommand
 find_linear a = commands.FindLinear a.0 a.1.0 a.1.1
 
 abbrev pub similar_linear : ℕ × (ℕ × ℤ) → PairCommand
 similar_linear a = commands.SimilarLinear a.0 a.1.0 a.1.1
 
--- an index and a pair, and from a hint too
+-- an index and a pair; a hint and a pair
 abbrev pub index_and_pair : Reader (ℕ × Pair)
 index_and_pair = both (one index_of) key_and_value
 
 abbrev pub hint_and_pair : Reader (ℕ × (ℕ × Pair))
 hint_and_pair = both (one index_of) (both (one value_of) key_and_value)
 
--- the command that a word begins
+-- the command that begins with a word
 abbrev pub command_by : Word → List (List ℕ) → Result PairCommand FaultKind
 command_by words.Insert = taking key_and_value commands.Insert
 command_by words.Within = taking key_and_value commands.InsertWithin
@@ -148,7 +148,7 @@ command_by words.SetMax = taking (one value_of) commands.SetMax
 command_by words.DrainOrdered = taking (one value_of) commands.DrainOrdered
 command_by words.Stats = without_arguments commands.Stats
 
--- the word that begins a command
+-- the first word of a command
 abbrev pub word_of : PairCommand → Word
 word_of (commands.Insert pair) = words.Insert
 word_of (commands.InsertWithin pair) = words.Within
@@ -159,7 +159,7 @@ word_of (commands.Entry (kinds.NonhereditaryLinear index count key) pair) = word
 word_of (commands.Entry (kinds.Manual index Less) pair) = words.Before
 word_of (commands.Entry (kinds.Manual index Equal) pair) = words.At
 word_of (commands.Entry (kinds.Manual index Greater) pair) = words.After
--- no line says these two; they stand with the insertions by key
+-- no line says these two; they have the words of insertions by key
 word_of (commands.Entry (kinds.Normal key) pair) = words.Insert
 word_of (commands.EntryWithin kind pair) = words.Within
 word_of (commands.Set pointer pair) = words.Set
@@ -175,7 +175,7 @@ word_of (commands.Find key) = words.Find
 word_of (commands.FindLinear pointer count key) = words.FindLinear
 word_of (commands.Similar key) = words.Similar
 word_of (commands.SimilarLinear index count key) = words.SimilarLinear
--- no line says these two; they stand with the searches by key
+-- no line says these two; they have the words of searches by key
 word_of commands.FindWith = words.Find
 word_of commands.SimilarWith = words.Similar
 word_of (commands.Visits key) = words.Visits
@@ -191,11 +191,11 @@ word_of (commands.SetMax n) = words.SetMax
 word_of (commands.DrainOrdered num) = words.DrainOrdered
 word_of commands.Stats = words.Stats
 
--- the faults in their order: the word, the number of arguments, and then each argument from the left
+-- the faults are checked in order: the word, the number of arguments, and then each argument from the left
 abbrev pub command_of : List ℕ → List (List ℕ) → Result PairCommand FaultKind
 command_of text arguments = ok_or (word_in all_words text) UnknownCommand >>= λ word. command_by word arguments
 
--- What a line says: nothing, where it has no words or is a comment; else a command, or a fault.
+-- The command of a line, or its fault. A line without words and a comment say nothing.
 abbrev pub said_by : List (List ℕ) → Option (Result PairCommand FaultKind)
 said_by [] = None
 said_by (text ∷ arguments) = if slice_index text 0 == 35 then None else Some (command_of text arguments)

@@ -1,25 +1,25 @@
--- What a watched device shows, and what goes through it.
+-- What a watched device shows, and what is read from it and written to it.
 use Rattle.std.specs.Prelude.{◌≡◌, ℕ, ◌+◌, ◌<◌, ◌≤◌, Bool, true, false, ◌&&◌, ◌==◌, nat_lt, List, [], ◌++◌, length, Option, Result, Ok, Err, MatchResult}
 use Rattle.std.specs.Io.KnownBytes.{Consumes, Appends, IsAtEnd}
 use Rattle.ord_script.specs.declared.reading.ReadError.TheVariants.{TooLong, Memory, Failed}
 use Rattle.ord_script.specs.declared.reading.ReadError.{ReadError}
 
--- a device, whether a call of it has failed, and whether a read of it has met its end
+-- a device, whether a call has failed, and whether a read has met its end
 pub record Watch (D : Type 0) : Type 0 where
   pub device : D
   pub failed : Bool
   pub ended : Bool
 
--- it moved none of the `room` bytes that it might have moved
+-- the call moved none of the `room` bytes that it could have moved
 abbrev pub moves_none : {E : Type 0} → Result ℕ E → ℕ → Bool
 moves_none (Ok count) room = (count == 0) && nat_lt 0 room
 moves_none (Err error) room = false
 
--- the most bytes that an input may have
+-- the greatest number of bytes in an input
 abbrev pub limit : ℕ
 limit = 1_048_576
 
--- the reader answered an error
+-- the reader returned an error
 abbrev pub is_failure : {V : Type 0} → Result V ReadError → Bool
 is_failure (Ok v) = false
 is_failure (Err TooLong) = false
@@ -31,9 +31,9 @@ abbrev pub is_end : Result ℕ ReadError → Bool
 is_end (Ok count) = count == 0
 is_end (Err error) = false
 
--- What one read says of the bytes that were taken from the reader, for room up to one byte beyond the limit.
+-- What one read means for the bytes taken from the reader, with room for at most one byte beyond the limit.
 abbrev pub IsPiece : Result ℕ ReadError → List ℕ → Option (List ℕ) → List ℕ → List ℕ → Type 0
--- they stand behind the bytes so far, and there are none only at the reader's end
+-- they follow the bytes so far, and there are none only at the reader's end
 IsPiece (Ok count) taken after old new = (new ≡ old ++ taken) × (length taken ≡ count) × (count ≡ 0 → IsAtEnd after)
 -- one read is never too long
 IsPiece (Err TooLong) taken after old new = ⊥
@@ -42,21 +42,21 @@ IsPiece (Err Memory) taken after old new = length old + length taken ≤ limit +
 -- a read that failed took none
 IsPiece (Err Failed) taken after old new = taken ≡ []
 
--- One read, onto the bytes so far.
+-- One read, added to the bytes so far.
 pub record ReadsSome (result : Result ℕ ReadError) (before after : Option (List ℕ)) (old new : List ℕ) : Type 0 where
   pub taken : List ℕ
   pub consumes : Consumes before after taken
   pub piece : IsPiece result taken after old new
 
--- What a whole read says of the bytes that were taken from the reader.
+-- What a whole read means for the bytes taken from the reader.
 abbrev pub IsInput : Result (List ℕ) ReadError → List ℕ → Option (List ℕ) → Type 0
--- they are all there were
+-- they are all that there were
 IsInput (Ok bytes) taken after = (taken ≡ bytes) × (length taken ≤ limit) × IsAtEnd after
 -- reading stops at the first byte beyond the limit
 IsInput (Err TooLong) taken after = length taken ≡ limit + 1
--- there was no memory for them; none was taken behind that one
+-- there was no memory for them; at most one was beyond the limit
 IsInput (Err Memory) taken after = length taken ≤ limit + 1
--- a read failed, and none was tried behind the limit
+-- a read failed, and none was tried beyond the limit
 IsInput (Err Failed) taken after = length taken ≤ limit
 
 -- A whole read.
@@ -65,7 +65,7 @@ pub record ReadsAll (result : Result (List ℕ) ReadError) (before after : Optio
   pub consumes : Consumes before after taken
   pub input : IsInput result taken after
 
--- A whole write: the bytes that were written and those that were left, none exactly where all went well.
+-- A whole write: the bytes that were written, and those that were left. None are left exactly if it succeeded.
 pub record WritesAll {E : Type 0} (result : Result (Unit {0}) E) (before after : Option (List ℕ)) (bytes : List ℕ) : Type 0 where
   pub written : List ℕ
   pub rest : List ℕ

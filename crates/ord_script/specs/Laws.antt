@@ -1,10 +1,10 @@
--- What is true of every script, each as a statement of its own.
+-- The laws of scripts, each as a statement of its own.
 use Rattle.std.specs.Prelude.{◌≡◌, ℕ, ℤ, List, [], ◌∷◌, All, Contains, codes, Some, None, Ok}
 use Rattle.ord_script.specs.Spelling.{key, pointer, argument_text, IsInRange, saying_of, spelled, CanBeSaid, script_text}
 use Rattle.ord_script.specs.{Commands.word_text, Commands.word_of, Commands.said_by, Numbers.key_of, Numbers.pointer_of, Script.script_of}
 use Rattle.ord_script.specs.{Pairs.Pointer, Pairs.PairCommand, Service.Answers}
 
--- the answers to a script of these two commands: where memory is refused to one of them, it says so
+-- the answers to a script of these two commands; a line says if memory was refused
 abbrev pub first_answers : List (List ℕ)
 first_answers = codes "new 1.2\nranks 1\n" ∷ codes "new 1.2\nrefused memory\n" ∷ codes "refused memory\nranks\n" ∷ []
 
@@ -12,23 +12,23 @@ first_answers = codes "new 1.2\nranks 1\n" ∷ codes "new 1.2\nrefused memory\n"
 abbrev pub FirstRankTextLaw : Type 0 → Type 0
 FirstRankTextLaw A = (text : List ℕ) → Answers A (script_of (codes "insert 5 1\nranks\n")) text → Contains first_answers text
 
--- the text of a key, read, is the key
+-- reading the text of a key gives the key
 abbrev pub KeyTextLaw : Type 0
 KeyTextLaw = (k : ℤ) → IsInRange (key k) → key_of (argument_text (key k)) ≡ Some k
 
--- the text of a pointer, read, is the pointer
+-- reading the text of a pointer gives the pointer
 abbrev pub PointerTextLaw : Type 0
 PointerTextLaw = (p : Pointer) → IsInRange (pointer p) → pointer_of (argument_text (pointer p)) ≡ Some p
 
--- what a script says for a command is read as this command
+-- reading what a script says for a command gives the command
 abbrev pub CommandTextLaw : Type 0
 CommandTextLaw = (command : PairCommand) → CanBeSaid command → said_by (spelled command) ≡ Some (Ok command)
 
--- the word that begins a command is the one that a script says for it
+-- the first word of a command is the one that a script says for it
 abbrev pub CommandWordLaw : Type 0
 CommandWordLaw = (command : PairCommand) → word_text (word_of command) ≡ (saying_of command).word
 
--- the lines of some commands, cut and read, are these commands and no fault
+-- cutting and reading the lines of some commands gives these commands and no fault
 abbrev pub ScriptTextLaw : Type 0
 ScriptTextLaw = (commands : List PairCommand) → All CanBeSaid commands
     → script_of (script_text commands) ≡ record { commands = commands; fault = None }

@@ -1,4 +1,4 @@
--- The definitions that the contracts cite.
+-- The definitions that the contracts use.
 pub mod Devices
 pub mod Pairs
 pub mod Text

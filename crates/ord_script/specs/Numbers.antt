@@ -3,16 +3,16 @@ use Rattle.std.specs.Prelude.{ℕ, ◌-◌, ◌^◌, ◌==◌, ℤ, pos, neg_ℤ
 use Rattle.std.specs.{List.before_first, List.after_first, Str.Parse.digits_value, Str.all_ascii_digits}
 use Rattle.ord_script.specs.Pairs.{Pointer}
 
--- one or more digits, of which the number is at most the greatest one; leading zeros are allowed
+-- one or more digits whose number is at most `greatest`; leading zeros are allowed
 abbrev pub is_number_up_to : ℕ → List ℕ → Bool
 is_number_up_to greatest word =
     nat_lt 0 (length word) && all_ascii_digits word && nat_le (digits_value 10 word) greatest
 
--- the number that such a word writes
+-- the number in such a word
 abbrev pub number_up_to : ℕ → List ℕ → Option ℕ
 number_up_to greatest word = if is_number_up_to greatest word then Some (digits_value 10 word) else None
 
--- a key of 64 bits: a number that may have a '-' before it
+-- a key of 64 bits: a number with an optional '-' before it
 abbrev pub key_of : List ℕ → Option ℤ
 key_of [] = None
 key_of (b ∷ word) =

@@ -7,16 +7,16 @@ use Rattle.ord_script.specs.{declared.fault.FaultKind.FaultKind, declared.fault.
 abbrev pub is_blank : ℕ → Bool
 is_blank b = (b == 32) || (b == 9)
 
--- what stands between blanks
+-- the words between blanks
 abbrev pub words_of : List ℕ → List (List ℕ)
 words_of line = filter (λ word. not (length word == 0)) (slice_split is_blank line)
 
--- the commands up to the first fault, and that fault, if there is one
+-- the commands up to the first fault, and that fault, if any
 pub record Script : Type 0 where
   pub commands : List PairCommand
   pub fault : Option Fault
 
--- what a line says, before what the lines after it say
+-- the meaning of a line, followed by the script of the lines after it
 abbrev pub and_then : ℕ → Option (Result PairCommand FaultKind) → Script → Script
 and_then number None script = script
 and_then number (Some (Ok command)) script =
@@ -24,11 +24,11 @@ and_then number (Some (Ok command)) script =
 and_then number (Some (Err kind)) script =
     record { commands = []; fault = Some (record { line = number; kind = kind }) }
 
--- the script of some lines, of which the first has this number
+-- the script of some lines, the first of which has this number
 abbrev pub script_from : ℕ → List (List ℕ) → Script
 script_from number [] = record { commands = []; fault = None }
 script_from number (line ∷ lines) = and_then number (said_by (words_of line)) (script_from (number + 1) lines)
 
--- the script of some bytes: lines end as those of a text do, and count from 1
+-- the script of some bytes; lines end as in a text, and are counted from 1
 abbrev pub script_of : List ℕ → Script
 script_of bytes = script_from 1 (lines bytes)

@@ -1,4 +1,4 @@
--- What a script answers, and what is written of it.
+-- The answer to a script, and how much of it is written.
 use Rattle.std.specs.Prelude.{◌≡◌, ℕ, ◌+◌, ◌<◌, ◌≤◌, ◌||◌, Bool, true, false, List, [], ◌++◌, length, map, codes, Option, Some, None, Result, is_err}
 use Rattle.std.specs.Io.KnownBytes.{Consumes, Appends}
 use Rattle.ord_script.specs.{Pairs.Pair, Pairs.PairReply, Pairs.reading, Pairs.beginning, Pairs.script_calls, declared.fault.Fault.Fault}
@@ -8,19 +8,19 @@ use Rattle.ord_script.specs.{Devices.WritesAll, declared.writing.WriteFailed.Wri
 use Rattle.ord_script.specs.declared.script_end.ScriptEnd.TheVariants as ends
 use Rattle.ord_machine.specs.Machine.{State, Runs}
 
--- The text answers the script: the replies of a run over its commands from an empty arena, and then its fault.
+-- The text answers the script: it has the replies of a run of its commands from an empty arena, and then its fault.
 pub record Answers (A : Type 0) (script : Script) (text : List ℕ) : Type 0 where
   pub replies : List (PairReply A)
   pub end : State Pair
   pub run : Runs reading script_calls beginning tt script.commands replies end tt
   pub lines : text ≡ reply_lines (map form_of script.commands) replies ++ fault_line script.fault
 
--- how a script ends where all goes well
+-- the end of a script if nothing fails
 abbrev pub end_of : Option Fault → ScriptEnd
 end_of None = ends.Done
 end_of (Some fault) = ends.Fault fault.line fault.kind
 
--- What an end says of the bytes that were read and of those that were written.
+-- What an end means for the bytes that were read and for those that were written.
 abbrev pub Ends : (A : Type 0) → ScriptEnd → List ℕ → List ℕ → Type 0
 -- the whole answer
 Ends A ends.Done read written =
@@ -28,15 +28,15 @@ Ends A ends.Done read written =
 Ends A (ends.Fault line kind) read written =
     ((script_of read).fault ≡ Some (record { line = line; kind = kind }))
     × Answers A (script_of read) written × (length read ≤ limit)
--- a beginning of the answer, and not all of it
+-- a beginning of the answer, but not all of it
 Ends A ends.WriteFailed read written =
     (rest : List ℕ) × (0 < length rest) × Answers A (script_of read) (written ++ rest) × (length read ≤ limit)
--- nothing, since the input went on beyond the limit, there was no memory for it or for the answer, or a read up to the limit failed
+-- nothing, because the input went beyond the limit, memory for it or for the answer was refused, or a read up to the limit failed
 Ends A ends.TooLong read written = (length read ≡ limit + 1) × (written ≡ [])
 Ends A ends.Memory read written = (length read ≤ limit + 1) × (written ≡ [])
 Ends A ends.ReadFailed read written = (length read ≤ limit) × (written ≡ [])
 
--- Some bytes were read and some were written, as the end says.
+-- Bytes were read and written as the end says.
 pub record Serves (A : Type 0) (end : ScriptEnd) (unread unread' contents contents' : Option (List ℕ)) : Type 0 where
   pub read : List ℕ
   pub written : List ℕ
@@ -44,7 +44,7 @@ pub record Serves (A : Type 0) (end : ScriptEnd) (unread unread' contents conten
   pub writes : Appends contents contents' written
   pub ends : Ends A end read written
 
--- the whole input was read and answered, at least in part
+-- the whole input was read, and at least a part of the answer may be written
 abbrev pub is_answered : ScriptEnd → Bool
 is_answered ends.TooLong = false
 is_answered ends.Memory = false
@@ -77,7 +77,8 @@ message_of ends.Memory = codes "ordrun: out of memory\n"
 message_of ends.ReadFailed = codes "ordrun: read failed\n"
 message_of ends.WriteFailed = codes "ordrun: write failed\n"
 
--- The message was written, or a beginning of it where a write failed. A watched device has failed then, or before.
+-- The message was written, or a beginning of it if a write failed. A watched device has failed if this write failed or an earlier one
+-- did.
 pub record Reports (end : ScriptEnd) (old_failed new_failed : Bool) (contents contents' : Option (List ℕ)) : Type 0 where
   pub wrote : Result (Unit {0}) WriteFailed
   pub writes : WritesAll wrote contents contents' (message_of end)

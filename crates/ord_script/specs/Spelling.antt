@@ -1,4 +1,4 @@
--- How a script says each command: the words of its line.
+-- What a script says for each command: the words of its line.
 use Rattle.std.specs.Prelude.{◌≡◌, Bool, true, false, ℕ, ◌^◌, ◌<◌, ℤ, pos, neg_ℤ, ◌≤ℤ◌, ◌<ℤ◌, List, [], ◌∷◌, ◌++◌, All, map, flat_map, codes, decimal}
 use Rattle.std.specs.declared.cmp.Ordering.TheVariants.{Less, Equal, Greater}
 use Rattle.std.specs.{List.join_with_byte, Fmt.signed_decimal}
@@ -16,12 +16,12 @@ pub data Argument : Type 0 where
   pointer : Pointer → Argument
   flag : Bool → Argument
 
--- the number that stands for a flag
+-- the number of a flag
 abbrev pub flag_number : Bool → ℕ
 flag_number true = 1
 flag_number false = 0
 
--- how it is written, with its numbers in decimal
+-- the text of an argument, with its numbers in decimal
 abbrev pub argument_text : Argument → List ℕ
 argument_text (key k) = signed_decimal k
 argument_text (value v) = decimal v
@@ -30,7 +30,7 @@ argument_text (count n) = decimal n
 argument_text (pointer p) = pointer_text p
 argument_text (flag b) = decimal (flag_number b)
 
--- a key has 64 bits with a sign; a value, a generation and a number of steps, of entries or of slots have 64 without one, an index 32
+-- A key has 64 bits with a sign. A value, a generation, and a number of steps, entries or slots have 64 bits without one, an index 32.
 abbrev pub IsInRange : Argument → Type 0
 IsInRange (key k) = (neg_ℤ (pos (2 ^ 63)) ≤ℤ k) × (k <ℤ pos (2 ^ 63))
 IsInRange (value v) = v < 2 ^ 64
@@ -61,7 +61,7 @@ saying_of (commands.Entry (kinds.NonhereditaryLinear i n k) pair) =
 saying_of (commands.Entry (kinds.Manual i Less) pair) = record { word = codes "before"; arguments = index i ∷ pair_arguments pair }
 saying_of (commands.Entry (kinds.Manual i Equal) pair) = record { word = codes "at"; arguments = index i ∷ pair_arguments pair }
 saying_of (commands.Entry (kinds.Manual i Greater) pair) = record { word = codes "after"; arguments = index i ∷ pair_arguments pair }
--- it says nothing for these two; they stand with the insertions by key
+-- it says nothing for these two; they have the words of insertions by key
 saying_of (commands.Entry (kinds.Normal k) pair) = record { word = codes "insert"; arguments = [] }
 saying_of (commands.EntryWithin kind pair) = record { word = codes "within"; arguments = [] }
 saying_of (commands.Set p pair) = record { word = codes "set"; arguments = pointer p ∷ pair_arguments pair }
@@ -77,7 +77,7 @@ saying_of (commands.Find k) = record { word = codes "find"; arguments = key k �
 saying_of (commands.FindLinear p n k) = record { word = codes "find-linear"; arguments = pointer p ∷ count n ∷ key k ∷ [] }
 saying_of (commands.Similar k) = record { word = codes "similar"; arguments = key k ∷ [] }
 saying_of (commands.SimilarLinear i n k) = record { word = codes "similar-linear"; arguments = index i ∷ count n ∷ key k ∷ [] }
--- it says nothing for these two; they stand with the searches by key
+-- it says nothing for these two; they have the words of searches by key
 saying_of commands.FindWith = record { word = codes "find"; arguments = [] }
 saying_of commands.SimilarWith = record { word = codes "similar"; arguments = [] }
 saying_of (commands.Visits k) = record { word = codes "visits"; arguments = key k ∷ [] }
@@ -97,7 +97,7 @@ saying_of commands.Stats = record { word = codes "stats"; arguments = [] }
 abbrev pub spelled : PairCommand → List (List ℕ)
 spelled command = (saying_of command).word ∷ map argument_text (saying_of command).arguments
 
--- a line says where a pair goes: by its own key, if by one
+-- a line can name this place for a pair: by the pair's own key, if by a key
 abbrev pub GoesByItsKey : OrdInsertKind Pointer ℤ ℕ ℕ → Pair → Type 0
 GoesByItsKey kinds.Empty pair = Unit {0}
 GoesByItsKey (kinds.Normal k) pair = ⊥
@@ -106,8 +106,7 @@ GoesByItsKey (kinds.Linear i n k) pair = pair.0 ≡ k
 GoesByItsKey (kinds.NonhereditaryLinear i n k) pair = pair.0 ≡ k
 GoesByItsKey (kinds.Manual i order) pair = Unit {0}
 
--- a script can say it: it isn't a search by a closure nor an insertion that a line can't ask for, and its numbers are within their
--- ranges
+-- A script can say the command: it isn't a search by a closure, nor an insertion that no line can name, and its numbers are in range.
 abbrev pub CanBeSaid : PairCommand → Type 0
 CanBeSaid commands.FindWith = ⊥
 CanBeSaid commands.SimilarWith = ⊥

@@ -1,4 +1,4 @@
--- The lines that a script answers.
+-- The lines of the answer to a script.
 use Rattle.std.specs.Prelude.{◌≡◌, Result, OnOk, String, string_bytes, ℕ, Bool, true, false, List, [], ◌∷◌, ◌++◌, Option, Some, None, codes, decimal, flat_map}
 use Rattle.std.specs.declared.cmp.Ordering.TheVariants.{Less, Equal, Greater}
 use Rattle.std.specs.{declared.cmp.Ordering.Ordering, Fmt.signed_decimal}
@@ -14,11 +14,11 @@ use Rattle.ord_script.specs.{Pairs.Pair, Pairs.Pointer, Pairs.PairCommand, Pairs
 use Rattle.ord_script.specs.{declared.fault.Fault.Fault, declared.form.Form.Form}
 use Rattle.ord_machine.specs.declared.reply.Reply.TheVariants.{Inserted, Refused, Found, Similar, Count, Item, Removed, Renewed, Changed, At, Links, Entries, Ranks, Done, ReductionRefused, Sorted, Stats}
 
--- index and generation, as 1.2
+-- an index and a generation, as 1.2
 abbrev pub pointer_text : Pointer → List ℕ
 pointer_text p = decimal p.0 ++ codes "." ++ decimal p.1
 
--- key and value, as -50:1
+-- a key and a value, as -50:1
 abbrev pub pair_text : Pair → List ℕ
 pair_text pair = signed_decimal pair.0 ++ codes ":" ++ decimal pair.1
 
@@ -36,14 +36,14 @@ abbrev pub maximum_text : Option ℕ → List ℕ
 maximum_text (Some maximum) = decimal maximum
 maximum_text None = codes "none"
 
--- why a command was refused
+-- why a command failed
 abbrev pub refusal_text : OrdInsertionError → List ℕ
 refusal_text FailedOrdRequirement = codes "order"
 refusal_text NotWithinCapacity = codes "capacity"
 refusal_text BeyondMaxCapacity = codes "maximum"
 refusal_text AllocError = codes "memory"
 
--- a text that was written on, and that has these bytes more where that went well
+-- text was added: if that succeeded, these bytes follow the old ones
 abbrev pub Adds : {A E : Type 0} → Result (Unit {0}) E → String A → String A → List ℕ → Type 0
 Adds result old new bytes = OnOk result (string_bytes new ≡ string_bytes old ++ bytes)
 
@@ -66,18 +66,18 @@ abbrev pub insertion_text : OrdEntryKind Pointer → Option Pair → List ℕ
 insertion_text (New p) before = codes "new " ++ pointer_text p ++ before_text before
 insertion_text (Replacing p) before = codes "replaced " ++ pointer_text p ++ before_text before
 
--- the pointer of an entry, if it is there
+-- the pointer of an entry, if there is one
 abbrev pub optional_pointer_text : Option Pointer → List ℕ
 optional_pointer_text (Some p) = codes "at " ++ pointer_text p
 optional_pointer_text None = codes "none"
 
--- how a key lies to an entry's
+-- how a key compares to an entry's
 abbrev pub order_text : Ordering → List ℕ
 order_text Less = codes "less"
 order_text Equal = codes "equal"
 order_text Greater = codes "greater"
 
--- the pointer of a similar entry with the order, if there is one
+-- the pointer of a similar entry and the order, if there is one
 abbrev pub similar_text : Option (Pointer × Ordering) → List ℕ
 similar_text (Some a) = codes "similar " ++ pointer_text a.0 ++ codes " " ++ order_text a.1
 similar_text None = codes "none"
@@ -91,23 +91,23 @@ abbrev pub item_text : List ℕ → Option Pair → List ℕ
 item_text word (Some pair) = word ++ codes " " ++ pair_text pair
 item_text word None = codes "none"
 
--- an answer that may tell that the generation began again
+-- an overflow of the generations, if there was one
 abbrev pub overflow_text : Bool → List ℕ
 overflow_text true = codes " overflow"
 overflow_text false = []
 
--- what was taken out under a pointer, or at an index
+-- the removed item of a pointer, or of an index
 abbrev pub taken_text : Form → Pointer × Pair → List ℕ
 taken_text WithPointer taken = pointer_text taken.0 ++ codes " " ++ pair_text taken.1
 taken_text form taken = pair_text taken.1
 
--- what a pointer, or an index, said was done with
+-- the result for a valid pointer or index, or that it is invalid
 abbrev pub valid_text : {X : Type 0} → (X → List ℕ) → InvalidationResult X → List ℕ
 valid_text shown (Success x) = shown x ++ overflow_text false
 valid_text shown (GenerationOverflow x) = shown x ++ overflow_text true
 valid_text shown InvalidPtr = codes "invalid"
 
--- a change of all
+-- a change of all entries
 abbrev pub change_word : Form → List ℕ
 change_word Cleared = codes "cleared"
 change_word form = codes "ok"
@@ -117,7 +117,7 @@ abbrev pub links_text : Option (Option ℕ × Option ℕ) → List ℕ
 links_text (Some both) = codes "neighbours " ++ neighbour_text both.0 ++ codes " " ++ neighbour_text both.1
 links_text None = codes "none"
 
--- the entries that there are, or that were taken out
+-- the entries of the arena, or the removed ones
 abbrev pub entries_word : Form → List ℕ
 entries_word Drained = codes "drained"
 entries_word form = codes "list"
@@ -127,13 +127,13 @@ abbrev pub sorted_text : Bool → List ℕ
 sorted_text true = codes "ok"
 sorted_text false = codes "incorrect ordering"
 
--- the numbers that go with the entries
+-- the numbers of the arena
 abbrev pub stats_text : ℕ → ℕ → ℕ → Option ℕ → List ℕ
 stats_text len capacity generation maximum =
     codes "len " ++ decimal len ++ codes " capacity " ++ decimal capacity ++ codes " generation " ++ decimal generation
     ++ codes " max " ++ maximum_text maximum
 
--- what is said of a reply
+-- the text of a reply
 abbrev pub reply_text : {A : Type 0} → Form → PairReply A → List ℕ
 reply_text form (Inserted kind before) = insertion_text kind before
 reply_text form (Refused refusal) = codes "refused " ++ refusal_text refusal
@@ -167,7 +167,7 @@ kind_text BadNumber = codes "bad number"
 abbrev pub fault_text : Fault → List ℕ
 fault_text fault = codes "line " ++ decimal fault.line ++ codes ": " ++ kind_text fault.kind
 
--- the line of the fault, if there is one
+-- the line of the fault, if any
 abbrev pub fault_line : Option Fault → List ℕ
 fault_line None = []
 fault_line (Some fault) = fault_text fault ++ 10 ∷ []

@@ -1,4 +1,4 @@
-//! Reads the arguments of a command.
+//! Reading the arguments of a command.
 ghost use Rattle.std.specs.Prelude.{◌≡◌, None, Some, MatchOption};
 ghost use Rattle.ord_script.specs.Arguments.{arguments_in};
 
@@ -9,20 +9,19 @@ use crate::pairs::Pair;
 use arena_base::P0;
 use triple_ord::OrdPair;
 
-/// What some words of a line are read as.
+/// A value read from some words of a line.
 pub trait Arguments: Sized + Drop {
     ghost use Rattle.ord_script.specs.Arguments.{Reader};
 
     ghost reader: { Reader Self };
 
-    /// Reads them from the front of the words: `None` where these are too few, `Some(None)` where
-    /// one of them isn't what it has to be.
+    /// Reads a value from the front of the words: `None` if there are too few, `Some(None)` if one of them is invalid.
     fn read(words: &mut Words<'_>) -> Option<Option<Self>>
         ensures { MatchOption result (reader words.old ≡ None)
             (λ read. reader words.old ≡ Some (read, words.new)) };
 }
 
-/// What all of the words are read as. Their number is looked at first.
+/// Reads a value from all of the words. Their number is checked first.
 #[tactic(auto, unfolding(crate::specs::Arguments::arguments_in))]
 pub fn arguments_in<T: Arguments>(mut words: Words<'_>) -> Result<T, FaultKind>
     ensures { result ≡ arguments_in T.reader words.entry }
@@ -135,7 +134,7 @@ impl Arguments for Pair {
     }
 }
 
-/// One after another.
+/// Two values, one after the other.
 impl<A: Arguments, B: Arguments> Arguments for (A, B) {
     ghost use Rattle.ord_script.specs.Arguments.{both};
 

@@ -1,4 +1,4 @@
-//! Cuts a script into lines, and a line into words.
+//! Cutting a script into lines, and a line into words.
 ghost use Rattle.std.specs.Prelude.{◌≡◌, ◌==◌, [], ◌∷◌, ◌<◌, not, length, IfSome, MatchOption, position};
 ghost use Rattle.std.specs.Str.Lines.{lines, strip_carriage_return};
 ghost use Rattle.ord_script.specs.Script.{is_blank, words_of};
@@ -21,7 +21,7 @@ impl<'a> Model for Words<'a> {
 }
 
 impl<'a> Words<'a> {
-    /// The words of a line: what stands between spaces and tabs.
+    /// Creates the words of a line: what is between spaces and tabs.
     pub fn new(line: &'a [u8]) -> Self
         ensures { result ≡ words_of line.now }
     {
@@ -45,8 +45,7 @@ impl<'a> Iterator for Words<'a> {
     }
 }
 
-/// The first line, and what comes after it. A line ends with LF or CR LF, which is no part of it,
-/// and the last one may end with the bytes.
+/// Returns the first line and the rest. A line ends with LF or CR LF, which isn't part of it; the last line may end with the bytes.
 pub fn first_line(bytes: &[u8]) -> Option<(&[u8], &[u8])>
     ensures shorter { IfSome result (λ cut. length cut.1.now < length bytes.now) }
     ensures cut { MatchOption result (lines bytes.now ≡ [])
@@ -61,14 +60,14 @@ pub fn first_line(bytes: &[u8]) -> Option<(&[u8], &[u8])>
     }
 }
 
-/// The position of the first LF.
+/// Returns the position of the first LF.
 fn newline(bytes: &[u8]) -> Option<usize>
     ensures { result ≡ position (λ b. b == 10) bytes.now }
 {
     bytes.iter().position(|b| *b == b'\n')
 }
 
-/// The line without the CR at its end, if it has one.
+/// Returns the line without the CR at its end, if any.
 fn without_return(line: &[u8]) -> &[u8]
     ensures { result.now ≡ strip_carriage_return line.now }
 {
@@ -78,7 +77,7 @@ fn without_return(line: &[u8]) -> &[u8]
     }
 }
 
-/// The first word, and what comes after it.
+/// Returns the first word and the rest.
 fn first_word(line: &[u8]) -> Option<(&[u8], &[u8])>
     ensures { MatchOption result (words_of line.now ≡ [])
         (λ cut. words_of line.now ≡ cut.0.now ∷ words_of cut.1.now) }
@@ -90,21 +89,21 @@ fn first_word(line: &[u8]) -> Option<(&[u8], &[u8])>
     }
 }
 
-/// The position of the first byte that is no blank.
+/// Returns the position of the first byte that isn't a blank.
 fn word_start(bytes: &[u8]) -> Option<usize>
     ensures { result ≡ position (λ b. not (is_blank b)) bytes.now }
 {
     bytes.iter().position(|b| !is_blank(*b))
 }
 
-/// The position of the first blank.
+/// Returns the position of the first blank.
 fn word_end(bytes: &[u8]) -> Option<usize>
     ensures { result ≡ position is_blank bytes.now }
 {
     bytes.iter().position(|b| is_blank(*b))
 }
 
-/// A space or a tab.
+/// Returns whether a byte is a space or a tab.
 fn is_blank(b: u8) -> bool
     ensures { result ≡ is_blank b }
 {

@@ -1,14 +1,14 @@
-//! What is wrong with a line of a script.
+//! Faults in a line of a script.
 use std::fmt;
 
-/// Why a line is no command.
+/// Why a line isn't a command.
 #[derive(Clone, Copy, Debug, PartialEq, Eq)]
 pub enum FaultKind {
     /// No command begins with the line's first word.
     UnknownCommand,
     /// The command takes another number of arguments.
     WrongArguments,
-    /// An argument is no number, or one out of its range.
+    /// An argument isn't a number, or is out of range.
     BadNumber,
 }
 
@@ -27,7 +27,7 @@ impl fmt::Display for FaultKind {
     }
 }
 
-/// The first line that is no command, counted from 1, and why.
+/// The first line that isn't a command, counted from 1, and why.
 #[derive(Clone, Copy, Debug)]
 pub struct Fault {
     pub line: usize,

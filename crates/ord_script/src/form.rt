@@ -6,7 +6,7 @@ use crate::pairs::PairCommand;
 use ord_machine::Command;
 use std::alloc::{AllocError, Allocator};
 
-/// The form of a reply: that of its kind, unless its command is named here.
+/// The form of a reply. It follows from the reply's kind, except for the commands named here.
 #[derive(Clone, Copy, Debug)]
 pub enum Form {
     Plain,
@@ -16,11 +16,11 @@ pub enum Form {
     WithPointer,
     /// `Command::Clear`: no entry is left.
     Cleared,
-    /// `Command::DrainOrdered`: the entries were taken out.
+    /// `Command::DrainOrdered`: the entries were removed.
     Drained,
 }
 
-/// The forms of the replies to these commands.
+/// Returns the forms of the replies to these commands.
 pub fn forms_of<A: Allocator>(
     alloc: A,
     commands: &[PairCommand],
@@ -33,7 +33,7 @@ pub fn forms_of<A: Allocator>(
         .collect(alloc)
 }
 
-/// The form of the reply to a command.
+/// Returns the form of the reply to a command.
 fn form_of(command: &PairCommand) -> Form
     ensures { result ≡ form_of command.now }
 {

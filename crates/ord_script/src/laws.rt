@@ -1,4 +1,4 @@
-//! Laws of scripts. Each function here does nothing, and its contract is a law: a fact about every script.
+//! Laws of scripts. The functions here do nothing. The contract of each is the law: a fact about every script.
 
 ghost use Rattle.ord_script.specs.Laws.{FirstRankTextLaw, KeyTextLaw, PointerTextLaw, CommandTextLaw, CommandWordLaw, ScriptTextLaw};
 
@@ -10,27 +10,27 @@ pub fn first_rank_text_law<A: Allocator>()
     ensures { FirstRankTextLaw A }
 {}
 
-/// The text of a key, read, is the key.
+/// Reading the text of a key gives the key.
 pub fn key_text_law()
     ensures { KeyTextLaw }
 {}
 
-/// The text of a pointer, read, is the pointer.
+/// Reading the text of a pointer gives the pointer.
 pub fn pointer_text_law()
     ensures { PointerTextLaw }
 {}
 
-/// What a script says for a command is read as this command.
+/// Reading what a script says for a command gives the command.
 pub fn command_text_law()
     ensures { CommandTextLaw }
 {}
 
-/// The word that begins a command is the one that a script says for it.
+/// The first word of a command is the one that a script says for it.
 pub fn command_word_law()
     ensures { CommandWordLaw }
 {}
 
-/// The lines of some commands, cut and read, are these commands and no fault.
+/// Cutting and reading the lines of some commands gives these commands and no fault.
 pub fn script_text_law()
     ensures { ScriptTextLaw }
 {}

@@ -1,7 +1,7 @@
 //! Commands to an ordered arena, and scripts of them: bytes in, replies out.
 //!
-//! `run` runs commands on any `SimpleOrdArena`, and answers a reply to each. `serve` reads a whole script, runs its commands on an
-//! arena of pairs, and writes a line for each reply. `laws` has facts about every run and every script.
+//! `run` runs commands on any `SimpleOrdArena`, and returns a reply to each. `serve` reads a whole script, runs its commands on an arena
+//! of pairs, and writes a line for each reply. `laws` states facts about every run and every script.
 #![tactic(auto)]
 
 mod arguments;

@@ -1,10 +1,10 @@
-//! Reads the numbers and pointers of a script.
+//! Reading the numbers and pointers of a script.
 ghost use Rattle.std.specs.Prelude.{◌≡◌, position};
 ghost use Rattle.ord_script.specs.Numbers.{number_up_to, key_of, value_of, index_of, flag_of, pointer_of, is_point};
 
 use arena_base::{BasePtr, P0};
 
-/// A key: decimal digits, which may have a `-` before them.
+/// Reads a key: decimal digits, with an optional `-` before them.
 pub fn key_of(word: &[u8]) -> Option<i64>
     ensures { result ≡ key_of word.now }
 {
@@ -20,14 +20,14 @@ pub fn key_of(word: &[u8]) -> Option<i64>
     }
 }
 
-/// A value, or a generation: decimal digits.
+/// Reads a value or a generation: decimal digits.
 pub fn value_of(word: &[u8]) -> Option<u64>
     ensures { result ≡ value_of word.now }
 {
     number_up_to(u64::MAX, word)
 }
 
-/// An index: decimal digits.
+/// Reads an index: decimal digits.
 pub fn index_of(word: &[u8]) -> Option<u32>
     ensures { result ≡ index_of word.now }
 {
@@ -35,7 +35,7 @@ pub fn index_of(word: &[u8]) -> Option<u32>
     Some(number as u32)
 }
 
-/// A flag: a number that is 0 or 1.
+/// Reads a flag: the number 0 or 1.
 pub fn flag_of(word: &[u8]) -> Option<bool>
     ensures { result ≡ flag_of word.now }
 {
@@ -43,7 +43,7 @@ pub fn flag_of(word: &[u8]) -> Option<bool>
     Some(number == 1)
 }
 
-/// A pointer: an index and a generation, with a point between them.
+/// Reads a pointer: an index and a generation, with a point between them.
 pub fn pointer_of(word: &[u8]) -> Option<P0>
     ensures { result ≡ pointer_of word.now }
 {
@@ -53,15 +53,15 @@ pub fn pointer_of(word: &[u8]) -> Option<P0>
     Some(P0::_from_raw(index, generation))
 }
 
-/// The position of the first point.
+/// Returns the position of the first point.
 fn first_point(word: &[u8]) -> Option<usize>
     ensures { result ≡ position is_point word.now }
 {
     word.iter().position(|b| *b == b'.')
 }
 
-/// The number that decimal digits write, where it is at most the greatest one. It is exact: any
-/// number of zeros may stand in front, and what is too great is not taken for something else.
+/// Returns the number in decimal digits, if it is at most `greatest`. It is exact: leading zeros are allowed, and a number that is too
+/// great is never taken for another one.
 fn number_up_to(greatest: u64, word: &[u8]) -> Option<u64>
     ensures { result ≡ number_up_to greatest word.now }
 {

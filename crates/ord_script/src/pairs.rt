@@ -1,4 +1,4 @@
-//! What a script's arena holds: pairs of a key and a value under pointers. How they are written.
+//! The contents of a script's arena, pairs of a key and a value under pointers, and how they are printed.
 use arena_base::{BasePtr, P0};
 use ord_machine::{Command, Reply};
 use std::fmt;
@@ -10,13 +10,13 @@ pub type Pair = OrdPair<i64, u64>;
 /// A script's arena.
 pub type PairArena<A> = SimpleOrdArena<P0, Pair, A>;
 
-/// A command to it.
+/// A command to such an arena.
 pub type PairCommand = Command<P0, Pair>;
 
 /// Its reply.
 pub type PairReply<A> = Reply<P0, Pair, A>;
 
-/// A pointer as a script writes it, as `1.2`.
+/// A pointer as a script writes it, such as `1.2`.
 #[derive(Clone, Copy)]
 pub struct ShownPointer(pub P0);
 
@@ -33,7 +33,7 @@ impl fmt::Display for ShownPointer {
     }
 }
 
-/// A pair as a script writes it, as `-50:1`.
+/// A pair as a script writes it, such as `-50:1`.
 #[derive(Clone, Copy)]
 pub struct ShownPair(pub Pair);
 
@@ -49,7 +49,7 @@ impl fmt::Display for ShownPair {
     }
 }
 
-/// The pair that was there before, behind a space, if there was one.
+/// The previous pair after a space, if there was one.
 #[derive(Clone, Copy)]
 pub struct ShownBefore(pub Option<Pair>);
 
@@ -106,7 +106,7 @@ impl fmt::Display for ShownMaximum {
     }
 }
 
-/// ` overflow` where the generations began again, else nothing.
+/// ` overflow` if the generations overflowed, else nothing.
 #[derive(Clone, Copy)]
 pub struct ShownOverflow(pub bool);
 

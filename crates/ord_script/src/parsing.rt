@@ -1,4 +1,4 @@
-//! Reads the command that a line gives.
+//! Reading the command of a line.
 ghost use Rattle.std.specs.Prelude.{◌≡◌};
 ghost use Rattle.ord_script.specs.Commands.{without_arguments, command_by, said_by, nonhereditary, linear, nonhereditary_linear, entry_beside, set, rekey, find_linear, similar_linear};
 ghost use Rattle.ord_script.specs.Commands as spec;
@@ -14,9 +14,8 @@ use ord_machine::Command;
 use std::cmp::Ordering;
 use triple_ord::OrdInsertKind;
 
-/// What a line says: nothing, where it has no words or begins with `#`; else a command, or what is
-/// wrong with it. The first word is looked at first, then the number of words, then each argument
-/// from the left.
+/// Returns the command of a line, or its fault; `None` if the line has no words or begins with `#`. The first word is checked first, then
+/// the number of words, then each argument from the left.
 pub fn command_in(line: &[u8]) -> Option<Result<PairCommand, FaultKind>>
     ensures { result ≡ said_by (words_of line.now) }
 {
@@ -35,7 +34,7 @@ fn command_of(first: &[u8], arguments: Words<'_>) -> Result<PairCommand, FaultKi
     command_by(word, arguments)
 }
 
-/// The command that a word begins.
+/// Returns the command that begins with a word.
 fn command_by(word: Word, arguments: Words<'_>) -> Result<PairCommand, FaultKind>
     ensures { result ≡ command_by word arguments.entry }
 {
@@ -77,14 +76,14 @@ fn command_by(word: Word, arguments: Words<'_>) -> Result<PairCommand, FaultKind
     }
 }
 
-/// A pair beside those with an equal key, as a new entry.
+/// Returns the insertion of a pair as a new entry beside those with an equal key.
 fn nonhereditary(pair: Pair) -> PairCommand
     ensures { result ≡ nonhereditary pair }
 {
     Command::Entry(OrdInsertKind::Nonhereditary(*pair.k()), pair)
 }
 
-/// A pair by its key, from a hint: an index and a number of steps.
+/// Returns the insertion of a pair by its key, from a hint: an index and a number of steps.
 fn linear(arguments: (u32, (usize, Pair))) -> PairCommand
     ensures { result ≡ linear arguments }
 {
@@ -93,7 +92,7 @@ fn linear(arguments: (u32, (usize, Pair))) -> PairCommand
     Command::Entry(OrdInsertKind::Linear { p_init, num, k }, pair)
 }
 
-/// The same, as a new entry beside those with an equal key.
+/// Returns the same insertion, as a new entry beside those with an equal key.
 fn nonhereditary_linear(arguments: (u32, (usize, Pair))) -> PairCommand
     ensures { result ≡ nonhereditary_linear arguments }
 {
@@ -102,7 +101,7 @@ fn nonhereditary_linear(arguments: (u32, (usize, Pair))) -> PairCommand
     Command::Entry(OrdInsertKind::NonhereditaryLinear { p_init, num, k }, pair)
 }
 
-/// A pair before, at or after the entry with an index.
+/// Returns the insertion of a pair before, at or after the entry with an index.
 fn entry_beside(direction: Ordering, arguments: (u32, Pair)) -> PairCommand
     ensures { result ≡ entry_beside direction arguments }
 {
@@ -116,7 +115,7 @@ fn entry_beside(direction: Ordering, arguments: (u32, Pair)) -> PairCommand
     )
 }
 
-/// Another item for the entry that a pointer names.
+/// Returns the replacement of the item of a pointer's entry.
 fn set(arguments: (P0, Pair)) -> PairCommand
     ensures { result ≡ set arguments }
 {
@@ -124,7 +123,7 @@ fn set(arguments: (P0, Pair)) -> PairCommand
     Command::Set(p, pair)
 }
 
-/// Another item for the entry that a pointer names, which goes to the place of the item's key.
+/// Returns the same replacement, with a move of the entry to the place of the new key.
 fn rekey(arguments: (P0, Pair)) -> PairCommand
     ensures { result ≡ rekey arguments }
 {
@@ -132,7 +131,7 @@ fn rekey(arguments: (P0, Pair)) -> PairCommand
     Command::Rekey(p, pair)
 }
 
-/// A search for a key from the entry that a pointer names.
+/// Returns the search for a key from the entry of a pointer.
 fn find_linear(arguments: (P0, (usize, i64))) -> PairCommand
     ensures { result ≡ find_linear arguments }
 {
@@ -140,7 +139,7 @@ fn find_linear(arguments: (P0, (usize, i64))) -> PairCommand
     Command::FindLinear(p, num, key)
 }
 
-/// A search beside a key from the entry at an index.
+/// Returns the search for a similar key from the entry at an index.
 fn similar_linear(arguments: (u32, (usize, i64))) -> PairCommand
     ensures { result ≡ similar_linear arguments }
 {
@@ -148,7 +147,7 @@ fn similar_linear(arguments: (u32, (usize, i64))) -> PairCommand
     Command::SimilarLinear(i, num, key)
 }
 
-/// A command without arguments.
+/// Returns a command without arguments.
 fn without_arguments(command: PairCommand, arguments: Words<'_>) -> Result<PairCommand, FaultKind>
     ensures { result ≡ without_arguments command arguments.entry }
 {

@@ -1,4 +1,4 @@
-//! Reads a whole input, up to a limit, and tries nothing again.
+//! Reading a whole input, up to a limit, without retries.
 ghost use Rattle.std.specs.Prelude.{◌≡◌, ◌||◌, ◌≤◌, ◌+◌, vec_len, is_ok};
 ghost use Rattle.std.specs.Result.{result_map_both};
 ghost use Rattle.ord_script.specs.Devices.{limit, is_failure, is_end, ReadsSome, ReadsAll};
@@ -7,13 +7,13 @@ use crate::watched::Watched;
 use std::alloc::{AllocError, Allocator};
 use std::io::Read;
 
-/// The most bytes that a script may have.
+/// The greatest number of bytes in a script.
 const LIMIT: usize = 1_048_576;
 
-/// How many bytes one read may bring.
+/// The greatest number of bytes in one read.
 const CHUNK: usize = 4096;
 
-/// Why an input was not taken in.
+/// Why an input wasn't read.
 #[derive(Clone, Copy, Debug)]
 pub enum ReadError {
     TooLong,
@@ -32,7 +32,7 @@ impl From<AllocError> for ReadError {
     }
 }
 
-/// Reads all bytes up to the reader's end, and stops at the first one beyond the limit, or at the first read that fails.
+/// Reads all bytes up to the reader's end. Stops at the first byte beyond the limit, or at the first read that fails.
 pub fn read_all<R: Read, A: Allocator>(
     alloc: A,
     reader: &mut Watched<R>,
@@ -51,7 +51,7 @@ pub fn read_all<R: Read, A: Allocator>(
     Err(ReadError::TooLong)
 }
 
-/// Reads once, no more than one byte beyond the limit, and returns how many bytes came. A read that fails takes none.
+/// Reads once, at most one byte beyond the limit, and returns how many bytes came. A read that fails takes none.
 fn read_some<R: Read, A: Allocator>(
     reader: &mut Watched<R>,
     bytes: &mut Vec<u8, A>,

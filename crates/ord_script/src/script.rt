@@ -1,4 +1,4 @@
-//! Reads a whole script.
+//! Reading a whole script.
 ghost use Rattle.std.specs.Prelude.{◌≡◌, IfOk};
 ghost use Rattle.ord_script.specs.Script.{script_of};
 
@@ -9,7 +9,7 @@ use crate::parsing::command_in;
 use std::alloc::{AllocError, Allocator};
 use std::marker::Model;
 
-/// The commands of a script up to its first fault, and that fault, if there is one.
+/// The commands of a script up to its first fault, and that fault, if any.
 #[derive(Drop)]
 pub struct Script<A: Allocator> {
     pub commands: Vec<PairCommand, A>,
@@ -24,7 +24,7 @@ impl<A: Allocator> Model for Script<A> {
     ghost view = { λ a. record { commands = a.commands.items; fault = a.fault } };
 }
 
-/// Reads the bytes of a script.
+/// Parses the bytes of a script.
 pub fn parse<A: Allocator>(alloc: A, bytes: &[u8]) -> Result<Script<A>, AllocError>
     ensures { IfOk result (λ script. script ≡ script_of bytes.now) }
 {

@@ -12,8 +12,7 @@ use std::io::Write;
 pub enum ScriptEnd {
     /// Every command was answered.
     Done,
-    /// The commands before this line were answered, and then what is wrong with it was written.
-    /// Lines are counted from 1.
+    /// The commands before this line, counted from 1, were answered, and then its fault was written.
     Fault(usize, FaultKind),
     /// The input has more than 1,048,576 bytes. Nothing was written.
     TooLong,
@@ -40,7 +39,7 @@ impl ScriptEnd {
         }
     }
 
-    /// Returns the line for standard error, or the empty text.
+    /// Returns the line for standard error; empty if there is none.
     pub fn message(&self) -> &'static str
         ensures { result.now ≡ message_of self.now }
     {
@@ -53,7 +52,7 @@ impl ScriptEnd {
         }
     }
 
-    /// Writes the message of this end to standard error, or to what stands in for it, and returns the exit status.
+    /// Writes the message of this end to standard error, or to a device in its place, and returns the exit status.
     ///
     /// If a write fails, the rest of the message is lost, and the status is the same.
     pub fn report<E: Write>(&self, errors: &mut Watched<E>) -> u8

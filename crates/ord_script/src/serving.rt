@@ -1,4 +1,4 @@
-//! Reads a script, runs it, and writes its answer.
+//! Reading a script, running it, and writing its answer.
 ghost use Rattle.std.specs.Prelude.{◌≡◌, ◌||◌, true, false, IfOk, string_bytes};
 ghost use Rattle.std.specs.Io.KnownBytes.{IsAtEnd};
 ghost use Rattle.ord_machine.specs.Machine.{State, Runs};
@@ -21,18 +21,17 @@ use std::cmp::Ordering;
 use std::io::{Read, Write};
 use triple_ord::SimpleOrdArena;
 
-/// Reads a whole script, runs its commands on an empty arena, and writes the answer: a line for each reply, and one for the first fault, if
-/// there is one.
+/// Reads a whole script, runs its commands on an empty arena, and writes the answer: a line for each reply, and one for the first fault,
+/// if any.
 ///
-/// All memory comes from `alloc`. Nothing is written before the whole answer is made, and no read or write that failed is tried again.
-/// The input has at most 1,048,576 bytes, because script, replies and answer are held in memory at once; reading stops at the first byte
-/// beyond.
+/// All memory comes from `alloc`. Nothing is written before the whole answer is ready, and no failed read or write is retried. The input
+/// has at most 1,048,576 bytes, because script, replies and answer are in memory at once. Reading stops at the first byte beyond.
 pub fn serve<R: Read, W: Write, A: Allocator + Copy>(
     alloc: A,
     reader: &mut Watched<R>,
     writer: &mut Watched<W>,
 ) -> ScriptEnd
-    // What is written answers what was read.
+    // What was written answers what was read.
     ensures served { Serves A result (R.remaining reader.old.device) (R.remaining reader.new.device)
         (W.contents writer.old.device) (W.contents writer.new.device) }
 
@@ -43,7 +42,7 @@ pub fn serve<R: Read, W: Write, A: Allocator + Copy>(
     ensures nothing_unread { is_answered result ≡ true
         → IsAtEnd (R.remaining reader.new.device) }
 
-    // Where nothing is written, the writer isn't touched.
+    // If nothing is written, the writer isn't touched.
     ensures untouched { is_answered result ≡ false → writer.new ≡ writer.old }
 {
     let bytes = match read_all(alloc, reader) {
@@ -61,7 +60,7 @@ pub fn serve<R: Read, W: Write, A: Allocator + Copy>(
     }
 }
 
-/// The answer to a script, and how the script ends where all of it is written.
+/// The answer to a script, and the script's end if all of it is written.
 #[derive(Drop)]
 struct Answer<A: Allocator> {
     text: String<A>,
@@ -93,7 +92,7 @@ fn replies_to<A: Allocator + Copy>(
         × Runs reading script_calls beginning tt commands.items replies.items end tt) }
 {
     let mut arena: PairArena<A> = SimpleOrdArena::new(alloc);
-    // no line of a script searches by a closure
+    // No line of a script searches by a closure.
     let mut closure = |_p: P0, _pair: &Pair| Ordering::Equal;
     run(alloc, &mut arena, commands, &mut closure)
 }

@@ -1,4 +1,4 @@
-//! Writes the lines that a script answers.
+//! Writing the lines of the answer to a script.
 ghost use Rattle.std.specs.Prelude.{◌≡◌, ◌++◌, [], ◌∷◌, IfOk, string_bytes, codes, flat_map, decimal};
 ghost use Rattle.ord_script.specs.Text.{Adds, reply_lines, reply_text, fault_line, insertion_text, optional_pointer_text, similar_text, order_text, item_word, item_text, taken_text, pointer_text, overflow_text, valid_text, change_word, links_text, entries_word, entry_text, sorted_text, stats_text, refusal_text};
 ghost use Rattle.arena_base.specs.Invalidation.{is_overflow};
@@ -16,7 +16,7 @@ use std::cmp::Ordering;
 use std::fmt::Write;
 use triple_ord::{OrdEntryKind, OrdInsertionError};
 
-/// A line for each reply, and one for the fault, if there is one. Beside the replies stand their forms.
+/// Returns a line for each reply, and one for the fault, if any. `forms` has the form of each reply.
 pub fn text_of<A: Allocator>(
     alloc: A,
     forms: &[Form],
@@ -47,7 +47,7 @@ fn lines_of<A: Allocator>(
     Ok(text)
 }
 
-/// The line of a reply.
+/// Adds the line of a reply.
 fn push_reply<A: Allocator>(
     text: &mut String<A>,
     form: Form,
@@ -109,7 +109,7 @@ fn push_refusal<A: Allocator>(
     write!(text, "refused {why}\n")
 }
 
-/// Why a command was refused, in a word.
+/// Returns why a command failed, in a word.
 fn reason(refusal: OrdInsertionError) -> &'static str
     ensures { result.now ≡ refusal_text refusal }
 {
@@ -152,7 +152,7 @@ fn push_similar<A: Allocator>(
     }
 }
 
-/// How a key lies to an entry's, in a word.
+/// Returns how a key compares to an entry's, in a word.
 fn order_word(order: Ordering) -> &'static str
     ensures { result.now ≡ order_text order }
 {

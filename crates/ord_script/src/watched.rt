@@ -8,8 +8,7 @@ use std::io;
 use std::io::{Read, Write};
 use std::marker::Model;
 
-/// A device that is read or written exactly as it is, and that remembers two things about it:
-/// whether a call has failed, and whether a read has met the end.
+/// A device that passes every read and write through unchanged, and remembers whether a call failed and whether a read met the end.
 #[derive(Debug, Drop)]
 pub struct Watched<D> {
     device: D,
@@ -26,7 +25,7 @@ impl<D> Model for Watched<D> {
 }
 
 impl<D> Watched<D> {
-    /// Watches a device, from now on.
+    /// Watches a device from now on.
     pub fn new(device: D) -> Self
         ensures device { result.device ≡ device }
         ensures failed { result.failed ≡ false }

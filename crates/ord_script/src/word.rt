@@ -1,4 +1,4 @@
-//! The words that begin a command.
+//! The first words of commands.
 ghost use Rattle.std.specs.Prelude.{◌≡◌};
 ghost use Rattle.ord_script.specs.Commands.{word_text, all_words, word_in};
 
@@ -80,7 +80,7 @@ const WORDS: [Word; 34] = [
 ];
 
 impl Word {
-    /// How a script writes it.
+    /// Returns the text of the word in a script.
     pub fn text(self) -> &'static str
         ensures { result.now ≡ word_text self }
     {
@@ -123,7 +123,7 @@ impl Word {
     }
 }
 
-/// The word that has this text.
+/// Returns the word with this text.
 pub fn word_in(text: &[u8]) -> Option<Word>
     ensures { result ≡ word_in all_words text.now }
 {

@@ -1,11 +1,11 @@
-//! Writes a whole text, and tries nothing again.
+//! Writing a whole text, without retries.
 ghost use Rattle.std.specs.Prelude.{◌≡◌, ◌||◌, is_err};
 ghost use Rattle.ord_script.specs.Devices.{WritesAll};
 
 use crate::watched::Watched;
 use std::io::Write;
 
-/// The writer answered an error, or took none of the bytes that were left.
+/// The writer returned an error, or took none of the bytes that were left.
 #[derive(Clone, Copy, Debug)]
 pub struct WriteFailed;
 

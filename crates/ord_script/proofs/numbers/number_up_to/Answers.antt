@@ -6,7 +6,7 @@ use Rattle.ord_script.specs.Numbers.{number_up_to}
 use Rattle.ord_script.proofs.Digits.{all_ascii_digits_bad, all_ascii_digits_more}
 use Rattle.ord_script.proofs.numbers.number_up_to.Goals as goal
 
--- a byte that is no digit
+-- a byte that isn't a digit
 no_digit : (greatest : ℕ) (word : List ℕ) → all_ascii_digits word ≡ false → None ≡ number_up_to greatest word
 no_digit greatest word bad =
     rw bad (elim (nat_lt 0 (length word)) as (λ some. None ≡ cond (some && false && nat_le (digits_value 10 word) greatest) (Some (digits_value 10 word)) None) [ true ↦ refl | false ↦ refl ])

@@ -6,7 +6,7 @@ use Rattle.ord_script.specs.{Devices.limit, Devices.ReadsSome, Devices.ReadsAll,
 use Rattle.ord_script.proofs.KnownBytes.{Consumes-append}
 use Rattle.ord_script.proofs.reading.read_all.Goals as goal
 
--- a read that fails ends the whole
+-- a read that fails ends the whole read
 module _ (first before after : Option (List ℕ)) (bytes new : List ℕ) (so_far : Consumes first before bytes) (short : length bytes ≤ limit) where
   ends : (e : ReadError) → ReadsSome (Err e) before after bytes new → ReadsAll (Err e) first after
   ends TooLong some = absurd some.piece

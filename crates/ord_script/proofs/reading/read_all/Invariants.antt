@@ -3,7 +3,7 @@ use Rattle.std.specs.Io.KnownBytes.{Consumes}
 use Rattle.ord_script.specs.Devices.{limit}
 use Rattle.ord_script.proofs.reading.read_all.Given as goal
 
--- the bytes so far were taken from the reader, and neither an error nor the end has come
+-- the bytes so far were taken from the reader, and there was no error and no end yet
 abbrev pub invariant-loop-reader : goal.invariant-loop-reader
 invariant-loop-reader g l =
     let remaining = g.R.Read.remaining in

@@ -4,7 +4,7 @@ use Rattle.ord_script.specs.Script.{script_from, script_of}
 use Rattle.ord_script.proofs.ScriptLemmas.{in_front}
 use Rattle.ord_script.proofs.script.parse.Given as goal
 
--- the commands so far, and then the script of the lines that are left
+-- the commands so far, followed by the script of the lines that are left
 abbrev pub invariant-loop-line : goal.invariant-loop-line
 invariant-loop-line g l = record {
   script : in_front l.commands.items (script_from (l.number + 1) (lines l.rest)) ≡ script_of l.bytes;

@@ -4,7 +4,7 @@ use Rattle.std.specs.{Iterator.Adapters.zip_first, Iterator.Adapters.zip_second,
 use Rattle.ord_script.specs.{declared.form.Form.Form, Text.reply_lines, Pairs.PairReply}
 use Rattle.ord_script.proofs.text.lines_of.Goals as goal
 
--- no line is left where forms or replies have ended
+-- no line is left if the forms or the replies have ended
 reply_lines_none : {A : Type 0} (forms : List Form) (replies : List (PairReply A)) → (forms ≡ []) ⊎ (replies ≡ []) → reply_lines forms replies ≡ []
 reply_lines_none [] replies ended = refl
 reply_lines_none (f ∷ forms) [] ended = refl

@@ -3,7 +3,7 @@ use Rattle.std.specs.{Iterator.Adapters.zip_first, Iterator.Adapters.zip_second,
 use Rattle.ord_script.specs.Text.{reply_lines}
 use Rattle.ord_script.proofs.text.lines_of.Given as goal
 
--- the lines so far, and then those of what is left
+-- the lines so far, followed by those that are left
 abbrev pub invariant-loop-form : goal.invariant-loop-form
 invariant-loop-form g l =
     string_bytes l.text ++ reply_lines (iter_rest (zip_first l.form-iterator)) (iter_rest (zip_second l.form-iterator)) ≡ reply_lines l.forms l.replies

@@ -2,7 +2,7 @@ use Rattle.std.proofs.Common.{◌≡◌, ℕ, List, ◌++◌, length}
 use Rattle.std.specs.Io.KnownBytes.{Appends}
 use Rattle.ord_script.proofs.writing.write_all.Given as goal
 
--- what was sent and what is left are the bytes, and nothing has failed
+-- what was written and what is left make up the bytes, and nothing has failed
 abbrev pub invariant-loop-rest : goal.invariant-loop-rest
 invariant-loop-rest g l =
     let contents = g.W.Write.contents in
