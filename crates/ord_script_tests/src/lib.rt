@@ -1,5 +1,5 @@
-//! Tests of `ord_script`, as a program that depends on it sees it: the worked examples, broken input, failing devices, heaps of little
-//! room, and what else no clause can say.
+//! Tests of `ord_script` from a dependent program's view: worked examples, broken input, failing devices, small heaps, and facts that no
+//! clause states.
 #![tactic(auto)]
 
 #[cfg(test)]

@@ -1,4 +1,4 @@
-//! Scripts through `serve`, and runs of commands, as a program sees them.
+//! Scripts through `serve`, and runs of commands, from a program's view.
 mod devices;
 mod ends;
 mod hostile;
@@ -8,7 +8,7 @@ mod runs;
 use ord_script::{FaultKind, ScriptEnd, Watched, serve};
 use std::alloc::Global;
 
-/// Scripts that are done, each with its answer.
+/// Scripts that end without a fault, each with its answer.
 const ANSWERS: &[(&[u8], &str)] = &[
     // the commands
     (
@@ -29,7 +29,7 @@ const ANSWERS: &[(&[u8], &str)] = &[
         b"insert 2 0\ninsert -1 0\ninsert 3 0\ninsert 1 0\ninsert 0 0\nfind 1\nlist\n",
         "new 1.2\nnew 2.2\nnew 3.2\nnew 4.2\nnew 5.2\nat 4.2\nlist 2.2=-1:0 5.2=0:0 4.2=1:0 1.2=2:0 3.2=3:0\n",
     ),
-    // the tree, and what stands around the entries
+    // the tree, and the numbers of the arena
     (
         b"insert 50 0\ninsert 30 0\ninsert 70 0\ninsert 60 0\ninsert 10 0\nranks\nvisits 53\nneighbours 4\nstats\n",
         "new 1.2\nnew 2.2\nnew 3.2\nnew 4.2\nnew 5.2\nranks 1 2 3 1 2\nvisits 3\nneighbours 1 3\nlen 5 capacity 8 generation 2 max none\n",
@@ -160,7 +160,7 @@ const ANSWERS: &[(&[u8], &str)] = &[
         b"insert 1 0\ninsert 2 0\nset 1.2 2 9\ncheck\nset 1.2 9 0\ncheck\n",
         "new 1.2\nnew 2.2\nold 1:0\nok\nold 2:9\nincorrect ordering\n",
     ),
-    // an entry goes to the place of another key, behind those with an equal one; a pointer that names none moves nothing
+    // an entry moves to the place of another key, behind duplicates; a stale pointer moves nothing
     (
         b"insert 1 0\ninsert 2 0\ninsert 3 0\nrekey 1.2 9 5\nlist\nranks\nget 1.2\nfind 9\nfind 1\nrekey 1.3 0 0\nlist\n",
         "new 1.2\nnew 2.2\nnew 3.2\nold 1:0\nlist 2.2=2:0 3.2=3:0 1.2=9:5\nranks 1 2 1\nitem 9:5\nat 1.2\nnone\nnone\nlist 2.2=2:0 3.2=3:0 1.2=9:5\n",
@@ -169,7 +169,7 @@ const ANSWERS: &[(&[u8], &str)] = &[
         b"insert 5 1\ninsert 7 2\nrekey 2.2 5 3\nlist\nrekey 1.2 5 4\nlist\nset 1.2 -9 0\ncheck\nrekey 1.2 -9 6\ncheck\nlist\n",
         "new 1.2\nnew 2.2\nold 7:2\nlist 1.2=5:1 2.2=5:3\nold 5:1\nlist 2.2=5:3 1.2=5:4\nold 5:4\nincorrect ordering\nold -9:0\nok\nlist 1.2=-9:6 2.2=5:3\n",
     ),
-    // lines: CR before LF, blank lines and comments, which are counted
+    // lines: CR before LF, and blank lines and comments, which are counted
     (b"insert 007 01\r\n", "new 1.2\n"),
     (b"\r\nlist\r\n", "list\n"),
     (b"#list\nlist\n\n", "list\n"),
@@ -178,7 +178,7 @@ const ANSWERS: &[(&[u8], &str)] = &[
     // signs
     (b"insert -0 1\nlist\n", "new 1.2\nlist 1.2=0:1\n"),
     (b"insert -5 1\nfind 5\nfind -5\n", "new 1.2\nnone\nat 1.2\n"),
-    // the range of a key and of a value, and zeros in front
+    // the range of a key and of a value, and leading zeros
     (
         b"insert 00000000000000000000000000000012 000000000000000000000000000000345\ninsert -00000000000000000000000000000012 0\nlist\n",
         "new 1.2\nnew 2.2\nlist 2.2=-12:0 1.2=12:345\n",
@@ -200,7 +200,7 @@ const FAULTS: &[(&[u8], &str, usize, FaultKind)] = &[
         2,
         FaultKind::WrongArguments,
     ),
-    // lines: CR before LF, blank lines and comments, which are counted
+    // lines: CR before LF, and blank lines and comments, which are counted
     (
         b"\n# x\nlist 1\n",
         "line 3: wrong arguments\n",
@@ -213,7 +213,7 @@ const FAULTS: &[(&[u8], &str, usize, FaultKind)] = &[
         6,
         FaultKind::UnknownCommand,
     ),
-    // the range of a key and of a value, and zeros in front
+    // the range of a key and of a value, and leading zeros
     (
         b"insert -9223372036854775808 18446744073709551615\nlist\ninsert 9223372036854775808 0\n",
         "new 1.2\nlist 1.2=-9223372036854775808:18446744073709551615\nline 3: bad number\n",
@@ -228,9 +228,9 @@ const FAULTS: &[(&[u8], &str, usize, FaultKind)] = &[
     ),
 ];
 
-/// Lines that are a fault of this kind.
+/// Lines with a fault of this kind.
 const BAD_LINES: &[(&[u8], FaultKind)] = &[
-    // the tree, and what stands around the entries
+    // the tree, and the numbers of the arena
     (b"visits", FaultKind::WrongArguments),
     (b"get 1.2 3", FaultKind::WrongArguments),
     (b"first 1", FaultKind::WrongArguments),
@@ -310,14 +310,14 @@ const BAD_LINES: &[(&[u8], FaultKind)] = &[
     (b"find", FaultKind::WrongArguments),
     (b"find 1 2", FaultKind::WrongArguments),
     (b"list 1", FaultKind::WrongArguments),
-    // first the word is looked at, then the number of words, then each argument
+    // the word is checked first, then the number of words, then each argument
     (b"fnd x", FaultKind::UnknownCommand),
     (b"find x y", FaultKind::WrongArguments),
     (b"insert 1 x\n", FaultKind::BadNumber),
     (b"lists", FaultKind::UnknownCommand),
     (b"lis", FaultKind::UnknownCommand),
     (b"List", FaultKind::UnknownCommand),
-    // lines: CR before LF, blank lines and comments, which are counted
+    // lines: CR before LF, and blank lines and comments, which are counted
     (b"list\r", FaultKind::UnknownCommand),
     (b"list\r\r\n", FaultKind::UnknownCommand),
     (b"list #", FaultKind::WrongArguments),
@@ -338,7 +338,7 @@ const BAD_LINES: &[(&[u8], FaultKind)] = &[
     (b"find 5x", FaultKind::BadNumber),
     (b"find /", FaultKind::BadNumber),
     (b"find :", FaultKind::BadNumber),
-    // the range of a key and of a value, and zeros in front
+    // the range of a key and of a value, and leading zeros
     (b"insert 1 18446744073709551616", FaultKind::BadNumber),
     (
         b"insert 1 340282366920938463463374607431768211456",
@@ -350,7 +350,7 @@ const BAD_LINES: &[(&[u8], FaultKind)] = &[
     ),
 ];
 
-/// Whether a script is answered so and ends so, and its reader and writer say that all went well.
+/// Returns whether a script has this answer and this end, and its reader and writer report no failure.
 fn is_answered(alloc: Global, script: &[u8], answer: &str, end: ScriptEnd) -> bool {
     let mut output = Vec::new(alloc);
     let mut reader = Watched::new(script);

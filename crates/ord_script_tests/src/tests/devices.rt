@@ -1,4 +1,4 @@
-//! Devices that go slowly, that fail and go well again, and that count their calls: nothing is tried again.
+//! Devices that are slow, that fail and recover, and that count their calls: nothing is retried.
 ghost use Rattle.std.specs.Prelude.{◌≤◌, ◌≡◌, IfOk};
 
 use ord_script::{FaultKind, ScriptEnd, Watched, serve};
@@ -7,11 +7,11 @@ use std::io;
 use std::io::{ErrorKind, Read, Write};
 use std::test::Fail;
 
-/// How a device goes: at most so many bytes a call. One call fails, counted from 0, and each call once so many bytes have gone.
+/// The pace of a device: at most `step` bytes a call. One call fails, counted from 0, and each call fails after `left` bytes.
 #[derive(Clone, Copy)]
 pub(super) struct Pace {
     pub(super) step: usize,
-    /// How many bytes may go yet.
+    /// How many more bytes may pass.
     pub(super) left: usize,
     /// The call that fails.
     pub(super) failing: usize,
@@ -22,15 +22,15 @@ pub(super) struct Pace {
 /// How a call fails.
 #[derive(Clone, Copy)]
 pub(super) enum Failure {
-    /// By an error.
+    /// With an error.
     Broken,
-    /// By an interruption, which is an error like any other.
+    /// With an interruption, which is an error like any other.
     Interrupted,
-    /// It moves no byte.
+    /// It moves no bytes.
     Nothing,
 }
 
-/// All at once, and no failure.
+/// All bytes at once, and no failure.
 pub(super) const AT_ONCE: Pace = Pace {
     step: usize::MAX,
     left: usize::MAX,
@@ -39,11 +39,11 @@ pub(super) const AT_ONCE: Pace = Pace {
     calls: 0,
 };
 
-/// A byte a call, and no failure.
+/// One byte a call, and no failure.
 const BY_BYTE: Pace = Pace { step: 1, ..AT_ONCE };
 
 impl Failure {
-    /// What the call answers.
+    /// Returns the result of the call.
     fn answer(self) -> io::Result<usize>
         ensures { IfOk result (λ count. count ≡ 0) }
     {
@@ -56,7 +56,7 @@ impl Failure {
 }
 
 impl Pace {
-    /// How many of `len` bytes one call moves.
+    /// Returns how many of `len` bytes one call moves.
     fn next_count(&mut self, len: usize) -> io::Result<usize>
         ensures { IfOk result (λ count. count ≤ len) }
     {
@@ -71,7 +71,7 @@ impl Pace {
     }
 }
 
-/// A reader over memory.
+/// A reader from memory.
 #[derive(Drop)]
 pub(super) struct Source<'a> {
     pub(super) bytes: &'a [u8],
@@ -88,7 +88,7 @@ impl Read for Source<'_> {
     }
 }
 
-/// A writer into memory. It counts its flushes too.
+/// A writer into memory. It also counts its flushes.
 #[derive(Drop)]
 pub(super) struct Sink {
     pub(super) bytes: Vec<u8>,
@@ -125,7 +125,7 @@ struct Calls {
     writes: usize,
 }
 
-/// Whether a reader and a writer say of themselves what the end says: each read goes on until it fails or has met the end.
+/// Returns whether the marks of a reader and a writer agree with the end: reading goes on until it fails or meets the end.
 pub(super) fn are_marked(
     end: ScriptEnd,
     read_ended: bool,
@@ -137,7 +137,7 @@ pub(super) fn are_marked(
         && write_failed == (end == ScriptEnd::WriteFailed)
 }
 
-/// The calls of devices that go so, where the script ends so, as the marks say too, and this is written.
+/// Returns the calls of devices with these paces, if the script ends this way, the marks agree, and this is written.
 fn calls_of(
     alloc: Global,
     reading: Pace,
@@ -182,7 +182,7 @@ fn reads_and_writes_in_pieces(rt: HostRuntime) {
     }
 }
 
-/// A byte a call, where one call fails so.
+/// Returns the pace of one byte a call with one failing call.
 fn failing(call: usize, failure: Failure) -> Pace {
     Pace {
         failing: call,
@@ -262,7 +262,7 @@ fn a_watched_writer_is_asked_once_a_write(rt: HostRuntime) {
     }
 }
 
-/// Whether so many line feeds, of which none is answered, end so, after so many reads, with so many bytes unread.
+/// Returns whether this many line feeds, which have no answer, end this way, after this many reads, with this many bytes unread.
 fn is_end_of_line_feeds(
     alloc: Global,
     count: usize,
@@ -280,7 +280,8 @@ fn is_end_of_line_feeds(
     Ok(output.is_empty() && (end, source.pace.calls, source.bytes.len()) == wanted)
 }
 
-/// Line feeds, the call that fails, and how it ends, after how many reads, with how many bytes unread. 256 reads of 4096 bytes reach the limit.
+/// The number of line feeds, the failing call, the end, the number of reads, and the number of bytes unread. 256 reads of 4096 bytes
+/// reach the limit.
 const LINE_FEEDS: [(usize, usize, (ScriptEnd, usize, usize)); 5] = [
     (1_048_576, usize::MAX, (ScriptEnd::Done, 257, 0)),
     (1_048_577, usize::MAX, (ScriptEnd::TooLong, 257, 0)),

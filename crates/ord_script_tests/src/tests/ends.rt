@@ -1,4 +1,4 @@
-//! How a program ends that serves a script: its exit status, and what it writes to standard error.
+//! How a program that serves a script ends: its exit status, and its message on standard error.
 use super::devices::{AT_ONCE, Failure, Pace, Sink, Source};
 use linked_list_allocator::LocalHeap;
 use ord_script::{FaultKind, ScriptEnd, Watched, serve};
@@ -11,7 +11,7 @@ const BROKEN: Pace = Pace {
     ..AT_ONCE
 };
 
-/// How a script ends on devices that go so.
+/// Returns the end of a script on devices with these paces.
 fn end_of(alloc: Global, script: &[u8], reading: Pace, writing: Pace) -> ScriptEnd {
     let mut source = Source {
         bytes: script,
@@ -29,12 +29,12 @@ fn end_of(alloc: Global, script: &[u8], reading: Pace, writing: Pace) -> ScriptE
     )
 }
 
-/// How a script ends on a heap.
+/// Returns the end of a script on a heap.
 fn end_on<A: Allocator + Copy>(alloc: A, output: &mut Vec<u8>, script: &[u8]) -> ScriptEnd {
     serve(alloc, &mut Watched::new(script), &mut Watched::new(output))
 }
 
-/// Whether a program that ends so has this exit status, and writes this to standard error.
+/// Returns whether a program with this end has this exit status, and writes this to standard error.
 fn is_reported(alloc: Global, end: ScriptEnd, status: u8, message: &[u8]) -> bool {
     let mut errors = Vec::new(alloc);
     let reported = end.report(&mut Watched::new(&mut errors));
@@ -53,7 +53,7 @@ fn a_fault_has_status_2(rt: HostRuntime) {
     assert!(rt; is_reported(rt.alloc(), end, 2, b""));
 }
 
-/// One byte more than a script may have.
+/// Returns one byte more than a script may have.
 fn long_script(alloc: Global) -> Result<Vec<u8>, AllocError> {
     vec![in alloc; b'\n'; 1_048_577]
 }
@@ -104,7 +104,7 @@ fn the_status_stands_where_standard_error_fails(rt: HostRuntime) {
     assert!(rt; errors.pace.calls == 2);
 }
 
-/// Whether a fault is printed so, as a text and by its name.
+/// Returns whether a fault is printed like this, as a text and by its name.
 fn is_printed(alloc: Global, kind: FaultKind, wanted: &str) -> Result<bool, AllocError> {
     let text = format!(in alloc; "{kind}, {kind:?}")?;
     Ok(text.as_str() == wanted)
@@ -123,7 +123,7 @@ fn texts_of_faults(rt: HostRuntime) -> Result<(), Fail> {
     Ok(())
 }
 
-/// Whether an end is printed so.
+/// Returns whether an end is printed like this.
 fn is_end_printed(alloc: Global, end: ScriptEnd, wanted: &str) -> Result<bool, AllocError> {
     let text = format!(in alloc; "{end:?}")?;
     Ok(text.as_str() == wanted)

@@ -1,4 +1,4 @@
-//! Scripts that are cut, that no one would write, or that ask for too much; devices and heaps that fail.
+//! Scripts that are cut, malformed or excessive; devices and heaps that fail.
 mod bytes;
 mod cuts;
 mod devices;
@@ -8,7 +8,7 @@ mod runs;
 use ord_script::{FaultKind, ScriptEnd, Watched, serve};
 use std::alloc::Global;
 
-/// Scripts with their whole answers. That of the fifth is `EQUAL_KEYS`.
+/// Scripts with their whole answers. The fifth answer is `EQUAL_KEYS`.
 const SCRIPTS: &[(&str, &str)] = &[
     LIMITS,
     (
@@ -36,17 +36,17 @@ const LIMITS: (&str, &str) = (
     "new 1.2\nlist 1.2=-9223372036854775808:18446744073709551615\nline 3: bad number\n",
 );
 
-/// A compression, and both canonicalizations.
+/// A compression, and both canonical orders.
 const COMPRESSED: (&str, &str) = (
     "insert 30 0\ninsert 10 0\ninsert 40 0\ninsert 20 0\nremove 3.2\ncompress 0\nlist\nranks\ncanonical 0\nlist\ncanonical 1\nlist\n",
     "new 1.2\nnew 2.2\nnew 3.2\nnew 4.2\nremoved 40:0\nok\nlist 2.4=10:0 3.4=20:0 1.4=30:0\nranks 1 3 1\nok\nlist 1.5=10:0 2.5=20:0 3.5=30:0\nok\nlist 1.2=10:0 2.2=20:0 3.2=30:0\n",
 );
 
-/// Where entries with equal keys go.
+/// The order of entries with equal keys.
 const EQUAL_KEYS: &str =
     "new 1.2\nnew 2.2\nnew 3.2\nnew 4.2\nlist 1.2=5:1 2.2=5:2 3.2=5:3 4.2=5:4\nranks 1 3 2 1\n";
 
-/// What a script answers, and how it ends.
+/// Returns the answer to a script, and its end.
 fn served(alloc: Global, script: &[u8]) -> (Vec<u8>, ScriptEnd) {
     let mut output = Vec::new(alloc);
     let mut reader = Watched::new(script);
@@ -54,7 +54,7 @@ fn served(alloc: Global, script: &[u8]) -> (Vec<u8>, ScriptEnd) {
     (output, end)
 }
 
-/// The words of a fault.
+/// Returns the words for a fault.
 fn words_of(kind: FaultKind) -> &'static str {
     match kind {
         FaultKind::UnknownCommand => "unknown command",
@@ -63,7 +63,7 @@ fn words_of(kind: FaultKind) -> &'static str {
     }
 }
 
-/// Whether a line is that of this fault.
+/// Returns whether a line is that of this fault.
 fn is_fault(alloc: Global, line: &str, number: usize, kind: FaultKind) -> bool {
     match format!(in alloc; "line {number}: {}", words_of(kind)) {
         Ok(fault) => line == fault.as_str(),
@@ -71,7 +71,7 @@ fn is_fault(alloc: Global, line: &str, number: usize, kind: FaultKind) -> bool {
     }
 }
 
-/// Whether an answer ends as its script did: with the line of a fault, or with none.
+/// Returns whether an answer ends as its script did: with the line of a fault, or without one.
 fn is_told(alloc: Global, answer: &str, end: ScriptEnd) -> bool {
     let line = answer.lines().last().unwrap_or("");
     match end {
@@ -81,7 +81,7 @@ fn is_told(alloc: Global, answer: &str, end: ScriptEnd) -> bool {
     }
 }
 
-/// Whether a script is answered so, and ends as the answer says.
+/// Returns whether a script has this answer, and ends as the answer says.
 fn is_answered(alloc: Global, script: &[u8], answer: &str) -> bool {
     let (output, end) = served(alloc, script);
     is_told(alloc, answer, end) && output.as_slice() == answer.as_bytes()

@@ -1,14 +1,14 @@
-//! Memory: where it is refused, and that it is enough where it is there.
+//! Refused memory, and scripts for which there is enough.
 use linked_list_allocator::LocalHeap;
 use ord_script::{ScriptEnd, Watched, serve};
 use std::fmt::Write;
 use std::test::Fail;
 
-/// A script whose first and fifth entries make the arena grow, and whose lists and drain ask for room.
+/// A script whose first and fifth entries make the arena grow, and whose lists and drain request memory.
 const GROWING: &[u8] =
     b"insert 9 1\ninsert 8 2\ninsert 7 3\ninsert 6 4\nlist\nranks\ninsert 5 5\nget 1.2\nlist\nranks\ndrain 2\n";
 
-/// What each of its lines may be: a command that is refused memory says so, and the script goes on.
+/// The possible answers to each of its lines. A command that is refused memory says so, and the script goes on.
 const LINES: &[&[&str]] = &[
     &["refused memory", "new 1.2"],
     &["refused memory", "new 2.2"],
@@ -42,11 +42,11 @@ const LINES: &[&[&str]] = &[
     ],
 ];
 
-/// The answer where no memory is refused.
+/// The answer if no memory is refused.
 const WHOLE: &str =
     "new 1.2\nnew 2.2\nnew 3.2\nnew 4.2\nlist 4.2=6:4 3.2=7:3 2.2=8:2 1.2=9:1\nranks 1 2 3 1\nnew 5.2\nitem 9:1\nlist 5.2=5:5 4.2=6:4 3.2=7:3 2.2=8:2 1.2=9:1\nranks 1 2 1 3 1\ndrained 5.2=5:5 4.2=6:4\n";
 
-/// Whether the answer has these lines.
+/// Returns whether an answer has these lines.
 fn is_possible(answer: &str) -> bool {
     let mut lines = answer.lines();
     for known in LINES {
@@ -82,13 +82,13 @@ fn each_request_for_memory_is_refused_in_turn(rt: HostRuntime) -> Result<(), Fai
     Ok(())
 }
 
-/// How many entries the long script inserts.
+/// The number of entries that the long script inserts.
 const COUNT: u64 = 40_000;
 
-/// The key that is inserted at a turn: each number below `COUNT` once.
+/// Gives the key of a turn: each number below `COUNT` once.
 const KEY_FACTOR: u64 = 7919;
 
-/// The turn at which a key is inserted: `KEY_FACTOR * TURN_FACTOR` is 1 more than a multiple of `COUNT`.
+/// Gives the turn of a key: `KEY_FACTOR * TURN_FACTOR` is 1 more than a multiple of `COUNT`.
 const TURN_FACTOR: u64 = 17_679;
 
 #[test]

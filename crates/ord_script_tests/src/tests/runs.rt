@@ -5,7 +5,7 @@ use std::alloc::{AllocError, Global};
 use std::cmp::Ordering;
 use triple_ord::{OrdInsertKind, OrdInsertionError, SimpleOrdArena, SimpleOrdItem};
 
-/// An item of the tests' own: a letter, found by its number.
+/// An item type of the tests: a letter, found by its number.
 #[derive(Clone, Copy, Debug, PartialEq, Eq)]
 struct Letter {
     number: u16,
@@ -22,7 +22,7 @@ impl SimpleOrdItem for Letter {
     }
 }
 
-/// A letter under its number.
+/// Returns a letter with its number.
 fn item(number: u16, letter: char) -> Letter {
     Letter { number, letter }
 }
@@ -30,7 +30,7 @@ fn item(number: u16, letter: char) -> Letter {
 /// A reply from the global heap.
 type Answer = Reply<P8, Letter, Global>;
 
-/// The replies to these commands.
+/// Returns the replies to these commands.
 fn replies_to(
     alloc: Global,
     arena: &mut SimpleOrdArena<P8, Letter>,
@@ -40,7 +40,7 @@ fn replies_to(
     run(alloc, arena, commands, &mut closure)
 }
 
-/// Whether the reply at this place is that a search found a pointer, or none, after so many visits.
+/// Returns whether the reply at this place says that a search found this pointer, or none, after this many visits.
 fn is_found(replies: &[Answer], place: usize, p: Option<P8>, visits: u128) -> bool {
     match replies.get(place) {
         Some(Reply::Found(found, counted)) => *found == p && *counted == visits,
@@ -48,7 +48,7 @@ fn is_found(replies: &[Answer], place: usize, p: Option<P8>, visits: u128) -> bo
     }
 }
 
-/// Whether the reply at this place is that a search ended at a pointer, in this order to it, after so many visits.
+/// Returns whether the reply at this place says that a search ended at a pointer, with this order to it, after this many visits.
 fn is_similar(replies: &[Answer], place: usize, similar: (P8, Ordering), visits: u128) -> bool {
     match replies.get(place) {
         Some(Reply::Similar(found, counted)) => *found == Some(similar) && *counted == visits,
@@ -56,12 +56,12 @@ fn is_similar(replies: &[Answer], place: usize, similar: (P8, Ordering), visits:
     }
 }
 
-/// Whether the reply at this place is that the generation changed so.
+/// Returns whether the reply at this place is this change of the generation.
 fn is_changed(replies: &[Answer], place: usize, overflow: InvalidationOption<()>) -> bool {
     matches!(replies.get(place), Some(Reply::Changed(told)) if *told == overflow)
 }
 
-/// The refusal of the reply at this place.
+/// Returns the error of the reply at this place.
 fn refusal_at(replies: &[Answer], place: usize) -> Option<OrdInsertionError> {
     match replies.get(place)? {
         Reply::Refused(refusal) => Some(*refusal),
@@ -69,7 +69,7 @@ fn refusal_at(replies: &[Answer], place: usize) -> Option<OrdInsertionError> {
     }
 }
 
-/// Behind the entry with the index 1.
+/// Returns the place behind the entry with index 1.
 fn behind_the_first() -> OrdInsertKind<P8, u16> {
     OrdInsertKind::Manual {
         p_target: 1,
@@ -77,7 +77,7 @@ fn behind_the_first() -> OrdInsertKind<P8, u16> {
     }
 }
 
-/// Insertions by an entry, of items with other keys than the entry's, within a capacity of three and beyond it.
+/// Returns insertions by an entry, of items with other keys than the entry's, within a capacity of three and beyond it.
 fn entry_commands(alloc: Global) -> Result<Vec<Command<P8, Letter>>, AllocError> {
     let commands = vec![in alloc;
         Command::Reserve(3),
@@ -116,7 +116,7 @@ const LISTED: &[(u8, Letter)] = &[
     ),
 ];
 
-/// Whether the reply at this place lists these entries.
+/// Returns whether the reply at this place lists these entries.
 fn is_listed(replies: &[Answer], place: usize, wanted: &[(u8, Letter)]) -> bool {
     match replies.get(place) {
         Some(Reply::Entries(entries)) => {
@@ -141,12 +141,12 @@ fn an_entry_goes_by_its_own_key(rt: HostRuntime) {
     assert!(rt; is_listed(&replies, 6, LISTED));
 }
 
-/// A raised generation, and one that overflows.
+/// A raised generation, and an overflow.
 const RAISED: InvalidationOption<()> = InvalidationOption::Success(());
 
 const BEGUN_AGAIN: InvalidationOption<()> = InvalidationOption::GenerationOverflow(());
 
-/// Whether an arena, which is empty, now has one entry under the pointer 1.2, at the greatest generation of eight bits.
+/// Returns whether an empty arena now has one entry, with the pointer 1.2, and the greatest generation of eight bits.
 fn reaches_last_generation(
     alloc: Global,
     arena: &mut SimpleOrdArena<P8, Letter>,
@@ -189,7 +189,7 @@ fn a_compression_begins_the_generations_again(rt: HostRuntime) {
     assert!(rt; arena.generation() == 3);
 }
 
-/// The replies to insertions of these numbers, which get the indexes from 1 on in an arena that is empty.
+/// Returns the replies to insertions of these numbers into an empty arena. They get the indexes from 1 on.
 fn insert_all(
     alloc: Global,
     arena: &mut SimpleOrdArena<P8, Letter>,
@@ -214,10 +214,10 @@ fn indexes_of_eight_bits_run_out(rt: HostRuntime) {
     assert!(rt; refusal_at(&replies, 254) == Some(OrdInsertionError::BeyondMaxCapacity));
 }
 
-/// Numbers of which 50 gets the index 1, and 10 the index 5.
+/// Numbers of which 50 gets index 1, and 10 index 5.
 const FIVE: &[u16] = &[50, 30, 70, 60, 10];
 
-/// Searches by a closure that says one order after another, whatever it is shown.
+/// Searches by a closure that answers fixed orders in turn, whatever it is shown.
 #[test]
 fn searches_by_a_closure(rt: HostRuntime) {
     let mut arena = SimpleOrdArena::new(rt.alloc());

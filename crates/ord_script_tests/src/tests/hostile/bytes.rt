@@ -1,24 +1,25 @@
-//! Bytes where no one puts them, numbers at and beyond their limits, and lines as long as an input may be.
+//! Bytes in unusual places, numbers at and beyond their limits, and lines of the greatest length.
 use super::{is_answered, served};
 use ord_script::ScriptEnd;
 use std::alloc::{AllocError, Global};
 
-/// The longest input.
+/// The greatest length of an input.
 const LONGEST: usize = 1_048_576;
 
-/// The answer to a line that is no command.
+/// The answer to a line that isn't a command.
 const UNKNOWN: &str = "line 1: unknown command\n";
 
-/// The answer to a line that has too few words or too many.
+/// The answer to a line with too few words or too many.
 const WRONG: &str = "line 1: wrong arguments\n";
 
-/// The answer to a line in which a number is none.
+/// The answer to a line with an invalid number.
 const BAD: &str = "line 1: bad number\n";
 
-/// The answer to a search, and then to a line that is no command.
+/// The answer to a search, and then to a line that isn't a command.
 const FOUND_AND_UNKNOWN: &str = "none\nline 2: unknown command\n";
 
-/// Where a byte stands, which bytes fit there, which part two words, and what a line answers with these, with a line feed, and with others.
+/// A place for a byte, the bytes that fit there, those that part two words, and the line's answer with these, with a line feed, and with
+/// others.
 struct Place {
     before: &'static str,
     after: &'static str,
@@ -29,7 +30,7 @@ struct Place {
     other: &'static str,
 }
 
-/// As a first word, inside a word, before a number, and inside one.
+/// As a first word, inside a word, before a number, and inside a number.
 const PLACES: [Place; 4] = [
     Place {
         before: "",
@@ -69,7 +70,7 @@ const PLACES: [Place; 4] = [
     },
 ];
 
-/// What a script with this byte at a place answers.
+/// Returns the answer to a script with this byte at a place.
 fn wanted(place: &Place, byte: u8) -> &'static str {
     if byte == b'\n' {
         place.line_feed
@@ -82,7 +83,7 @@ fn wanted(place: &Place, byte: u8) -> &'static str {
     }
 }
 
-/// Whether a script with this byte at a place is answered as it should.
+/// Returns whether a script with this byte at a place has the right answer.
 fn is_byte_answered(alloc: Global, place: &Place, byte: u8) -> Result<bool, AllocError> {
     let script = filled(alloc, place.before, byte, 1, place.after)?;
     Ok(is_answered(alloc, &script, wanted(place, byte)))
@@ -98,7 +99,7 @@ fn each_byte_at_each_place(rt: HostRuntime) -> Result<(), AllocError> {
     Ok(())
 }
 
-/// Numbers at their limits, each with what stands before it in a line, and the next one; with what follows them.
+/// Numbers at their limits, each with what precedes it in a line, and the next number; each with what follows it.
 const LIMITS: &[(&str, &str, &str)] = &[
     ("find ", "9223372036854775807", "9223372036854775808"),
     ("find -", "9223372036854775808", "9223372036854775809"),
@@ -125,7 +126,7 @@ const LIMITS: &[(&str, &str, &str)] = &[
     ("canonical ", "1", "2"),
 ];
 
-/// Puts so many equal bytes between two texts at the end of a line.
+/// Appends this many equal bytes between two texts to a line.
 fn fill(
     line: &mut Vec<u8>,
     before: &str,
@@ -140,7 +141,7 @@ fn fill(
     line.extend_from_slice(after.as_bytes())
 }
 
-/// So many equal bytes between two texts.
+/// Returns this many equal bytes between two texts.
 fn filled(
     alloc: Global,
     before: &str,
@@ -153,7 +154,7 @@ fn filled(
     Ok(line)
 }
 
-/// How many line feeds an answer has.
+/// Returns the number of line feeds in an answer.
 fn count_lines(answer: &[u8]) -> usize {
     let mut count = 0usize;
     for byte in answer {
@@ -164,14 +165,14 @@ fn count_lines(answer: &[u8]) -> usize {
     count
 }
 
-/// Whether a number after so many zeros makes a line a command, which is answered by one line.
+/// Returns whether a number after this many zeros makes a line a command with a one-line answer.
 fn is_command(alloc: Global, before: &str, zeros: usize, most: &str) -> Result<bool, AllocError> {
     let line = filled(alloc, before, b'0', zeros, most)?;
     let (output, end) = served(alloc, &line);
     Ok(end == ScriptEnd::Done && count_lines(output.as_slice()) == 1)
 }
 
-/// Whether a number after so many equal digits is none.
+/// Returns whether a number after this many equal digits is invalid.
 fn is_bad(
     alloc: Global,
     before: &str,
@@ -195,7 +196,7 @@ fn numbers_at_and_beyond_their_limits(rt: HostRuntime) -> Result<(), AllocError>
     Ok(())
 }
 
-/// Whether a script of the greatest length, of so many equal bytes between two texts, is answered so.
+/// Returns whether a script of the greatest length, of equal bytes between two texts, has this answer.
 fn is_longest_answered(
     alloc: Global,
     before: &str,

@@ -3,8 +3,8 @@ use super::{SCRIPTS, is_answered, is_told, served};
 use ord_script::{FaultKind, ScriptEnd};
 use std::alloc::Global;
 
-/// What is wrong with the last line of each beginning of the scripts, from the empty one on: its first word, how many words follow it,
-/// a number, or nothing.
+/// The fault in the last line of each prefix of the scripts, from the empty one on: its first word, the number of words after it, a
+/// number, or nothing.
 const FAULTS: &[&str] = &[
     ".uuuuuwwwwwwwwwwwwwwwwwwwwwww.....................uuu..uuuuuwwwwwwwwwwwwwwwwwwwwwwbb",
     ".uuww..uuuuuwwww...uuuuuwwww...uuuuuwwww...uuuuuwwww...uuuuuwwww...uuu..uuww..",
@@ -14,7 +14,7 @@ const FAULTS: &[&str] = &[
     ".uuuuuwwwww..uuuuuwwwww..uuuuuwwwww..uuuuuwwwww..uuuuuwwbb..uuuuuuuww..uuu..uuuu..uuuuuuuuww..uuu..uuuuuuuuww..uuu..",
 ];
 
-/// The letter of an end at a line.
+/// Returns the letter for an end at a line.
 fn letter_of(end: ScriptEnd, line: usize) -> u8 {
     match end {
         ScriptEnd::Done => b'.',
@@ -27,7 +27,7 @@ fn letter_of(end: ScriptEnd, line: usize) -> u8 {
     }
 }
 
-/// How many lines two texts have in common where they begin.
+/// Returns how many lines two texts have in common at the beginning.
 fn common_lines(left: &str, right: &str) -> usize {
     let mut count = 0usize;
     for (one, other) in left.lines().zip(right.lines()) {
@@ -39,15 +39,16 @@ fn common_lines(left: &str, right: &str) -> usize {
     count
 }
 
-/// Whether an answer has a line for each line of a cut script, and as many of the whole answer's as the cut has of the whole script's.
+/// Returns whether an answer has a line for each line of a cut script, and has in common with the whole answer at least as many lines as
+/// the cut has with the whole script.
 fn are_lines(script: &str, answer: &str, cut: &str, told: &str) -> bool {
     told.lines().count() == cut.lines().count()
         && common_lines(told, answer) >= common_lines(cut, script)
         && (told.is_empty() || told.ends_with('\n'))
 }
 
-/// Whether a script that is cut after so many bytes is answered right: whole lines as in the whole script, the rest of a line by what is
-/// wrong with it.
+/// Returns whether a script cut after `count` bytes has the right answer: whole lines as in the whole script, and the fault of the rest
+/// of a line.
 fn is_cut_answered(alloc: Global, script: &str, answer: &str, count: usize, fault: u8) -> bool {
     let Some((cut, _)) = script.split_at_checked(count) else {
         return false;
@@ -59,7 +60,7 @@ fn is_cut_answered(alloc: Global, script: &str, answer: &str, count: usize, faul
         && letter_of(end, cut.lines().count()) == fault
 }
 
-/// What is wrong with the last line of a beginning.
+/// Returns the fault in the last line of a prefix.
 fn fault_at(faults: &str, count: usize) -> u8 {
     match faults.as_bytes().get(count) {
         Some(fault) => *fault,
@@ -67,7 +68,7 @@ fn fault_at(faults: &str, count: usize) -> u8 {
     }
 }
 
-/// Whether each beginning of a script is answered right, and the whole one.
+/// Returns whether each prefix of a script, and the whole one, has the right answer.
 fn is_each_beginning_answered(alloc: Global, script: &str, answer: &str, faults: &str) -> bool {
     for count in 0..=script.len() {
         let fault = fault_at(faults, count);
@@ -78,7 +79,7 @@ fn is_each_beginning_answered(alloc: Global, script: &str, answer: &str, faults:
     is_answered(alloc, script.as_bytes(), answer)
 }
 
-/// What is wrong with the beginnings of the script at a place.
+/// Returns the faults of the prefixes of the script at a place.
 fn faults_of(place: usize) -> &'static str {
     match FAULTS.get(place) {
         Some(faults) => *faults,

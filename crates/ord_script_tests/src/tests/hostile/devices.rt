@@ -4,7 +4,7 @@ use super::{SCRIPTS, is_told};
 use ord_script::{ScriptEnd, Watched, serve};
 use std::alloc::Global;
 
-/// How a script ends with a reader that goes so and this writer, where these say of themselves what the end says.
+/// Returns the end of a script with a reader of this pace and this writer; `None` if their marks disagree with it.
 fn end_with(alloc: Global, script: &str, reading: Pace, sink: &mut Sink) -> Option<ScriptEnd> {
     let mut reader = Watched::new(Source {
         bytes: script.as_bytes(),
@@ -15,7 +15,7 @@ fn end_with(alloc: Global, script: &str, reading: Pace, sink: &mut Sink) -> Opti
     are_marked(end, reader.ended(), reader.failed(), writer.failed()).then_some(end)
 }
 
-/// Whether a script that is served with devices that go so ends so, and this is written.
+/// Returns whether a script on devices of these paces ends this way, and this is written.
 fn goes(
     alloc: Global,
     script: &str,
@@ -32,13 +32,13 @@ fn goes(
     end == Some(wanted_end) && sink.bytes.as_slice() == wanted
 }
 
-/// How many bytes go a call.
+/// The numbers of bytes a call.
 const STEPS: [usize; 3] = [1, 5, usize::MAX];
 
-/// How calls fail; the last way is one of writes alone.
+/// How calls fail. The last way occurs only in writes.
 const FAILURES: [Failure; 3] = [Failure::Broken, Failure::Interrupted, Failure::Nothing];
 
-/// The pace of a number, with a failure after so many bytes.
+/// Returns the pace with this number, and a failure after `left` bytes.
 fn pace_of(number: usize, left: usize) -> Pace {
     Pace {
         step: STEPS[number % 3],
@@ -48,7 +48,7 @@ fn pace_of(number: usize, left: usize) -> Pace {
     }
 }
 
-/// Whether reads that fail after so many bytes end the script, and nothing is written.
+/// Returns whether reads that fail after this many bytes end the script, and nothing is written.
 fn read_fails(alloc: Global, script: &str, left: usize) -> bool {
     for number in 0usize..6 {
         let paces = (pace_of(number, left), AT_ONCE);
@@ -68,7 +68,7 @@ fn reads_that_fail_after_each_byte(rt: HostRuntime) {
     }
 }
 
-/// Whether writes that fail after so many bytes, which are a beginning of the answer, end the script.
+/// Returns whether writes that fail after this many bytes end the script. The bytes must be a beginning of the answer.
 fn write_fails(alloc: Global, script: &str, answer: &[u8], left: usize) -> bool {
     let wanted = answer.get(..left).unwrap_or(&[]);
     for number in 0usize..9 {
@@ -89,7 +89,7 @@ fn writes_that_fail_after_each_byte(rt: HostRuntime) {
     }
 }
 
-/// Whether a script is answered so with devices that go on, by so many bytes a call.
+/// Returns whether a script has this answer on devices that move `step` bytes a call and don't fail.
 fn is_served_slowly(alloc: Global, script: &str, answer: &str, step: usize) -> bool {
     let pace = Pace { step, ..AT_ONCE };
     let mut sink = Sink {

@@ -1,21 +1,21 @@
-//! Scripts on heaps of little room.
+//! Scripts on small heaps.
 use super::{COMPRESSED, LIMITS, is_told};
 use linked_list_allocator::LocalHeap;
 use ord_script::{ScriptEnd, Watched, serve};
 use std::alloc::{AllocError, Global};
 use std::fmt::Write;
 
-/// How a script ends on a heap of this size, where all memory is given back.
+/// Returns the end of a script on a heap of this size; `None` if memory isn't released.
 fn end_on(alloc: Global, script: &[u8], size: usize, output: &mut Vec<u8>) -> Option<ScriptEnd> {
     let heap = LocalHeap::new(alloc, size).ok()?;
     let mut reader = Watched::new(script);
     let end = serve(&heap, &mut reader, &mut Watched::new(output));
-    // what `serve` took it has given back, so the same call finds the same room
+    // `serve` has released what it took, so the same call would find the same room
     (heap.used() == 0).then_some(end)
 }
 
-/// A script with what it answers where there is memory, and where no entry finds room; the second is empty for a script of entries that
-/// rise and of lists, of which some entries may find room.
+/// A script with its answer if there is memory, and its answer if no entry fits. The second is empty for a script of ascending entries
+/// and of lists, in which some entries may fit.
 #[derive(Clone, Copy)]
 struct Case<'a> {
     script: &'a str,
@@ -23,8 +23,8 @@ struct Case<'a> {
     bare: &'a str,
 }
 
-/// Whether a line may stand where this one is wanted: it is the same, or a list or ranks that were refused memory; and where some entries
-/// may find room, one that was refused, or a list of those before it.
+/// Returns whether a line may come in place of `wanted`: it is the same, or a list or ranks that were refused memory. If some entries may
+/// fit, it may also be a refused one, or a list of those before it.
 fn may_stand(line: &str, wanted: &str, may_lack: bool) -> bool {
     let is_list = wanted.starts_with("list ") || wanted.starts_with("ranks ");
     let may_be_refused = is_list || may_lack;
@@ -32,7 +32,7 @@ fn may_stand(line: &str, wanted: &str, may_lack: bool) -> bool {
     line == wanted || is_begun || (may_be_refused && line == "refused memory")
 }
 
-/// Whether an answer is this one, but for what was refused memory.
+/// Returns whether an answer is this one, except for refused memory.
 fn is_but_for_refusals(told: &str, whole: &str, may_lack: bool) -> bool {
     let mut lines = whole.lines();
     for line in told.lines() {
@@ -46,7 +46,7 @@ fn is_but_for_refusals(told: &str, whole: &str, may_lack: bool) -> bool {
     lines.next().is_none() && told.ends_with('\n')
 }
 
-/// Tells 0 of a script that was refused, which writes nothing, 1 of an answer with refusals, 2 of a whole one, and 3 of any other.
+/// Returns 0 for a script that was refused and wrote nothing, 1 for an answer with refusals, 2 for a whole one, and 3 for any other.
 fn number_of(case: &Case, told: &str, is_refused: bool) -> usize {
     if is_refused {
         if told.is_empty() { 0 } else { 3 }
@@ -59,7 +59,7 @@ fn number_of(case: &Case, told: &str, is_refused: bool) -> usize {
     }
 }
 
-/// The number of what a script answers on a heap of this size; 3 also where it doesn't end as its answer, or keeps memory.
+/// Returns the number for a script's answer on a heap of this size; also 3 if its end differs from its answer, or it keeps memory.
 fn number_on(alloc: Global, case: &Case, size: usize) -> usize {
     let mut output = Vec::new(alloc);
     let end = end_on(alloc, case.script.as_bytes(), size, &mut output);
@@ -71,8 +71,8 @@ fn number_on(alloc: Global, case: &Case, size: usize) -> usize {
     }
 }
 
-/// Whether an answer with refusals is among those on heaps that grow by so many bytes, where the script is refused on some, and its answer
-/// is whole on the last.
+/// Returns whether an answer with refusals occurs on heaps that grow by `step` bytes. On some of them the script must be refused, and on
+/// the last its answer must be whole.
 fn has_refusals(alloc: Global, case: &Case, step: usize) -> Option<bool> {
     let mut met = [false; 4];
     let mut last = 0;
@@ -83,14 +83,14 @@ fn has_refusals(alloc: Global, case: &Case, step: usize) -> Option<bool> {
     (met[0] && !met[3] && last == 2).then_some(met[1])
 }
 
-/// The answer of `LIMITS` where no entry finds room.
+/// The answer to `LIMITS` if no entry fits.
 const BARE_LIMITS: &str = "refused memory\nlist\nline 3: bad number\n";
 
-/// The answer of `COMPRESSED` where no entry finds room.
+/// The answer to `COMPRESSED` if no entry fits.
 const BARE_COMPRESSED: &str =
     "refused memory\nrefused memory\nrefused memory\nrefused memory\ninvalid\nok\nlist\nranks\nok\nlist\nok\nlist\n";
 
-/// Whether a script, with its answer and the one where no entry finds room, is refused on some heaps, and its answer is whole on the last.
+/// Returns whether a script, with its answer and the one if no entry fits, is refused on some heaps, and its answer is whole on the last.
 fn is_refused_and_whole(alloc: Global, (script, whole): (&str, &str), bare: &str) -> bool {
     let case = Case {
         script,
@@ -106,7 +106,7 @@ fn each_request_of_a_script(rt: HostRuntime) {
     assert!(rt; is_refused_and_whole(rt.alloc(), COMPRESSED, BARE_COMPRESSED));
 }
 
-/// How many entries are inserted.
+/// The number of entries that are inserted.
 const ENTRIES: u64 = 40;
 
 /// Writes a short script, whose answer is as long as all its lists together.
@@ -141,7 +141,7 @@ fn write_answer(answer: &mut String, lists: usize) -> Result<(), AllocError> {
     Ok(())
 }
 
-/// Whether an answer with refusals is among those on heaps of growing size, where all entries are listed so often.
+/// Returns whether an answer with refusals occurs on heaps of growing size, if all entries are listed this often.
 fn has_refused_lists(alloc: Global, lists: usize) -> Option<bool> {
     let (mut script, mut whole) = (String::new(alloc), String::new(alloc));
     let is_written = write_script(&mut script, lists).is_ok()

@@ -1,4 +1,4 @@
-//! Runs of commands on heaps of little room, beside a plain sorted vector that does what the replies say.
+//! Runs of commands on small heaps, compared with a plain sorted vector that follows the replies.
 use linked_list_allocator::LocalHeap;
 use ord_script::{Command, Reply, run};
 use std::alloc::{AllocError, Global};
@@ -13,7 +13,7 @@ type Numbers<'h> = SimpleOrdArena<P0, Item, &'h LocalHeap>;
 #[derive(Clone, Copy)]
 enum Line {
     Insert(u64),
-    /// Of the entry at the index, with the first generation.
+    /// Rekeys the entry at the index with the first generation.
     Rekey(u32, u64),
     Find(u64),
     List,
@@ -23,8 +23,8 @@ enum Line {
 
 use Line::{Drain, Find, Insert, List, Ranks, Rekey};
 
-/// What tells and takes the entries that there are, and then 32 commands: the arena grows at the first, the fifth and the ninth entry,
-/// and begins again after a drain.
+/// Commands that list and remove the existing entries, and then 32 commands. The arena grows at the first, the fifth and the ninth entry,
+/// and starts again after a drain.
 const LINES: [Line; 34] = [
     List,
     Drain(99),
@@ -62,7 +62,7 @@ const LINES: [Line; 34] = [
     List,
 ];
 
-/// The pointer at an index with the first generation.
+/// Returns the pointer at an index with the first generation.
 fn first_pointer(i: u32) -> P0 {
     P0::_from_raw(i, 2)
 }
@@ -78,15 +78,15 @@ fn command(line: Line) -> Command<P0, Item> {
     }
 }
 
-/// The entries as a plain vector, in the order of their keys.
+/// The entries as a plain vector, in key order.
 type Plain = Vec<(P0, u64)>;
 
-/// Where a key is, or belongs.
+/// Returns where a key is, or belongs.
 fn place_of(plain: &Plain, key: u64) -> usize {
     plain.iter().filter(|entry| entry.1 < key).count()
 }
 
-/// The pointer of a key.
+/// Returns the pointer of a key.
 fn pointer_of(plain: &Plain, key: u64) -> Option<P0> {
     for entry in plain {
         if entry.1 == key {
@@ -96,7 +96,7 @@ fn pointer_of(plain: &Plain, key: u64) -> Option<P0> {
     None
 }
 
-/// Whether an entry of the vector is this one.
+/// Returns whether an entry of the vector is this one.
 fn is_entry(entry: Option<&(P0, u64)>, told: &(P0, Item)) -> bool {
     match entry {
         Some(entry) => entry.0 == told.0 && entry.1 == *told.1.k(),
@@ -104,7 +104,7 @@ fn is_entry(entry: Option<&(P0, u64)>, told: &(P0, Item)) -> bool {
     }
 }
 
-/// Whether these are the first so many entries.
+/// Returns whether these are the first `count` entries.
 fn are_first(plain: &[(P0, u64)], entries: &[(P0, Item)], count: usize) -> bool {
     for place in 0..entries.len() {
         if !is_entry(plain.get(place), &entries[place]) {
@@ -114,7 +114,7 @@ fn are_first(plain: &[(P0, u64)], entries: &[(P0, Item)], count: usize) -> bool 
     entries.len() == plain.len().min(count)
 }
 
-/// Does to the vector what an insertion did, and tells whether the key is new there, and finds memory.
+/// Makes an insertion in the vector. Returns whether the key is new there, and memory was found.
 fn insert(plain: &mut Plain, key: u64, p: P0) -> bool {
     let place = place_of(plain, key);
     let is_new = pointer_of(plain, key).is_none();
@@ -124,12 +124,12 @@ fn insert(plain: &mut Plain, key: u64, p: P0) -> bool {
 /// A reply of the run.
 type Told<'h> = Reply<P0, Item, &'h LocalHeap>;
 
-/// Whether a reply is a refusal of memory.
+/// Returns whether a reply is a refusal of memory.
 fn is_refusal(reply: &Told) -> bool {
     matches!(reply, Reply::Refused(OrdInsertionError::AllocError))
 }
 
-/// Whether a reply is that of an insertion, which is done to the vector too.
+/// Returns whether a reply fits an insertion, which is made in the vector too.
 fn is_insertion(plain: &mut Plain, key: u64, reply: &Told) -> bool {
     match reply {
         Reply::Inserted(OrdEntryKind::New(p), None) => insert(plain, key, *p),
@@ -137,17 +137,17 @@ fn is_insertion(plain: &mut Plain, key: u64, reply: &Told) -> bool {
     }
 }
 
-/// The place of a pointer.
+/// Returns the place of a pointer.
 fn place_of_pointer(plain: &Plain, p: P0) -> Option<usize> {
     plain.iter().position(|entry| entry.0 == p)
 }
 
-/// The key at a place.
+/// Returns the key at a place.
 fn key_at(plain: &Plain, place: usize) -> Option<u64> {
     plain.get(place).map(|entry| entry.1)
 }
 
-/// Takes an entry of the vector out, and puts it behind those whose key is at most this one.
+/// Moves an entry of the vector behind those whose key is at most this one.
 fn move_entry(plain: &mut Plain, place: usize, key: u64) -> bool {
     if place >= plain.len() {
         return false;
@@ -157,7 +157,7 @@ fn move_entry(plain: &mut Plain, place: usize, key: u64) -> bool {
     behind <= plain.len() && plain.insert(behind, (entry.0, key)).is_ok()
 }
 
-/// Whether a reply is that of a `Rekey`, which is done to the vector too.
+/// Returns whether a reply fits a `Rekey`, which is made in the vector too.
 fn is_rekey(plain: &mut Plain, p: P0, key: u64, reply: &Told) -> bool {
     match (reply, place_of_pointer(plain, p)) {
         (Reply::Item(Some(before)), Some(place)) => {
@@ -168,7 +168,7 @@ fn is_rekey(plain: &mut Plain, p: P0, key: u64, reply: &Told) -> bool {
     }
 }
 
-/// Whether a reply is that of a search.
+/// Returns whether a reply fits a search.
 fn is_search(plain: &Plain, key: u64, reply: &Told) -> bool {
     match reply {
         Reply::Found(found, _) => *found == pointer_of(plain, key),
@@ -176,7 +176,7 @@ fn is_search(plain: &Plain, key: u64, reply: &Told) -> bool {
     }
 }
 
-/// Whether a reply has the first so many entries, or was refused where there are some.
+/// Returns whether a reply has the first `count` entries, or was refused although there are some.
 fn is_list(plain: &Plain, count: usize, reply: &Told) -> bool {
     match reply {
         Reply::Entries(entries) => are_first(plain.as_slice(), entries, count),
@@ -184,7 +184,7 @@ fn is_list(plain: &Plain, count: usize, reply: &Told) -> bool {
     }
 }
 
-/// Whether a reply has a rank for each entry, or was refused where there are some.
+/// Returns whether a reply has a rank for each entry, or was refused although there are some.
 fn is_ranks(plain: &Plain, reply: &Told) -> bool {
     match reply {
         Reply::Ranks(ranks) => ranks.len() == plain.len(),
@@ -192,7 +192,7 @@ fn is_ranks(plain: &Plain, reply: &Told) -> bool {
     }
 }
 
-/// Whether a reply is that of a drain of so many entries, which empties the vector where it wasn't refused.
+/// Returns whether a reply fits a drain of `count` entries, which empties the vector unless it was refused.
 fn is_drain(plain: &mut Plain, count: usize, reply: &Told) -> bool {
     let is_told = is_list(plain, count, reply);
     if !is_refusal(reply) {
@@ -201,7 +201,7 @@ fn is_drain(plain: &mut Plain, count: usize, reply: &Told) -> bool {
     is_told
 }
 
-/// Whether a reply is that of a command over these entries, and does the same to them.
+/// Returns whether a reply fits a command to these entries, and changes them accordingly.
 fn is_reply(plain: &mut Plain, line: Line, reply: &Told) -> bool {
     match line {
         Insert(key) => is_insertion(plain, key, reply),
@@ -213,10 +213,10 @@ fn is_reply(plain: &mut Plain, line: Line, reply: &Told) -> bool {
     }
 }
 
-/// What was refused in a run: replies, insertions, lists, ranks, drains.
+/// What was refused in a run: the replies, insertions, lists, ranks, drains.
 type Refusals = [bool; 5];
 
-/// The place of a command among these.
+/// Returns the place of a command among these.
 fn place_among(line: Line) -> usize {
     match line {
         Insert(_) | Rekey(_, _) | Find(_) => 1,
@@ -229,7 +229,7 @@ fn place_among(line: Line) -> usize {
 /// The commands of the run, on a heap.
 type Commands<'h> = Vec<Command<P0, Item>, &'h LocalHeap>;
 
-/// Adds the commands of the run, where there is memory.
+/// Adds the commands of the run, if there is memory.
 fn add_commands(commands: &mut Commands) -> Result<(), AllocError> {
     commands.reserve_exact(LINES.len())?;
     for line in &LINES {
@@ -238,7 +238,7 @@ fn add_commands(commands: &mut Commands) -> Result<(), AllocError> {
     Ok(())
 }
 
-/// Whether a reply is that of a command to these entries, to which the same is done; a refusal is marked.
+/// Returns whether a reply fits a command to these entries, changes them accordingly, and marks a refusal.
 fn is_marked(plain: &mut Plain, line: Line, reply: &Told, refused: &mut Refusals) -> bool {
     if is_refusal(reply) {
         refused[place_among(line) % 5] = true;
@@ -246,7 +246,7 @@ fn is_marked(plain: &mut Plain, line: Line, reply: &Told, refused: &mut Refusals
     is_reply(plain, line, reply)
 }
 
-/// Whether the replies are those of the commands.
+/// Returns whether the replies fit the commands.
 fn are_replies(plain: &mut Plain, replies: &[Told], refused: &mut Refusals) -> bool {
     for place in 0..replies.len() {
         if !is_marked(plain, LINES[place % 34], &replies[place], refused) {
@@ -256,10 +256,10 @@ fn are_replies(plain: &mut Plain, replies: &[Told], refused: &mut Refusals) -> b
     replies.len() == LINES.len()
 }
 
-/// What the commands answer, where memory for the replies wasn't refused.
+/// The replies to the commands, unless memory for them was refused.
 type Outcome<'h> = Result<Vec<Told<'h>, &'h LocalHeap>, AllocError>;
 
-/// Whether the replies are those of the commands; where the replies were refused the arena has to have taken no memory.
+/// Returns whether the replies fit the commands. If the replies were refused, the arena must have taken no memory.
 fn is_outcome(
     plain: &mut Plain,
     outcome: &Outcome,
@@ -285,7 +285,7 @@ fn outcome_of<'h>(
     run(heap, arena, commands, &mut closure)
 }
 
-/// Whether the commands do on an arena what they do to the vector, which has the same entries.
+/// Returns whether the commands change an arena as they change the vector, which has the same entries.
 fn is_run<'h>(
     heap: &'h LocalHeap,
     arena: &mut Numbers<'h>,
@@ -297,7 +297,7 @@ fn is_run<'h>(
     is_outcome(plain, &outcome, arena.capacity(), refused)
 }
 
-/// What is refused to the commands where so many units of room are left beside them, if they do what they should.
+/// Returns what the commands are refused with this many units of room left, if they do what they should.
 fn run_in<'h>(
     heap: &'h LocalHeap,
     units: usize,
@@ -313,8 +313,8 @@ fn run_in<'h>(
     (is_full && taken.is_ok() && is_right).then_some(refused)
 }
 
-/// What is refused to the commands on an arena without an entry where so many units of room are left, if they do what they should then,
-/// and once more with memory, where nothing is refused and the first list tells what the first run left.
+/// Returns what the commands are refused on an empty arena with this many units of room left, if they do what they should. Then they run
+/// again with enough memory: nothing may be refused, and the first list must show what the first run left.
 fn run_twice(alloc: Global, heap: &LocalHeap, units: usize) -> Option<Refusals> {
     let mut arena = SimpleOrdArena::new(heap);
     let mut plain = Vec::new(alloc);
