@@ -1,4 +1,4 @@
-//! Agendas of letters, as a program sees them.
+//! Agendas of letters, from a program's view.
 mod sequences;
 
 use agenda::{Agenda, ReallocationError, Ticket};
@@ -7,7 +7,7 @@ use std::alloc::{AllocError, Allocator, Global};
 
 type Letters<A = Global> = Agenda<char, A>;
 
-/// A call on an agenda, on the ticket of the job that a place in the list of all tickets names.
+/// A call on an agenda. Tickets are named by their places in the list of all tickets.
 #[derive(Clone, Copy)]
 enum Call {
     Schedule(u64, char),
@@ -17,8 +17,8 @@ enum Call {
     PopDue(u64),
 }
 
-/// Makes a call, and keeps the ticket that it gives. Answers deadline and letter of the job that it names or takes, if there is one; of a
-/// job that is moved or rescheduled the new deadline and a space.
+/// Makes a call, and keeps its ticket. Returns the deadline and the letter of the job that it names or removes, if any; for a job that is
+/// moved or rescheduled, the new deadline and a space.
 fn job_of<A: Allocator>(
     letters: &mut Letters<A>,
     tickets: &mut Vec<Ticket>,
@@ -43,11 +43,11 @@ fn job_of<A: Allocator>(
     }
 }
 
-/// A call, and the job that it names or takes.
+/// A call, and the job that it names or removes.
 type Row = (Call, Option<(u64, char)>);
 
-/// Jobs leave by deadline, and then by the order of scheduling; one that is moved stands behind its equals; tickets of jobs that left name
-/// nothing. The agenda is empty at last.
+/// Jobs leave by deadline, then in the order of scheduling. A moved job goes behind those with an equal deadline. Tickets of jobs that
+/// left name nothing. In the end the agenda is empty.
 const ROWS: [Row; 36] = [
     (Call::Schedule(10, 'a'), Some((10, 'a'))),
     (Call::Schedule(5, 'b'), Some((5, 'b'))),
@@ -61,7 +61,7 @@ const ROWS: [Row; 36] = [
     (Call::PopDue(10), Some((10, 'b'))),
     (Call::PopDue(10), None),
     (Call::Cancel(1), None),
-    // tickets of jobs that left, the last of them with the index of the next
+    // tickets of jobs that left, the last of which has the index of the next one
     (Call::Schedule(7, 'x'), Some((7, 'x'))),
     (Call::PopDue(6), None),
     (Call::PopDue(7), Some((7, 'x'))),
@@ -71,7 +71,7 @@ const ROWS: [Row; 36] = [
     (Call::Cancel(5), None),
     (Call::Cancel(6), Some((7, 'y'))),
     (Call::PopDue(u64::MAX), None),
-    // moves to the own deadline, to the front, and to that of the last
+    // moves to the job's own deadline, to the front, and to that of the last job
     (Call::Schedule(3, 'a'), Some((3, 'a'))),
     (Call::Schedule(3, 'b'), Some((3, 'b'))),
     (Call::Schedule(8, 'c'), Some((8, 'c'))),
@@ -99,8 +99,7 @@ fn jobs_leave_by_deadline_and_then_by_the_order_of_scheduling(rt: HostRuntime) {
     assert!(rt; (letters.len(), letters.next_deadline()) == (0, None));
 }
 
-/// Schedules as many letters as find room, each with the deadline 9; answers how many, where a refusal gives the letter back and changes
-/// nothing.
+/// Schedules as many letters as fit, each with deadline 9. Returns how many; `None` if a refusal keeps the letter or changes something.
 fn fill(letters: &mut Letters<&LocalHeap>) -> Option<usize> {
     for held in 0usize..9 {
         if let Err(refused) = letters.schedule(9, 'j') {
@@ -111,7 +110,7 @@ fn fill(letters: &mut Letters<&LocalHeap>) -> Option<usize> {
     Some(9)
 }
 
-/// All memory that a heap has left.
+/// Takes all memory that a heap has left.
 pub(crate) fn rest_of(
     alloc: Global,
     heap: &LocalHeap,
@@ -140,7 +139,7 @@ fn a_job_comes_back_where_memory_is_refused(rt: HostRuntime) {
         }
         assert!(rt; letters.is_empty());
     }
-    // each growth was refused in turn: from nothing, from 4, from 8
+    // each growth was refused in turn: from 0, from 4, from 8
     assert!(rt; (met[0], met[4], met[8], met[9]) == (true, true, true, true));
 }
 
@@ -168,7 +167,7 @@ const AFTER: [Row; 7] = [
     (Call::PopDue(u64::MAX), None),
 ];
 
-/// Whether each call names or takes the job that it should.
+/// Returns whether each call names or removes the right job.
 fn are_right(letters: &mut Letters<&LocalHeap>, tickets: &mut Vec<Ticket>, rows: &[Row]) -> bool {
     let mut are_right = true;
     for (call, wanted) in rows {
@@ -189,7 +188,7 @@ fn moving_asks_for_no_memory(rt: HostRuntime) {
     assert!(rt; are_right(&mut letters, &mut tickets, &AFTER));
 }
 
-/// Schedules so many letters, and answers whether all found room.
+/// Schedules `count` letters. Returns whether all fit.
 fn all_fit(letters: &mut Letters<&LocalHeap>, count: usize) -> bool {
     for _ in 0..count {
         if letters.schedule(3, 'r').is_err() {

@@ -1,5 +1,5 @@
-//! Tests of the collections that are built on the ordered arena, `agenda`, `timeline` and `order_book`, as a program that
-//! depends on them sees them: worked examples, every sequence of a few orders, refused memory, and what else no clause can say.
+//! Tests of the collections built on the ordered arena (`agenda`, `timeline` and `order_book`) from a dependent program's view: worked
+//! examples, every sequence of a few orders, refused memory, and facts that no clause states.
 #![tactic(auto)]
 
 #[cfg(test)]

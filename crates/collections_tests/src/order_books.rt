@@ -1,4 +1,4 @@
-//! Order books: a trading day, orders that are replaced, every sequence of a few orders, refused memory.
+//! Order books: a trading day, replaced orders, every sequence of a few orders, refused memory.
 mod day;
 mod refused;
 mod replaced;

@@ -1,8 +1,8 @@
-//! The refusals of orders as they are printed.
+//! The errors of orders, as printed.
 use order_book::{PlacingError, ReplacingError};
 use std::alloc::Global;
 
-/// The texts of a refusal.
+/// Returns the texts of an error.
 fn text_of_placing(alloc: Global, refusal: PlacingError) -> Option<String> {
     format!(in alloc; "{refusal}, {refusal:?}").ok()
 }
@@ -11,7 +11,7 @@ fn text_of_replacing(alloc: Global, refusal: ReplacingError) -> Option<String> {
     format!(in alloc; "{refusal}, {refusal:?}").ok()
 }
 
-/// Whether there was memory for a text, and it is this one.
+/// Returns whether there was memory for a text, and it is this one.
 fn is_text(text: Option<String>, wanted: &str) -> bool {
     match text {
         Some(text) => text.as_str() == wanted,

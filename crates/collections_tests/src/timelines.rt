@@ -1,4 +1,4 @@
-//! Timelines of small numbers, as a program sees them.
+//! Timelines of small numbers, from a program's view.
 use crate::agendas::rest_of;
 use linked_list_allocator::LocalHeap;
 use std::alloc::Global;
@@ -6,10 +6,10 @@ use timeline::{ReallocationError, Span, Timeline};
 
 type Numbers<A = Global> = Timeline<u8, A>;
 
-/// A time, first and behind the last, with the value that it is given, or none.
+/// The beginning and the end of a stretch of time, and its new value, or none.
 type Setting = (u64, u64, Option<u8>);
 
-/// Gives a time its value.
+/// Gives a stretch of time its value.
 fn put(numbers: &mut Numbers, setting: Setting) -> Result<(), ReallocationError> {
     match setting {
         (from, until, Some(value)) => numbers.set(from, until, value),
@@ -17,12 +17,12 @@ fn put(numbers: &mut Numbers, setting: Setting) -> Result<(), ReallocationError>
     }
 }
 
-/// Whether a stretch begins, ends and has a value as this one.
+/// Returns whether a span has this beginning, end and value.
 fn is_span(span: &Span<u8>, (from, until, value): (u64, u64, u8)) -> bool {
     span.from == from && span.until == until && span.value == value
 }
 
-/// Whether the first stretch in a time is this one, if any.
+/// Returns whether the first span in a stretch of time is this one, if any.
 fn has_first(numbers: &Numbers, from: u64, until: u64, wanted: Option<&(u64, u64, u8)>) -> bool {
     match (numbers.next_span(from, until), wanted) {
         (Some(span), Some(wanted)) => is_span(&span, *wanted),
@@ -31,7 +31,7 @@ fn has_first(numbers: &Numbers, from: u64, until: u64, wanted: Option<&(u64, u64
     }
 }
 
-/// Whether the stretches in a time are these, by `spans`, and the first of them also by `next_span`.
+/// Returns whether the spans in a stretch of time are these, by `spans`, and the first of them also by `next_span`.
 fn has_spans(numbers: &Numbers, from: u64, until: u64, wanted: &[(u64, u64, u8)]) -> bool {
     let mut left = wanted;
     for span in numbers.spans(from, until) {
@@ -43,10 +43,10 @@ fn has_spans(numbers: &Numbers, from: u64, until: u64, wanted: &[(u64, u64, u8)]
     left.is_empty() && has_first(numbers, from, until, wanted.first())
 }
 
-/// What a setting makes of a day: all its stretches.
+/// A setting, and all spans of the day after it.
 type Step<'a> = (Setting, &'a [(u64, u64, u8)]);
 
-/// Makes a setting, and tells whether the day has just these stretches then, and as many changes.
+/// Makes a setting. Returns whether the day then has exactly these spans, and this many changes.
 fn step(day: &mut Numbers, step: &Step<'_>, changes: usize) -> Result<bool, ReallocationError> {
     put(day, step.0)?;
     Ok(has_spans(day, 0, u64::MAX, step.1) && day.len() == changes)
@@ -64,7 +64,7 @@ fn a_day_with_a_meeting(rt: HostRuntime) {
             ((12, 13, Some(2)), &[(9, 12, 1), (12, 13, 2), (13, 17, 1)]),
             4,
         ),
-        // a break, in which nothing holds
+        // a break, without a value
         (
             (
                 (15, 16, None),
@@ -78,7 +78,7 @@ fn a_day_with_a_meeting(rt: HostRuntime) {
             4,
         ),
         (((12, 13, Some(1)), &[(9, 17, 1)]), 2),
-        // what is set again changes nothing, nor does a time that ends before it begins
+        // setting the same value again changes nothing, and neither does an empty or backward stretch
         (((10, 12, Some(1)), &[(9, 17, 1)]), 2),
         (((12, 12, Some(3)), &[(9, 17, 1)]), 2),
         (((13, 12, Some(3)), &[(9, 17, 1)]), 2),
@@ -93,7 +93,7 @@ fn a_day_with_a_meeting(rt: HostRuntime) {
     }
 }
 
-/// At work from 9 until 17, at lunch from 12 until 13.
+/// Returns a day at work from 9 until 17, with lunch from 12 until 13.
 fn a_day(alloc: Global) -> Result<Numbers, ReallocationError> {
     let mut day = Numbers::new(alloc);
     put(&mut day, (9, 17, Some(1)))?;
@@ -118,7 +118,7 @@ fn stretches_are_cut_at_the_time_that_is_asked_for(rt: HostRuntime) {
     }
 }
 
-/// The number of times that the tests with many settings look at.
+/// The number of times that the tests with many settings check.
 const TIMES: usize = 7;
 
 /// Gives the times in between their value.
@@ -132,7 +132,7 @@ fn put_plainly(values: &mut [Option<u8>; TIMES], (from, until, value): Setting) 
     }
 }
 
-/// Whether the values at the times from 0 on are these, and the number of changes is theirs.
+/// Returns whether the values at the times from 0 on are these, and the number of changes agrees with them.
 fn has_values(numbers: &Numbers, values: &[Option<u8>; TIMES]) -> bool {
     let (mut time, mut changes, mut before) = (0u64, 0usize, None);
     for value in values {
@@ -148,7 +148,7 @@ fn has_values(numbers: &Numbers, values: &[Option<u8>; TIMES]) -> bool {
     numbers.len() == changes
 }
 
-/// Whether the stretches are those of these values: they give each time its value, and no two neighbours have one value.
+/// Returns whether the spans agree with these values: they give each time its value, and neighbours have different values.
 fn has_stretches(numbers: &Numbers, values: &[Option<u8>; TIMES]) -> bool {
     let mut painted = [None; TIMES];
     let mut last = (0u64, None);
@@ -163,7 +163,7 @@ fn has_stretches(numbers: &Numbers, values: &[Option<u8>; TIMES]) -> bool {
     painted == *values
 }
 
-/// Whether a timeline of these settings is what they make of a plain list.
+/// Returns whether a timeline after these settings agrees with a plain list.
 fn is_plain(alloc: Global, settings: &[Setting]) -> Result<bool, ReallocationError> {
     let mut numbers = Numbers::new(alloc);
     let mut values = [None; TIMES];
@@ -174,7 +174,7 @@ fn is_plain(alloc: Global, settings: &[Setting]) -> Result<bool, ReallocationErr
     Ok(has_values(&numbers, &values) && has_stretches(&numbers, &values))
 }
 
-/// The setting with this number: of all from times below six until times up to six, to nothing, 1 or 2.
+/// Returns the setting with this number, of all from times below six until times up to six, to nothing, 1 or 2.
 fn setting(n: u64) -> Setting {
     let value = match n % 3 {
         0 => None,
@@ -212,8 +212,8 @@ fn five_settings_in_many_orders(rt: HostRuntime) {
     }
 }
 
-/// Sets stretches apart from each other until memory is refused, and tells how many there were; 10 where one isn't as it was set, or
-/// where a refusal changed something.
+/// Sets spans apart from each other until memory is refused. Returns how many were set; 10 if one isn't as it was set, or a refusal
+/// changed something.
 fn set_until_refused(numbers: &mut Numbers<&LocalHeap>) -> u64 {
     for n in 0..9u64 {
         let (from, until) = (n * 10, n * 10 + 5);
@@ -240,11 +240,11 @@ fn nothing_changes_where_memory_is_refused(rt: HostRuntime) {
         assert!(rt; set < 10);
         met[set as usize] = true;
     }
-    // each growth was refused in turn: from nothing, from 4, from 8, from 16
+    // each growth was refused in turn: from 0, from 4, from 8, from 16
     assert!(rt; met[0] && met[2] && met[4] && met[8] && met[9]);
 }
 
-/// Sets five times from this one on, and tells whether it was done; None where it was refused for want of memory.
+/// Sets five times from this one on. Returns whether that succeeded; `None` if memory was refused.
 fn set_from(numbers: &mut Numbers<&LocalHeap>, from: u64) -> Option<bool> {
     match numbers.set(from, from.wrapping_add(5), 1) {
         Ok(()) => Some(true),

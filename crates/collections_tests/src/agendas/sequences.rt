@@ -1,4 +1,4 @@
-//! Every sequence of five calls on an agenda of three jobs, against a plain list.
+//! Every sequence of five calls on an agenda of three jobs, compared with a plain list.
 use super::Letters;
 use agenda::Ticket;
 use std::alloc::Global;
@@ -11,7 +11,7 @@ struct Job {
     letter: char,
 }
 
-/// An agenda beside the plain list of its jobs, in the order in which they leave, and all tickets in the order in which they were issued.
+/// An agenda beside the plain list of its jobs, in the order in which they leave, and all tickets in the order of their issue.
 #[derive(Drop)]
 struct Beside {
     letters: Letters,
@@ -32,7 +32,7 @@ fn put(jobs: &mut Vec<Job>, job: Job) {
     }
 }
 
-/// Takes the job of a ticket out of the list.
+/// Removes the job of a ticket from the list.
 fn take(jobs: &mut Vec<Job>, ticket: Ticket) -> Option<Job> {
     for place in 0..jobs.len() {
         if jobs[place].ticket == ticket {
@@ -42,7 +42,7 @@ fn take(jobs: &mut Vec<Job>, ticket: Ticket) -> Option<Job> {
     None
 }
 
-/// A job without its ticket.
+/// Returns a job without its ticket.
 fn without_ticket(job: Option<Job>) -> Option<(u64, char)> {
     let job = job?;
     Some((job.deadline, job.letter))
@@ -66,7 +66,7 @@ fn schedule(beside: &mut Beside, deadline: u64) -> bool {
     beside.tickets.push(ticket).is_ok()
 }
 
-/// The ticket that was issued at a place of the order.
+/// Returns the ticket at a place in the order of issue.
 fn ticket_at(beside: &Beside, place: usize) -> Option<Ticket> {
     beside.tickets.get(place).copied()
 }
@@ -108,7 +108,7 @@ fn move_to(beside: &mut Beside, place: usize, deadline: u64) -> bool {
     }
 }
 
-/// Takes the job of a ticket off.
+/// Cancels the job of a ticket.
 fn cancel(beside: &mut Beside, place: usize) -> bool {
     let Some(ticket) = ticket_at(beside, place) else {
         return false;
@@ -117,7 +117,7 @@ fn cancel(beside: &mut Beside, place: usize) -> bool {
     beside.letters.cancel(ticket) == without_ticket(wanted)
 }
 
-/// Takes the first job off, if it is due.
+/// Removes the first job, if it is due.
 fn pop_due(beside: &mut Beside, now: u64) -> bool {
     let mut wanted = None;
     if let Some(job) = beside.jobs.first().copied() {
@@ -128,7 +128,7 @@ fn pop_due(beside: &mut Beside, now: u64) -> bool {
     beside.letters.pop_due(now) == without_ticket(wanted)
 }
 
-/// The calls of sequences; those by ticket name the first or the second ticket that was issued.
+/// The calls of the sequences. Those by ticket name the first or the second ticket issued.
 #[derive(Clone, Copy)]
 enum Call {
     Schedule(u64),
@@ -150,7 +150,7 @@ const CALLS: [Call; 9] = [
     Call::PopDue(1),
 ];
 
-/// Makes a call, and tells whether agenda and list answer alike.
+/// Makes a call. Returns whether agenda and list agree on its result.
 fn is_made(beside: &mut Beside, call: Call) -> bool {
     match call {
         Call::Schedule(deadline) => schedule(beside, deadline),
@@ -161,7 +161,7 @@ fn is_made(beside: &mut Beside, call: Call) -> bool {
     }
 }
 
-/// Whether the agenda shows just the jobs of the list, in its order, and by their tickets.
+/// Returns whether the agenda shows exactly the jobs of the list, in its order, and by their tickets.
 fn show_alike(beside: &Beside) -> bool {
     let mut place = 0usize;
     for (ticket, deadline, letter) in beside.letters.iter() {
@@ -184,7 +184,7 @@ fn show_alike(beside: &Beside) -> bool {
     place == beside.jobs.len()
 }
 
-/// Whether agenda and list have the same jobs, and the same one first.
+/// Returns whether agenda and list have the same jobs, and the same first one.
 fn are_alike(beside: &Beside) -> bool {
     let first = match beside.letters.peek() {
         Some((ticket, _, _)) => Some(ticket),
@@ -197,7 +197,7 @@ fn are_alike(beside: &Beside) -> bool {
     first == wanted && beside.letters.len() == beside.jobs.len() && show_alike(beside)
 }
 
-/// Whether all jobs leave the agenda as they stand in the list.
+/// Returns whether all jobs leave the agenda in the order of the list.
 fn leave_alike(beside: &mut Beside) -> bool {
     for _ in 0..beside.jobs.len() {
         if !pop_due(beside, u64::MAX) {
@@ -207,7 +207,7 @@ fn leave_alike(beside: &mut Beside) -> bool {
     beside.letters.is_empty()
 }
 
-/// Makes the calls of the sequence with this number, whose digits to the base 9 are those of its calls.
+/// Makes the calls of the sequence with this number. Its digits in base 9 are those of the calls.
 fn all_are_made(beside: &mut Beside, number: usize) -> bool {
     let mut digits = number;
     for _ in 0..5u32 {
@@ -219,7 +219,7 @@ fn all_are_made(beside: &mut Beside, number: usize) -> bool {
     leave_alike(beside)
 }
 
-/// Whether an agenda of three jobs, two of them with equal deadlines, does what a list does.
+/// Returns whether an agenda of three jobs, two of them with equal deadlines, behaves like a list.
 fn is_plain(alloc: Global, number: usize) -> bool {
     let mut beside = Beside {
         letters: Letters::new(alloc),

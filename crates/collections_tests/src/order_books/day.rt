@@ -2,10 +2,10 @@
 use order_book::{OrderBook, OrderId, Side, Trade};
 use std::alloc::AllocError;
 
-/// A trade: the number of the order that rests, the price and the quantity.
+/// A trade: the number of the resting order, the price and the quantity.
 type Wanted = (usize, u64, u64);
 
-/// An order: its side, its price and its quantity; its trades; and how much of it comes to rest. Orders are counted from 1.
+/// An order's side, price and quantity; its trades; and how much of it comes to rest. Orders are counted from 1.
 type Row = (Side, u64, u64, &'static [Wanted], u64);
 
 const DAY: &[Row] = &[
@@ -47,7 +47,7 @@ const DAY: &[Row] = &[
     (Side::Buy, 125, 60, &[(28, 120, 48)], 12),
 ];
 
-/// What rests at the end, bids alone, in the order in which they trade. Told as trades of an order that takes all of it.
+/// The orders that rest at the end, all of them bids, in the order in which they trade, as trades of an order that takes them all.
 const AT_THE_END: [Wanted; 5] = [
     (30, 125, 12),
     (29, 119, 50),
@@ -56,15 +56,15 @@ const AT_THE_END: [Wanted; 5] = [
     (26, 96, 1),
 ];
 
-/// The names of the orders so far; none where nothing of an order came to rest.
+/// The names of the orders so far; `None` if nothing of an order came to rest.
 type Names = Vec<Option<OrderId>>;
 
-/// The name of the order with this number.
+/// Returns the name of the order with this number.
 fn name_of(names: &Names, number: usize) -> Option<OrderId> {
     *names.get(number.wrapping_sub(1))?
 }
 
-/// Whether a trade is this one.
+/// Returns whether a trade is this one.
 fn is_trade(names: &Names, trade: &Trade, wanted: &Wanted) -> bool {
     let (number, price, quantity) = *wanted;
     if trade.price != price || trade.quantity != quantity {
@@ -73,7 +73,7 @@ fn is_trade(names: &Names, trade: &Trade, wanted: &Wanted) -> bool {
     name_of(names, number) == Some(trade.order)
 }
 
-/// Whether the trades are these.
+/// Returns whether the trades are these.
 fn are_trades(names: &Names, trades: &[Trade], wanted: &[Wanted]) -> bool {
     let mut left = wanted;
     for trade in trades {
@@ -85,7 +85,7 @@ fn are_trades(names: &Names, trades: &[Trade], wanted: &[Wanted]) -> bool {
     left.is_empty()
 }
 
-/// Whether so much of an order rests at this price.
+/// Returns whether this much of an order rests at this price.
 fn rests(book: &OrderBook, name: Option<OrderId>, price: u64, rest: u64) -> bool {
     match name {
         Some(id) => rest > 0 && book.get(id) == Some((price, rest)),
@@ -93,7 +93,7 @@ fn rests(book: &OrderBook, name: Option<OrderId>, price: u64, rest: u64) -> bool
     }
 }
 
-/// Places an order, and tells whether it trades and rests as it should.
+/// Places an order. Returns whether it trades and rests as it should.
 fn place(
     book: &mut OrderBook,
     names: &mut Names,
@@ -109,7 +109,7 @@ fn place(
     Ok(are_trades(names, trades, wanted) && rests(book, name, price, rest))
 }
 
-/// Whether the book has just these bids, and no asks.
+/// Returns whether the book has exactly these bids, and no asks.
 fn has_bids(book: &OrderBook, names: &Names, bids: &[Wanted]) -> bool {
     for (number, price, quantity) in bids {
         if !rests(book, name_of(names, *number), *price, *quantity) {
@@ -119,7 +119,7 @@ fn has_bids(book: &OrderBook, names: &Names, bids: &[Wanted]) -> bool {
     book.count(Side::Buy) == bids.len() && book.count(Side::Sell) == 0
 }
 
-/// Sells all that is wanted at any price, and tells whether the trades are these, and nothing rests then.
+/// Sells all that is wanted, at any price. Returns whether the trades are these, and nothing rests afterwards.
 fn sell_all(
     book: &mut OrderBook,
     names: &Names,

@@ -1,4 +1,4 @@
-//! Books on a heap of which little is left: what is refused changes nothing, and the same call made again with memory succeeds.
+//! Books on a heap with little memory left: a refused call changes nothing, and the same call succeeds once there is memory.
 use linked_list_allocator::LocalHeap;
 use order_book::{OrderBook, OrderId, PlacingError, ReplacingError, Side, Trade};
 use std::alloc::{AllocError, Global};
@@ -9,7 +9,7 @@ type Book<'h> = OrderBook<&'h LocalHeap>;
 /// Trades on a heap.
 type Trades<'h> = Vec<Trade, &'h LocalHeap>;
 
-/// The blocks that were taken of a heap.
+/// The blocks taken from a heap.
 type Blocks<'h> = Vec<Vec<u8, &'h LocalHeap>>;
 
 /// Takes up to four blocks of this size.
@@ -22,7 +22,7 @@ fn take<'h>(heap: &'h LocalHeap, blocks: &mut Blocks<'h>, size: usize) -> Result
     Ok(())
 }
 
-/// Takes all the room of a heap, in ever smaller blocks.
+/// Takes all memory of a heap, in ever smaller blocks.
 fn take_all<'h>(heap: &'h LocalHeap, blocks: &mut Blocks<'h>) -> Result<(), AllocError> {
     for size in &[8192usize, 4096, 2048, 1024, 512, 256, 128, 64, 32, 16] {
         take(heap, blocks, *size)?;
@@ -30,13 +30,13 @@ fn take_all<'h>(heap: &'h LocalHeap, blocks: &mut Blocks<'h>) -> Result<(), Allo
     Ok(())
 }
 
-/// Takes the room of a heap but for so many units of 16 bytes in one piece.
+/// Takes the memory of a heap, except for this many units of 16 bytes in one piece.
 fn leave<'h>(heap: &'h LocalHeap, blocks: &mut Blocks<'h>, units: usize) -> Result<(), AllocError> {
     let _room: Vec<u8, &LocalHeap> = Vec::with_capacity(heap, units.saturating_mul(16))?;
     take_all(heap, blocks)
 }
 
-/// Puts an order of one unit on the book, and its name to the others; tells whether it rests, and there was memory.
+/// Places an order of one unit, and keeps its name. Returns whether it rests, and there was memory.
 fn put_one(book: &mut Book, side: Side, names: &mut Vec<OrderId>, trades: &mut Vec<Trade>) -> bool {
     match book.place(side, price_on(side), 1, trades) {
         Ok(Some(name)) => names.push(name).is_ok(),
@@ -44,7 +44,7 @@ fn put_one(book: &mut Book, side: Side, names: &mut Vec<OrderId>, trades: &mut V
     }
 }
 
-/// Puts so many orders on the book, each of one unit, asks at the price 7 or bids at 5, and their names to the others; tells whether all rest.
+/// Places `count` orders of one unit each, asks at the price 7 or bids at 5, and keeps their names. Returns whether all rest.
 fn put(alloc: Global, book: &mut Book, side: Side, names: &mut Vec<OrderId>, count: usize) -> bool {
     let mut trades = Vec::new(alloc);
     let mut are_put = true;
@@ -54,7 +54,7 @@ fn put(alloc: Global, book: &mut Book, side: Side, names: &mut Vec<OrderId>, cou
     are_put
 }
 
-/// The price at which orders of a side rest.
+/// Returns the price at which orders of a side rest.
 fn price_on(side: Side) -> u64 {
     match side {
         Side::Buy => 5,
@@ -62,7 +62,7 @@ fn price_on(side: Side) -> u64 {
     }
 }
 
-/// Whether these are all orders of a side, each still of one unit.
+/// Returns whether these are all orders of a side, each still of one unit.
 fn has_all(book: &Book, side: Side, names: &[OrderId]) -> bool {
     for name in names {
         if book.get(*name) != Some((price_on(side), 1)) {
@@ -72,12 +72,12 @@ fn has_all(book: &Book, side: Side, names: &[OrderId]) -> bool {
     book.count(side) == names.len()
 }
 
-/// Whether so many asks and bids rest.
+/// Returns whether this many asks and bids rest.
 fn has_counts(book: &Book, asks: usize, bids: usize) -> bool {
     book.count(Side::Sell) == asks && book.count(Side::Buy) == bids
 }
 
-/// A book on a heap, the trades that its orders made, and the orders that were put on it.
+/// A book on a heap, the trades of its orders, and the orders placed on it.
 #[derive(Drop)]
 struct Market<'h> {
     book: Book<'h>,
@@ -86,7 +86,7 @@ struct Market<'h> {
     bids: Vec<OrderId>,
 }
 
-/// A market without an order.
+/// Returns a market without orders.
 fn new_market<'h>(alloc: Global, heap: &'h LocalHeap) -> Market<'h> {
     Market {
         book: OrderBook::new(heap),
@@ -96,27 +96,27 @@ fn new_market<'h>(alloc: Global, heap: &'h LocalHeap) -> Market<'h> {
     }
 }
 
-/// Puts so many asks and bids on a market; tells whether all rest.
+/// Places this many asks and bids on a market. Returns whether all rest.
 fn open(alloc: Global, market: &mut Market, asks: usize, bids: usize) -> bool {
     put(alloc, &mut market.book, Side::Sell, &mut market.asks, asks)
         && put(alloc, &mut market.book, Side::Buy, &mut market.bids, bids)
 }
 
-/// Whether nothing was traded, and all orders that were put on the book rest there.
+/// Returns whether nothing was traded, and all orders placed on the book rest there.
 fn is_untouched(market: &Market) -> bool {
     market.trades.is_empty()
         && has_all(&market.book, Side::Sell, &market.asks)
         && has_all(&market.book, Side::Buy, &market.bids)
 }
 
-/// An order: a new one for 22 units at the price 7, or one for 10 units at the price 5 in place of the first ask.
+/// An order: a new one for 22 units at the price 7, or one for 10 units at the price 5 that replaces the first ask.
 #[derive(Clone, Copy)]
 enum Order {
     New(Side),
     Replacing,
 }
 
-/// Places a new order. Tells whether it was placed, and not refused memory; None of any other refusal.
+/// Places a new order. Returns false if memory was refused; `None` on any other error.
 fn place(market: &mut Market, side: Side) -> Option<bool> {
     match market.book.place(side, 7, 22, &mut market.trades) {
         Ok(_) => Some(true),
@@ -125,7 +125,7 @@ fn place(market: &mut Market, side: Side) -> Option<bool> {
     }
 }
 
-/// Replaces the first ask. Tells whether it was replaced, and not refused memory; None of any other refusal.
+/// Replaces the first ask. Returns false if memory was refused; `None` on any other error.
 fn replace(market: &mut Market) -> Option<bool> {
     let ask = *market.asks.first()?;
     match market.book.replace(ask, 5, 10, &mut market.trades) {
@@ -135,7 +135,7 @@ fn replace(market: &mut Market) -> Option<bool> {
     }
 }
 
-/// Gives an order. Tells whether it was taken, and not refused memory; None of any other refusal.
+/// Gives an order. Returns false if memory was refused; `None` on any other error.
 fn give(market: &mut Market, order: Order) -> Option<bool> {
     match order {
         Order::New(side) => place(market, side),
@@ -143,7 +143,7 @@ fn give(market: &mut Market, order: Order) -> Option<bool> {
     }
 }
 
-/// Whether an order has traded with all that rested on the other side, and what is left of it rests beside the other orders of its side.
+/// Returns whether an order traded with all orders on the other side, and its rest is beside the other orders of its side.
 fn is_done(market: &Market, order: Order) -> bool {
     let (asks, bids) = (market.asks.len(), market.bids.len());
     let (traded, asks, bids) = match order {
@@ -154,7 +154,7 @@ fn is_done(market: &Market, order: Order) -> bool {
     market.trades.len() == traded && has_counts(&market.book, asks, bids)
 }
 
-/// Gives an order with so many units of memory left. Tells whether it was taken; None where a refusal changed something.
+/// Gives an order with this many units of memory left. Returns whether it was taken; `None` if a refusal changed something.
 fn give_in_little<'h>(
     alloc: Global,
     heap: &'h LocalHeap,
@@ -173,8 +173,8 @@ fn give_in_little<'h>(
     }
 }
 
-/// Gives an order with so many units of memory left, and where that is refused again with more memory. Tells whether it was refused; None
-/// where it wasn't done as a whole then.
+/// Gives an order with this many units of memory left, and if it is refused, again with more memory. Returns whether it was refused;
+/// `None` if it isn't done as a whole in the end.
 fn is_refused_at_first<'h>(
     alloc: Global,
     heap: &'h LocalHeap,
@@ -187,10 +187,10 @@ fn is_refused_at_first<'h>(
     (is_taken && is_done(market, order)).then_some(!at_once)
 }
 
-/// Whether an order on a book with so many asks and bids is refused with so many units of memory left; None where the book doesn't do as it
-/// should.
+/// Returns whether an order on a book with this many asks and bids is refused with this many units of memory left; `None` if the book
+/// fails.
 fn is_refused(alloc: Global, order: Order, asks: usize, bids: usize, units: usize) -> Option<bool> {
-    // a heap that has room for all of a test
+    // a heap with room for a whole test
     let heap = LocalHeap::new(alloc, 1 << 14).ok()?;
     let mut market = new_market(alloc, &heap);
     if open(alloc, &mut market, asks, bids) {
@@ -200,7 +200,7 @@ fn is_refused(alloc: Global, order: Order, asks: usize, bids: usize, units: usiz
     }
 }
 
-/// How often an order is refused with no memory left, with one unit, with two and so on; None where the book doesn't do as it should.
+/// Returns how often an order is refused with no units of memory left, with one, with two and so on; `None` if the book fails.
 fn refusals(alloc: Global, order: Order, asks: usize, bids: usize) -> Option<u32> {
     let mut refused = 0u32;
     for units in 0..128usize {
@@ -211,14 +211,14 @@ fn refusals(alloc: Global, order: Order, asks: usize, bids: usize) -> Option<u32
     Some(refused)
 }
 
-/// Whether an order was refused at least once, and taken at least once.
+/// Returns whether an order was refused at least once, and taken at least once.
 fn is_sometimes(refused: Option<u32>) -> bool {
     matches!(refused, Some(1..=127))
 }
 
 #[test]
 fn a_bid_is_placed_or_refused_as_a_whole(rt: HostRuntime) {
-    // it trades with all asks, and what is left wants room of its own
+    // it trades with all asks, and its rest needs room of its own
     for asks in &[0usize, 1, 4, 5, 9] {
         let refused = refusals(rt.alloc(), Order::New(Side::Buy), *asks, 0);
         assert!(rt; is_sometimes(refused));

@@ -1,16 +1,16 @@
-//! Orders that are replaced and cancelled.
+//! Replaced and cancelled orders.
 use order_book::{OrderBook, OrderId, PlacingError, ReplacingError, Side, Trade};
 use std::alloc::Global;
 
 /// A side, a price and a quantity.
 type Placed = (Side, u64, u64);
 
-/// Places an order, and answers its name, if something of it comes to rest.
+/// Places an order. Returns its name, if something of it comes to rest.
 fn put(book: &mut OrderBook, order: Placed, trades: &mut Vec<Trade>) -> Option<OrderId> {
     book.place(order.0, order.1, order.2, trades).ok()?
 }
 
-/// Replaces an order, and answers its new name, if something of it comes to rest again.
+/// Replaces an order. Returns its new name, if something of it comes to rest again.
 fn put_anew(
     book: &mut OrderBook,
     id: OrderId,
@@ -20,7 +20,7 @@ fn put_anew(
     book.replace(id, order.0, order.1, trades).ok()?
 }
 
-/// Whether this ask is the first, and so much is left of it.
+/// Returns whether this ask is the first, with this quantity left.
 fn is_first_ask(book: &OrderBook, id: OrderId, quantity: u64) -> bool {
     match book.best_ask() {
         Some(ask) => ask.id == id && ask.quantity == quantity,
@@ -28,7 +28,7 @@ fn is_first_ask(book: &OrderBook, id: OrderId, quantity: u64) -> bool {
     }
 }
 
-/// Whether the trades are with these orders, each so much, all at this price.
+/// Returns whether the trades are with these orders and quantities, all at this price.
 fn are_trades(trades: &[Trade], price: u64, wanted: &[(OrderId, u64)]) -> bool {
     let mut left = wanted;
     for trade in trades {
@@ -43,8 +43,8 @@ fn are_trades(trades: &[Trade], price: u64, wanted: &[(OrderId, u64)]) -> bool {
     left.is_empty()
 }
 
-/// Whether two asks of 5 and 6 units at the price 50, of which the first is replaced by what it was, trade in the other order; None where
-/// one of the orders doesn't come to rest.
+/// Returns whether two asks of 5 and 6 units at the price 50 trade in the other order after the first is replaced by an equal one; `None`
+/// if one of the orders doesn't come to rest.
 fn goes_behind_its_equals(book: &mut OrderBook, trades: &mut Vec<Trade>) -> Option<bool> {
     let a = put(book, (Side::Sell, 50, 5), trades)?;
     let b = put(book, (Side::Sell, 50, 6), trades)?;
@@ -67,8 +67,8 @@ fn an_order_that_is_replaced_stands_behind_its_equals(rt: HostRuntime) {
     assert!(rt; book.count(Side::Sell) == 0);
 }
 
-/// Whether a bid at 40 that is raised to 50 trades with an ask of which a part was sold already, and rests with what is left; None where
-/// one of the orders doesn't come to rest.
+/// Returns whether a bid at 40 that is raised to 50 trades with an ask that was partly sold already, and its rest comes to rest; `None`
+/// if one of the orders doesn't come to rest.
 fn trades_when_it_is_raised(book: &mut OrderBook, trades: &mut Vec<Trade>) -> Option<bool> {
     let ask = put(book, (Side::Sell, 50, 6), trades)?;
     let bid = put(book, (Side::Buy, 40, 7), trades)?;
@@ -93,7 +93,7 @@ fn a_bid_that_is_raised_trades(rt: HostRuntime) {
     assert!(rt; book.count(Side::Buy) == 1);
 }
 
-/// Whether an order that was cancelled can't be cancelled or replaced again, and nothing can't be ordered.
+/// Returns whether a cancelled order can't be cancelled or replaced again, and an order for nothing fails.
 fn is_gone(book: &mut OrderBook, id: OrderId, trades: &mut Vec<Trade>) -> bool {
     if book.cancel(id) != Some((40, 7)) || book.cancel(id).is_some() {
         return false;

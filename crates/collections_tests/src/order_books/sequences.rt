@@ -1,11 +1,11 @@
-//! Every sequence of up to five orders, against a plain list.
+//! Every sequence of up to five orders, compared with a plain list.
 use order_book::{Order, OrderBook, OrderId, Side, Trade};
 use std::alloc::Global;
 
 /// A side, a price and a quantity.
 type Placed = (Side, u64, u64);
 
-/// The order with this number, of the six that a sequence is made of.
+/// Returns the order with this number, of the six that make up the sequences.
 fn order_of(number: u32) -> Placed {
     match number % 6 {
         0 => (Side::Buy, 10, 2),
@@ -17,7 +17,7 @@ fn order_of(number: u32) -> Placed {
     }
 }
 
-/// An order in the plain list, which is in the order of age. Of one that is filled nothing is left.
+/// An order in the plain list, which is in the order of age. Filled orders stay with quantity 0.
 #[derive(Clone, Copy)]
 struct Resting {
     id: OrderId,
@@ -26,7 +26,7 @@ struct Resting {
     quantity: u64,
 }
 
-/// Whether the first price is better for who places an order of this side on the book.
+/// Returns whether the first price ranks better for orders of this side.
 fn is_better(side: Side, price: u64, than: u64) -> bool {
     match side {
         Side::Buy => price > than,
@@ -34,12 +34,12 @@ fn is_better(side: Side, price: u64, than: u64) -> bool {
     }
 }
 
-/// Whether an order of the list trades with an order of a side at this limit.
+/// Returns whether an order of the list trades with an order of a side at this limit.
 fn can_trade(order: &Resting, side: Side, limit: u64) -> bool {
     order.side != side && order.quantity > 0 && !is_better(order.side, limit, order.price)
 }
 
-/// Where in the list the order stands that trades first with an order of a side: of those with the best price the oldest.
+/// Returns the place in the list of the order that trades first with an order of a side: the oldest at the best price.
 fn best(list: &[Resting], side: Side, limit: u64) -> Option<usize> {
     let mut found: Option<usize> = None;
     let mut price = limit;
@@ -55,7 +55,7 @@ fn best(list: &[Resting], side: Side, limit: u64) -> Option<usize> {
     found
 }
 
-/// The order that trades first with an order of a side at any price.
+/// Returns the order that trades first with an order of a side at any price.
 fn first_for(list: &[Resting], side: Side) -> Option<Order> {
     let limit = match side {
         Side::Buy => u64::MAX,
@@ -69,7 +69,7 @@ fn first_for(list: &[Resting], side: Side) -> Option<Order> {
     })
 }
 
-/// Trades once with the list. None where nothing there trades with this order.
+/// Trades once with the list; `None` if nothing there trades with this order.
 fn trade_once(list: &mut [Resting], side: Side, limit: u64, quantity: u64) -> Option<Trade> {
     let at = best(list, side, limit)?;
     let order = list.get_mut(at)?;
@@ -82,7 +82,7 @@ fn trade_once(list: &mut [Resting], side: Side, limit: u64, quantity: u64) -> Op
     })
 }
 
-/// Trades with the list, and answers what is left, where the trades are these; None where they aren't.
+/// Trades with the list. Returns what is left if the trades are these; `None` if they aren't.
 fn trade(list: &mut [Resting], order: Placed, trades: &[Trade]) -> Option<u64> {
     let (side, limit, quantity) = order;
     let mut left = quantity;
@@ -98,7 +98,7 @@ fn trade(list: &mut [Resting], order: Placed, trades: &[Trade]) -> Option<u64> {
     Some(left)
 }
 
-/// How many orders of a side rest in the list.
+/// Returns how many orders of a side rest in the list.
 fn count(list: &[Resting], side: Side) -> usize {
     let mut count = 0usize;
     for order in list {
@@ -109,7 +109,7 @@ fn count(list: &[Resting], side: Side) -> usize {
     count
 }
 
-/// Whether each order of the list rests on the book, and none that is filled.
+/// Returns whether each order of the list rests on the book, and no filled one does.
 fn finds_each(book: &OrderBook, list: &[Resting]) -> bool {
     for order in list {
         let found = book.get(order.id);
@@ -123,7 +123,7 @@ fn finds_each(book: &OrderBook, list: &[Resting]) -> bool {
     true
 }
 
-/// Whether the book and the list have the same orders, and the same ones first.
+/// Returns whether the book and the list have the same orders, and the same first ones.
 fn are_alike(book: &OrderBook, list: &[Resting]) -> bool {
     if book.best_bid() != first_for(list, Side::Sell) {
         return false;
@@ -137,7 +137,7 @@ fn are_alike(book: &OrderBook, list: &[Resting]) -> bool {
     book.count(Side::Sell) == count(list, Side::Sell) && finds_each(book, list)
 }
 
-/// No bid is at or above an ask.
+/// Returns whether no bid is at or above an ask.
 fn is_uncrossed(book: &OrderBook) -> bool {
     match (book.best_bid(), book.best_ask()) {
         (Some(bid), Some(ask)) => bid.price < ask.price,
@@ -145,7 +145,7 @@ fn is_uncrossed(book: &OrderBook) -> bool {
     }
 }
 
-/// Puts what is left of an order into the list, where it has a name; tells whether that is so just where something is left.
+/// Puts what is left of an order into the list, if it has a name. Returns whether it has one exactly if something is left.
 fn rest(list: &mut Vec<Resting>, order: Placed, id: Option<OrderId>, left: u64) -> bool {
     let Some(id) = id else {
         return left == 0;
@@ -159,7 +159,7 @@ fn rest(list: &mut Vec<Resting>, order: Placed, id: Option<OrderId>, left: u64) 
     list.push(resting).is_ok() && left > 0
 }
 
-/// Places an order on the book and in the list, and tells whether they do the same, and as much was offered as is traded.
+/// Places an order on the book and in the list. Returns whether they agree, and as much was offered as is traded.
 fn place(
     book: &mut OrderBook,
     list: &mut Vec<Resting>,
@@ -180,8 +180,8 @@ fn place(
     rest(list, order, id, left) && are_alike(book, list) && is_uncrossed(book)
 }
 
-/// Places the orders of the sequence with this number, and tells whether the book and the list do the same all along: its digits to the
-/// base 6 are those of its orders.
+/// Places the orders of the sequence with this number, whose digits in base 6 are those of the orders. Returns whether the book and the
+/// list always agree.
 fn place_all(
     book: &mut OrderBook,
     list: &mut Vec<Resting>,
@@ -198,7 +198,7 @@ fn place_all(
     true
 }
 
-/// Whether a new book does what a new list does.
+/// Returns whether a new book behaves like a new list.
 fn is_plain(alloc: Global, number: u32) -> bool {
     let mut book = OrderBook::new(alloc);
     let (mut list, mut trades) = (Vec::new(alloc), Vec::new(alloc));
