@@ -26,7 +26,7 @@ use std::marker::Model;
 use std::mem::size_of;
 pub use walks::PtrAdvancer;
 
-/// A generational arena. A pointer is an index and the generation that the arena had when the entry was inserted.
+/// A generational arena. A pointer is an entry's index, and the arena's generation at the entry's insertion or last renewal.
 ///
 /// A removal raises the generation, so the pointer of a removed entry isn't valid for the next entry at that index. An insertion takes
 /// the slot that was freed last, else the least slot never used.

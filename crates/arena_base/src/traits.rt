@@ -54,7 +54,13 @@ pub trait ArenaTrait<P: BasePtr, T>: ItemsMut<P, T> {
     fn is_empty(&self) -> bool
         ensures { result ≡ (arena_len (content self.now) == 0) };
 
-    /// Sets the capacity to the greater of `n` and the greatest occupied index. On `Err`, nothing changes.
+    /// Sets the capacity to the greater of `n` and the greatest occupied index.
+    ///
+    /// # Errors
+    ///
+    /// The arena is unchanged.
+    /// - `BeyondMaxCapacity`: `n` is beyond the maximum or the greatest index of an entry.
+    /// - `AllocError`: growing failed.
     fn reallocate_min_capacity(&mut self, n: usize) -> Result<(), ReallocationError>
         ensures ok { OnOk result (HoldsSame (content self.new)
             (with_capacity (content self.old)
@@ -176,7 +182,11 @@ pub trait CompactArenaTrait {}
 
 /// Arenas whose capacity can be given a maximum.
 pub trait SetMaxCapacity<P: BasePtr, T>: ArenaTrait<P, T> {
-    /// Sets the maximum of the capacity. Fails if the capacity is already greater; nothing changes then.
+    /// Sets the maximum of the capacity.
+    ///
+    /// # Errors
+    ///
+    /// The arena is unchanged: its capacity is already greater than `n`.
     fn set_max_capacity(&mut self, n: usize) -> Result<(), MaxCapacityReductionError>
         ensures ok { OnOk result
             (HoldsSame (Self.content self.new)

@@ -28,7 +28,11 @@ impl<P: BasePtr, T, A: Allocator> Arena<P, T, A> {
         }
     }
 
-    /// Creates an empty arena with room for `n` entries. Fails if memory is refused, or `n` is beyond the greatest index of an entry.
+    /// Creates an empty arena with room for `n` entries.
+    ///
+    /// # Errors
+    ///
+    /// `AllocError`: memory is refused, or `n` is beyond the greatest index of an entry.
     pub fn with_min_capacity(alloc: A, n: usize) -> Result<Self, AllocError>
     where
         A: Copy,

@@ -25,8 +25,11 @@ impl<P: BasePtr, T, A: Allocator> ChainArena<P, T, A> {
         }
     }
 
-    /// Creates an empty chain arena with room for `n` entries. Fails if memory is refused, or `n` is beyond the greatest index of an
-    /// entry.
+    /// Creates an empty chain arena with room for `n` entries.
+    ///
+    /// # Errors
+    ///
+    /// `AllocError`: memory is refused, or `n` is beyond the greatest index of an entry.
     pub fn with_min_capacity(alloc: A, n: usize) -> Result<Self, AllocError>
     where
         A: Copy,
