@@ -20,7 +20,7 @@ module _ {P T I G : Type 0} where
   abbrev pub bare_link : Link (Node P T I G) → Link T
   bare_link l = record { item = l.item.t; prev = l.prev; next = l.next }
 
-  -- index, generation and link of an entry, without its node
+  -- the index, generation and link of an entry, without its node
   abbrev pub linked_in : ℕ × ℕ × Link (Node P T I G) → ℕ × ℕ × Link T
   linked_in e = (e.0, e.1, bare_link e.2)
 
@@ -63,7 +63,7 @@ module _ {P T U I G : Type 0} (source : Chain (Node P U I G)) (old : Chain (Node
       bare-refilled (record old { capacity = max old.capacity (greatest_index source.entries) }) source.generation es
       ∙ ap (λ n. refilled (record (bare old) { capacity = max old.capacity n }) source.generation (map bare_entry es)) (sym (greatest_index-bare source.entries))
 
--- A clone into a chain of other items, by calls that are shown the nodes' items, is one of the list of these items.
+-- A clone into a chain of other items, by calls that are shown the nodes' items, is a clone of the list of these items.
 module _ {P T U I G M F : Type 0} (numbers : P → ℕ × ℕ) (below : M → P → Link (Node P U I G) → T → M → Type 0)
     (above : F → P → Link U → T → F → Type 0) (state : M → F)
     (like : (m : M) (p : P) (l : Link (Node P U I G)) (x : T) (n : M) → below m p l x n → above (state m) p (bare_link l) x (state n))
@@ -85,14 +85,14 @@ module _ {P T U I G M F : Type 0} (numbers : P → ℕ × ℕ) (below : M → P 
   list-told (Err e) h = tt
   list-told (Ok x) h = (state n, list-at h)
 
--- The step of a clone of nodes, from that of their items: what makes these is behind a reference, which keeps its name.
+-- The step of a clone of nodes, from the step of their items. The maker of the items is behind a reference, which keeps its name.
 abbrev pub node_step : {P T U I G M N K : Type 0} → (M → P → U → Result T AllocError → M → Type 0) → (N → M) → (N → K)
     → N → P → Link (Node P U I G) → Result (Node P T I G) AllocError → N → Type 0
 node_step step wrapped name m p link answer n =
     (name n ≡ name m)
     × MatchResult answer (λ new. ClonesNode step (wrapped m) p link.item new (wrapped n)) (λ refusal. step (wrapped m) p link.item.t (Err refusal) (wrapped n))
 
--- of what makes the items
+-- the step of what makes the items
 module _ {P T U I G M N K : Type 0} (numbers : P → ℕ × ℕ) (step : M → P → U → Result T AllocError → M → Type 0) (wrapped : N → M) (name : N → K) where
   abbrev outer : N → P → Link (Node P U I G) → Result (Node P T I G) AllocError → N → Type 0
   outer = node_step step wrapped name
@@ -154,7 +154,7 @@ module _ {P T U I G M N K : Type 0} (numbers : P → ℕ × ℕ) (step : M → P
         clone-told (Ok done) h = rw (← is_x, ← is_y) (tree-cloned most greatest sound root laid h before)
         clone-told (Err e) h = tt
 
--- a chain that was kept, and has no entry, is the tree that it was without a root
+-- an unchanged chain without entries is the same tree without a root
 module _ {P T I G : Type 0} (old new : Chain (Node P T I G)) (root : Option ℕ) (laid : IsLaidOut old root (shape_in old root)) (kept : new ≡ old) where
   pub kept-tree : (length new.entries == 0) ≡ true → tree_of new None ≡ tree_of old root
   kept-tree empty =
@@ -162,7 +162,7 @@ module _ {P T I G : Type 0} (old new : Chain (Node P T I G)) (root : Option ℕ)
       let none = rw kept at gone in
       rw (kept, no-root old root laid none) refl
 
--- A clone in states of one kind is one in those of another.
+-- A clone in states of one kind is a clone in states of another.
 module _ {P T U M F : Type 0} (numbers : P → ℕ × ℕ) (below : M → P → U → Result T AllocError → M → Type 0) (above : F → P → U → Result T AllocError → F → Type 0) (state : M → F)
     (like : (m : M) (p : P) (u : U) (r : Result T AllocError) (n : M) → below m p u r n → above (state m) p u r (state n)) (m : M) (source : Tree U) (old new : Tree T) (n : M) where
   pub clone-restated : {E : Type 0} (r : Result (Unit {0}) E) → OnOk r (IsClone numbers below m source old new n) → OnOk r ((last : F) × IsClone numbers above (state m) source old new last)

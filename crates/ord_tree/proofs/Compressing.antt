@@ -1,4 +1,4 @@
--- A chain of nodes in which all entries are moved, as the list without the nodes sees it.
+-- A chain of nodes whose entries have all been moved, as the list without the nodes sees it.
 use Rattle.std.proofs.Common.{Result, Ok, Err, OnErr, arith, ◌≡◌, ℕ, zero, suc, ◌+◌, Option, Some, None, List, [], ◌∷◌, map, length, refl, sym, ◌∙◌, ap, option_map, max, slice_index_or, nat_lt, if◌then◌else◌}
 use Rattle.std.proofs.{lemmas.Grind.common_steps, lemmas.List.length-map}
 use Rattle.chain_base.specs.Compression.{lesser, entry_before, rising_among, entries_rising, refilled, moved, compressed, at_compressed_index, relocated, numbered, canonical, replaced, left_empty, IsCompression, Transferring, IsTransfer}
@@ -10,7 +10,7 @@ use Rattle.ord_tree.specs.MapNode.{MapsTaken}
 use Rattle.arena_base.proofs.CallerLemmas.{calls-retold}
 use Rattle.ord_tree.proofs.Trees.{entry_at-bare, vacant_among-bare}
 
--- what holds in any case holds of a refusal
+-- what always holds also holds on `Err`
 pub refused_always : {X Y A : Type 0} (r : Result X Y) → A → OnErr r A
 refused_always (Ok x) a = tt
 refused_always (Err y) a = a
@@ -20,7 +20,7 @@ module _ {P T I G : Type 0} where
   abbrev pub items_in : List (Node P T I G) → List T
   items_in nodes = map (λ n. n.t) nodes
 
-  -- index, generation and item of an entry, without its node
+  -- the index, generation and item of an entry, without its node
   abbrev pub shown_in : ℕ × ℕ × Node P T I G → ℕ × ℕ × T
   shown_in e = (e.0, e.1, e.2.t)
 
@@ -89,7 +89,7 @@ module _ {P T I G : Type 0} where
   rising-bare es from zero = refl
   rising-bare es from (suc count) = grind (arith, common_steps, entry_at-bare es from, rising-bare es (from + 1) count)
 
-  -- where the closure that was called on nodes calls f on their items
+  -- the closure called on nodes calls f on their items
   module _ {S F : Type 0} (numbers : P → ℕ × ℕ) (outer : S → P → Node P T I G → P → Node P T I G → S → Type 0) (step : F → P → T → P → T → F → Type 0) (inner : S → F)
       (calls : (s : S) (p : P) (n : Node P T I G) (q : P) (m : Node P T I G) (t : S) → outer s p n q m t → step (inner s) p n.t q m.t (inner t)) where
     pub IsCompression-bare : (g : ℕ) (s : S) (old new : Chain (Node P T I G)) → IsCompression numbers outer g s old new → IsCompression numbers step g (inner s) (bare old) (bare new)
@@ -100,7 +100,7 @@ module _ {P T I G : Type 0} where
       after = ap bare h.after ∙ bare-compressed old g h.items;
     }
 
--- where the closure that was called on the source's nodes calls f on their items
+-- the closure called on the source's nodes calls f on their items
 module _ {P T I G Q U J H S F : Type 0} (numbers_from : Q → ℕ × ℕ) (numbers_to : P → ℕ × ℕ) (greatest : Option ℕ)
     (outer : S → Q → InvalidationOption (Node Q U J H) → P → Node P T I G → S → Type 0) (step : F → Q → InvalidationOption U → P → T → F → Type 0) (inner : S → F)
     (calls : (s : S) (q : Q) (taken : InvalidationOption (Node Q U J H)) (p : P) (n : Node P T I G) (t : S) → outer s q taken p n t

@@ -1,4 +1,4 @@
--- Taking out a node of which one side is empty: what hangs on its other side takes its place.
+-- Removing a node of which one side is empty: the other side takes its place.
 use Rattle.std.proofs.Common.{◌≡◌, ◌≢◌, ℕ, zero, suc, ◌+◌, ◌<◌, ◌≤◌, Option, Some, None, List, [], ◌∷◌, ◌++◌, length, arith, refl, sym, ◌∙◌, ap, subst, inl, inr, ⊎_elim, option_map, is_some, true, append_assoc, length-append, MatchOption}
 use Rattle.std.proofs.{lemmas.Bool.cases_lt, lemmas.Bool.cases_eq, lemmas.Bool.eq-eqb, lemmas.Bool.ne_eqb, lemmas.Grind.common_steps}
 use Rattle.std.specs.Option.{option_to_list}
@@ -204,7 +204,7 @@ module _ {old : Slots} {root : Option ℕ} {v : ℕ} {side : Side} {order : List
           let Q : Side → Type 0 = λ side. IsFallen new root' z side (without v order) in
           subst Q (sym (by.side was.0 (last z e').side was.1 was.4 (last_not_far z e'))) (fallen_cut z e')
 
-      -- the account without the node: a full leaf that goes pays for the reserve of an empty side
+      -- the account without the node: removing a full leaf pays for the reserve of an empty side
       leaf_pays : (m : ℕ) → leaf_reserve m ≤ node_potential (m + 1) 0 m + 1
       leaf_pays zero = omega (arith, node_potential-full 1 0 0)
       leaf_pays (suc m) = omega arith

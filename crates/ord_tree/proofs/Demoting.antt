@@ -1,4 +1,4 @@
--- One step of the repair after a removal, and the way from a node that has demoted to its parent.
+-- One step of the repair after a removal, and the path from a demoted node to its parent.
 use Rattle.std.proofs.Common.{◌≡◌, ◌≢◌, ℕ, ◌+◌, ◌^◌, ◌<◌, ◌≤◌, Option, Some, None, List, [], length, arith, refl, inr, sym, ◌∙◌, ap, subst, is_some, true, option_map, MatchOption}
 use Rattle.std.specs.Option.{IfSome}
 use Rattle.ord_tree.specs.Slots.{Slots, Holds, up, plug, above, HoldsWay, here, times_in, times_way, IsApart, rank_at}
@@ -12,17 +12,17 @@ use Rattle.ord_tree.proofs.{Rotations.ForkAt, Rotations.ForkAt-holds, Rotations.
 use Rattle.ord_tree.proofs.{Promoting.size-plug, Promoting.root_holds, Doubles.fork_of, Doubles.rank_at-held, Halves.size_of-walk}
 use Rattle.ord_tree.proofs.{NewLeaf.rootless, Leaning.some_of}
 
--- the branch on which a node hangs, if it hangs on one
+-- the branch of a node, if it has one
 pub record IsBranchOf {I : Type 0} (number : I → ℕ) (at : Slots) (y : ℕ) (branch : Option (Branch I)) : Type 0 where
   pub parent : (n : TreeLinks ℕ) → at y ≡ Some n → option_map (λ (p : Branch I). number p.parent) branch ≡ n.back
   pub side : IfSome branch (λ b. (n : TreeLinks ℕ) (side : Side) → at (number b.parent) ≡ Some n → child_at side n ≡ Some y → child_at (other_side side) n ≢ Some y
       → b.side ≡ side)
 
--- a balanced tree, or one of which this branch has fallen
+-- a balanced tree, or one in which this branch has fallen
 abbrev pub BuiltOrFallen : {I : Type 0} → (I → ℕ) → Slots → Option ℕ → List ℕ → Option (Branch I) → Type 0
 BuiltOrFallen number at root order branch = MatchOption branch (IsBuilt at root order 1) (λ b. IsFallen at root (number b.parent) b.side order)
 
--- where a node is, a rank is
+-- a node has a positive rank
 pub rank-positive : (slack : ℕ) (s : Shape) (i : ℕ) → IsBalanced slack s → root_of s ≡ Some i → 0 < rank_of s
 rank-positive slack missing i h e = absurd cc
 rank-positive slack (node l j k r) i h e = omega (arith, h.0.lesser)
@@ -76,13 +76,13 @@ module _ {at : Slots} {root : Option ℕ} {y : ℕ} {side : Side} {order : List 
         backs = ([], omega arith, λ j. inr refl);
       }
 
-  -- the rank stays small
+  -- the rank is small
   rank-bound : fallen.rank < 256
   rank-bound =
       let few : size_of fallen.low < 2 ^ 64 = omega (arith, size-plug fallen.way whole, size-fork side fallen.low fallen.far y fallen.rank, size_of-walk (plug fallen.way whole), ap length fallen.listed) in
       omega (arith, fallen.over.lesser, rank-small fallen.low (IsRanked-balanced 1 fallen.low fallen.balanced_low) few)
 
-  -- y gets the rank one lower
+  -- y gets a rank lower by one
   module _ {new : Slots} {rank : ℕ} (by : IsReranked at new y rank) (lower : rank + 1 ≡ fallen.rank) (over : IsOver 1 rank (rank_of fallen.low) (rank_of fallen.far)) where
     pub rank_lower : rank_of (fork side fallen.low y rank fallen.far) ≡ rank
     rank_lower = rank-fork side fallen.low fallen.far y rank
@@ -113,11 +113,11 @@ module _ {at : Slots} {root : Option ℕ} {y : ℕ} {side : Side} {order : List 
           backs = backs-ranked by some.0 some.1;
         }
 
-  -- where nothing hangs on the other side
+  -- the other side is empty
   pub IsOver-bare : root_of fallen.far ≡ None → (fallen.rank ≡ 2) × IsOver 1 1 (rank_of fallen.low) (rank_of fallen.far)
   IsOver-bare bare = let none : rank_of fallen.far ≡ 0 = ap rank_of (rootless fallen.far bare) in (omega (arith, fallen.over), omega (arith, fallen.over))
 
-  -- where the sibling is one below
+  -- the sibling is one below
   unfoldable pub IsLeaning-fallen : (s : ℕ) → root_of fallen.far ≡ Some s → rank_of fallen.low + 3 ≡ fallen.rank → rank_of fallen.far + 1 ≡ fallen.rank → IsLeaning at root (other_side side) y s order
   IsLeaning-fallen s far low sibling =
       let forked = fork_of (other_side side) fallen.far s far in
@@ -153,7 +153,7 @@ module _ {at : Slots} {root : Option ℕ} {y : ℕ} {side : Side} {order : List 
         few = fallen.few;
       }
 
--- a node that has demoted, and its parent
+-- a demoted node and its parent
 module _ {new : Slots} {root : Option ℕ} {y : ℕ} {order : List ℕ} (now : IsDemotedNode new root y order) where
   pub node_occupied : is_some (new y) ≡ true
   node_occupied = occupied-link new (above now.way) (Some y) now.shape y now.held refl
@@ -161,7 +161,7 @@ module _ {new : Slots} {root : Option ℕ} {y : ℕ} {order : List ℕ} (now : I
   pub node_back : (n : TreeLinks ℕ) → new y ≡ Some n → above now.way ≡ n.back
   node_back n e = sym (root_holds new (above now.way) y now.shape n now.held e).0
 
-  -- what the branch on which it hangs says
+  -- what its branch says
   pub node_above : {I : Type 0} (number : I → ℕ) (branch : Option (Branch I)) → IsBranchOf number new y branch → above now.way ≡ option_map (λ (p : Branch I). number p.parent) branch
   node_above number branch by = let n = some_of (new y) node_occupied in node_back n.0 n.1 ∙ sym (by.parent n.0 n.1)
 

@@ -15,12 +15,12 @@ use Rattle.ord_tree.proofs.Doubles.{middle, middle_rank_is, middle_over, site_be
 use Rattle.ord_tree.proofs.Demoting.{IsBranchOf, whole, IsLeaning-fallen, demoted_written, rank-positive, node_above, last, last_held, last_not_far, fallen_above}
 use Rattle.ord_tree.proofs.{Leaning.lowered, Leaning.demoted_both, PromotionAccount.double_saves, NewLeaf.rootless}
 
--- nothing was done yet
+-- nothing has been done yet
 module _ {at : Slots} {root : Option ℕ} {y : ℕ} {side : Side} {order : List ℕ} (fallen : IsFallen at root y side order) where
   pub IsFallenWithin-first : IsFallenWithin (fallen_ranks fallen) at root y side order (fallen_credit fallen)
   IsFallenWithin-first = record { fallen = fallen; named = []; within = omega arith; names = λ j. inr (inr refl) }
 
--- steps in a row
+-- consecutive steps
 module _ {was : ℕ → ℕ} {at : Slots} {root : Option ℕ} {y : ℕ} {side : Side} {order : List ℕ} {credit : ℕ} (on : IsFallenWithin was at root y side order credit) where
   pub IsFallenWithin-next : {new : Slots} {root' : Option ℕ} {z : ℕ} {side' : Side} → IsFallenWithin (fallen_ranks on.fallen) new root' z side' order (fallen_credit on.fallen)
       → IsFallenWithin was new root' z side' order credit
@@ -59,7 +59,7 @@ module _ {at : Slots} {root : Option ℕ} {y : ℕ} {side : Side} {order : List 
     names = λ j. inr (inr (omega (arith, rank_in-plug j fallen.way (whole fallen), rank_in-fork j side fallen.low fallen.far y fallen.rank)));
   }
 
-  -- y gets the rank one lower
+  -- y gets a rank lower by one
   module _ {new : Slots} {rank : ℕ} (by : IsReranked at new y rank) (lower : rank + 1 ≡ fallen.rank) (over : IsOver 1 rank (rank_of fallen.low) (rank_of fallen.far))
       (paid : node_potential rank (rank_of fallen.low) (rank_of fallen.far) + 1 ≤ leaf_reserve (rank_of fallen.low) + node_potential fallen.rank (rank_of fallen.low + 1) (rank_of fallen.far)) where
     pub IsDemotedWithin-written : IsDemotedWithin (fallen_ranks fallen) new root y order (fallen_credit fallen)
@@ -76,20 +76,20 @@ module _ {at : Slots} {root : Option ℕ} {y : ℕ} {side : Side} {order : List 
           (λ other. inr (inr (omega (arith, rank_in-fork j side fallen.low fallen.far y rank, rank_here-other j y rank other, rank_here-other j y fallen.rank other)))) (cases_eq j y);
     }
 
-  -- if nothing hangs on the other side, the reserve pays
+  -- if the other side is empty, the reserve pays
   pub paid-bare : root_of fallen.far ≡ None → node_potential 1 (rank_of fallen.low) (rank_of fallen.far) + 1 ≤ leaf_reserve (rank_of fallen.low) + node_potential fallen.rank (rank_of fallen.low + 1) (rank_of fallen.far)
   paid-bare bare =
       let none : rank_of fallen.far ≡ 0 = ap rank_of (rootless fallen.far bare) in
       let low : rank_of fallen.low ≡ 0 = omega (arith, fallen.over) in
       omega (arith, ap leaf_reserve low, node_potential-tight 1 (rank_of fallen.low) (rank_of fallen.far) (inl (omega arith)))
 
-  -- if the sibling is two below, y pays, which would be slack
+  -- if the sibling is two below, y would be slack, and its potential pays
   pub paid-slack : rank_of fallen.low + 3 ≡ fallen.rank → rank_of fallen.far + 2 ≡ fallen.rank → (rank : ℕ) → rank + 1 ≡ fallen.rank
       → node_potential rank (rank_of fallen.low) (rank_of fallen.far) + 1 ≤ leaf_reserve (rank_of fallen.low) + node_potential fallen.rank (rank_of fallen.low + 1) (rank_of fallen.far)
   paid-slack low far rank lower =
       omega (arith, node_potential-slack fallen.rank (rank_of fallen.low + 1) (rank_of fallen.far) (omega arith) (omega arith), node_potential-uneven rank (rank_of fallen.low) (rank_of fallen.far) (omega arith))
 
-  -- where the sibling is one below
+  -- the sibling is one below
   module _ (s : ℕ) (far : root_of fallen.far ≡ Some s) (low : rank_of fallen.low + 3 ≡ fallen.rank) (sibling : rank_of fallen.far + 1 ≡ fallen.rank) where
     leaning_ranks-fallen : (j : ℕ) → fallen_ranks fallen j ≡ leaning_ranks (IsLeaning-fallen fallen s far low sibling) j
     unfolding IsLeaning-fallen
@@ -217,7 +217,7 @@ module _ {old : Slots} {old_root : Option ℕ} {side : Side} {y s : ℕ} {order 
               )))) (cases_eq j x)) (cases_eq j s)) (cases_eq j y);
         }
 
-  -- both are demoted, and s pays, which was slack and is full now
+  -- both are demoted; s was slack and is now full, and pays
   module _ {mid new : Slots} (by_s : IsReranked old mid s (lean.site.low - 1)) (by_y : IsReranked mid new y (lean.site.high - 1))
       (outer : rank_of lean.site.outer + 2 ≡ lean.site.low) (inner : rank_of lean.site.inner + 2 ≡ lean.site.low) where
     pub IsDemotedWithin-both : IsDemotedWithin (leaning_ranks lean) new old_root y order (leaning_credit lean)
@@ -249,7 +249,7 @@ module _ {old : Slots} {old_root : Option ℕ} {side : Side} {y s : ℕ} {order 
               )))) (cases_eq j s)) (cases_eq j y);
         }
 
--- a side that isn't empty needs no reserve
+-- a nonempty side needs no reserve
 leaf_reserve-node : (slack : ℕ) (s : Shape) (i : ℕ) → IsBalanced slack s → root_of s ≡ Some i → leaf_reserve (rank_of s) ≡ 0
 leaf_reserve-node slack s i h e = go (rank_of s) (rank-positive slack s i h e)
   where
@@ -257,7 +257,7 @@ leaf_reserve-node slack s i h e = go (rank_of s) (rank-positive slack s i h e)
     go zero b = absurd (omega (arith, b))
     go (suc k) b = refl
 
--- the way from a node that was demoted to its parent
+-- the path from a demoted node to its parent
 module _ {was : ℕ → ℕ} {new : Slots} {root : Option ℕ} {y : ℕ} {order : List ℕ} {credit : ℕ} (l : IsDemotedWithin was new root y order credit) where
   at_top : above l.demoted.way ≡ None → IsSpelledWithin was new root order (credit + 7)
   at_top e =

@@ -1,4 +1,4 @@
--- A node is taken out: the entry before it stands in its place, and the branch that has fallen goes along.
+-- Removing a node: its predecessor takes its place, and the fallen branch is renamed with it.
 use Rattle.std.proofs.Common.{◌≡◌, ◌≢◌, ℕ, ◌+◌, Option, None, List, [], ◌∷◌, ◌++◌, map, arith, refl, sym, ◌∙◌, ap, subst, inl, inr, ⊎_elim, length-append}
 use Rattle.std.proofs.{lemmas.Grind.common_steps, lemmas.List.map-append, lemmas.Bool.cases_eq, lemmas.Bool.eq-eqb, lemmas.Bool.ne_eqb}
 use Rattle.ord_tree.specs.Slots.{Slots, Holds, Way, top, up, plug, above, HoldsWay, times, Among, MovesBacks}
@@ -8,7 +8,7 @@ use Rattle.ord_tree.specs.{Balance.IsBalanced, Balance.IsBalancedWay, declared.t
 use Rattle.ord_tree.specs.{Potential.potential, Account.potential_way, Account.rank_here, Account.rank_in, Account.rank_way, Account.NamesChanges, Account.ranks_without}
 use Rattle.ord_tree.proofs.{Forks.HoldsFork-holds, Doubles.Among-behind, Standing.stand_in-same, Standing.stand_in-other, RankChanges.rank_here-other}
 
--- the way with v in the place of z
+-- the path with v in place of z
 abbrev pub renamed_way : ℕ → ℕ → Way → Way
 renamed_way z v top = top
 renamed_way z v (up side i k far rest) = up side (stand_in z v i) k (renamed z v far) (renamed_way z v rest)
@@ -43,7 +43,7 @@ pub map-absent : (z v : ℕ) (xs : List ℕ) → times z xs ≡ 0 → map (stand
 map-absent z v [] none = refl
 map-absent z v (x ∷ xs) none = grind (arith, common_steps, map-absent z v xs)
 
--- what holds a whole tree holds a way and what stands at its end
+-- nodes that form a whole tree form a path and the shape at its end
 pub plug_held : (at : Slots) (root : Option ℕ) (way : Way) (s : Shape) → Holds at None root (plug way s) → (link : Option ℕ) × HoldsWay at root way link × Holds at (above way) link s
 plug_held at root top s h = (root, refl, h)
 plug_held at root (up side i k far rest) s h =
@@ -52,7 +52,7 @@ plug_held at root (up side i k far rest) s h =
     let P : Option ℕ → Type 0 = λ link. HoldsWay at root rest link in
     (child_at side f.0, (f.0, f.2, f.3, f.4, refl, f.6, subst P f.1 below.1), f.5)
 
--- two changes, one after the other
+-- two consecutive changes
 pub MovesBacks-then : (m n : ℕ) (first mid last : Slots) → MovesBacks m first mid → MovesBacks n mid last → MovesBacks (m + n) first last
 MovesBacks-then m n first mid last a b = (
   a.0 ++ b.0,
@@ -64,7 +64,7 @@ MovesBacks-then m n first mid last a b = (
     Among-front [] ys j h = elim h [ ]
     Among-front (x ∷ xs) ys j h = ⊎_elim (λ e. inl e) (λ rest. inr (Among-front xs ys j rest)) h
 
--- with v in the place of z the potential stays, and so do the ranks of all others
+-- with v in place of z, the potential and the ranks of all others stay
 pub potential-renamed : (z v : ℕ) (s : Shape) → potential (renamed z v s) ≡ potential s
 potential-renamed z v missing = refl
 potential-renamed z v (node l i k r) = rw (rank-renamed z v l, rank-renamed z v r, potential-renamed z v l, potential-renamed z v r) refl

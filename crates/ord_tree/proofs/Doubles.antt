@@ -25,17 +25,17 @@ fork_of side missing i e = absurd cc
 fork_of Lesser (node l j k r) i e = let same : j ≡ i = cc in record { near = l; rank = k; far = r; is = ap (λ j. node l j k r) same }
 fork_of Greater (node l j k r) i e = let same : j ≡ i = cc in record { near = r; rank = k; far = l; is = ap (λ j. node l j k r) same }
 
--- the rank that a link leads to is that of the shape there
+-- the rank at a link is the rank of the shape there
 pub rank_at-held : (at : Slots) (over link : Option ℕ) (s : Shape) → Holds at over link s → rank_at at link ≡ rank_of s
 rank_at-held at over link missing h = rw h refl
 rank_at-held at over link (node l i k r) h = rw (h.1, h.2) h.4
 
--- where a rank is, a node is
+-- a positive rank means a node
 pub root-some : (s : Shape) → 0 < rank_of s → is_some (root_of s) ≡ true
 root-some missing h = absurd (omega (arith, h))
 root-some (node l i k r) h = refl
 
--- the moved indexes, as a list
+-- the moved indexes as a list
 pub Among-root : (s : Shape) (j : ℕ) (rest : List ℕ) → root_of s ≡ Some j → Among j (option_to_list (root_of s) ++ rest)
 Among-root s j rest e = rw e (inl refl)
 
@@ -64,12 +64,12 @@ module _ {old : Slots} {old_root : Option ℕ} {side : Side} {z y : ℕ} (site :
   pub inner_root : (ny : TreeLinks ℕ) → old y ≡ Some ny → child_at (other_side side) ny ≡ root_of site.inner
   inner_root ny e = link-root old (Some y) (child_at (other_side side) ny) site.inner (fork_at_low old old_root side z y site ny e).far_held
 
-  -- the whole shape there
+  -- the whole shape at the site
   abbrev pub site_shape : Shape
   site_shape = fork side (fork side site.outer y site.low site.inner) z site.high site.far
 
   module _ {new : Slots} {root : Option ℕ} {rank_z rank_y : ℕ} (r : IsRotated site new root rank_z rank_y) where
-    -- a single rotation moves three parents at most
+    -- a single rotation moves at most three parents
     backs_single : MovesBacks 5 old new
     backs_single = (
       z ∷ y ∷ (option_to_list (root_of site.inner) ++ []),
@@ -77,7 +77,7 @@ module _ {old : Slots} {old_root : Option ℕ} {side : Side} {z y : ℕ} (site :
       λ j. ⊎_elim (λ e. inl (inl e)) (⊎_elim (λ e. inl (inr (inl e))) (⊎_elim (λ e. inl (inr (inr (Among-root site.inner j [] e)))) (λ e. inr e))) (r.backs j),
     )
 
-    -- after it a balanced tree stands there again, where the new ranks fit
+    -- after it the tree there is balanced again, if the new ranks fit
     module _ {slack : ℕ} {order : List ℕ} (over_z : IsOver slack rank_z (rank_of site.inner) (rank_of site.far)) (over_y : IsOver slack rank_y (rank_of site.outer) rank_z)
         (outer : IsBalanced slack site.outer) (inner : IsBalanced slack site.inner) (far : IsBalanced slack site.far) (way : IsBalancedWay slack site.way rank_y) where
       pub IsRepaired-rotated : walk (plug site.way site_shape) ≡ order → IsRepaired old new root order slack
@@ -98,7 +98,7 @@ module _ {old : Slots} {old_root : Option ℕ} {side : Side} {z y : ℕ} (site :
           }
 
   module _ (x : ℕ) (root_is : root_of site.inner ≡ Some x) where
-    -- what stands between y and z, told from the other side
+    -- the shape between y and z, seen from the other side
     abbrev pub middle : Forked (other_side side) site.inner x
     middle = fork_of (other_side side) site.inner x root_is
 
@@ -107,7 +107,7 @@ module _ {old : Slots} {old_root : Option ℕ} {side : Side} {z y : ℕ} (site :
         let P : Shape → Type 0 = λ s. Holds old (Some y) (child_at (other_side side) ny) s in
         (ForkAt-holds old (Some y) (child_at (other_side side) ny) (other_side side) middle.near x middle.rank middle.far nx d (subst P middle.is (fork_at_low old old_root side z y site ny e).far_held)).rank
 
-    -- the ranks and the balance of what stood between y and z
+    -- the ranks and the balance of the shape between y and z
     pub middle_rank_is : rank_of site.inner ≡ middle.rank
     middle_rank_is = ap rank_of middle.is ∙ rank-fork (other_side side) middle.near middle.far x middle.rank
 
@@ -116,7 +116,7 @@ module _ {old : Slots} {old_root : Option ℕ} {side : Side} {z y : ℕ} (site :
         let P : Shape → Type 0 = λ s. IsBalanced slack s in
         fork_balanced slack (other_side side) middle.near middle.far x middle.rank (subst P middle.is h)
 
-    -- y over what it carries, told from the other side
+    -- y over its children, seen from the other side
     shape_below : fork side site.outer y site.low site.inner ≡ fork (other_side side) (fork (other_side side) middle.near x middle.rank middle.far) y site.low site.outer
     shape_below = sym (fork-other side site.inner site.outer y site.low) ∙ ap (λ s. fork (other_side side) s y site.low site.outer) middle.is
 
@@ -154,7 +154,7 @@ module _ {old : Slots} {old_root : Option ℕ} {side : Side} {z y : ℕ} (site :
     }
 
     module _ {mid : Slots} {mid_root : Option ℕ} {rank_low rank_high : ℕ} (r : IsRotated site_below mid mid_root rank_low rank_high) where
-      -- y with what it carries after the first rotation
+      -- y over its children after the first rotation
       abbrev pub lifted : Shape
       lifted = fork side site.outer y rank_low middle.far
 
@@ -199,7 +199,7 @@ module _ {old : Slots} {old_root : Option ℕ} {side : Side} {z y : ℕ} (site :
         abbrev pub upper : Shape
         upper = fork side middle.near z rank_low site.far
 
-        -- the walk stays
+        -- the walk is unchanged
         pub walk_double : walk (plug site.way (fork side lifted x rank_high upper)) ≡ walk (plug site.way site_shape)
         walk_double =
             let inner_is : site.inner ≡ fork side middle.far x middle.rank middle.near = middle.is ∙ fork-other side middle.near middle.far x middle.rank in
@@ -209,7 +209,7 @@ module _ {old : Slots} {old_root : Option ℕ} {side : Side} {z y : ℕ} (site :
             walk-plug site.way (fork side lifted x rank_high upper) site_shape
             (sym second ∙ walk-fork_near side (fork side lifted x rank_high middle.near) (fork side site.outer y site.low site.inner) site.far z site.high first)
 
-        -- and so do the parents of all but five
+        -- all but five parents stay
         backs_double : MovesBacks 5 old new
         backs_double = (
           z ∷ y ∷ x ∷ (option_to_list (root_of middle.near) ++ (option_to_list (root_of middle.far) ++ [])),
@@ -226,7 +226,7 @@ module _ {old : Slots} {old_root : Option ℕ} {side : Side} {z y : ℕ} (site :
               (⊎_elim (λ e. inl (inr (inr (inr (Among-root middle.near j (option_to_list (root_of middle.far) ++ []) e))))) (λ second. inr (first ∙ second)))) (t.backs j)))) (r.backs j),
         )
 
-        -- after a double rotation a balanced tree stands there again, where the new ranks fit
+        -- after a double rotation the tree there is balanced again, if the new ranks fit
         module _ {slack : ℕ} {order : List ℕ} (over_y : IsOver slack rank_low (rank_of site.outer) (rank_of middle.far))
             (over_z : IsOver slack rank_low (rank_of middle.near) (rank_of site.far)) (over_x : IsOver slack rank_high rank_low rank_low)
             (outer : IsBalanced slack site.outer) (inner : IsBalanced slack site.inner) (far : IsBalanced slack site.far) (way : IsBalancedWay slack site.way rank_high) where

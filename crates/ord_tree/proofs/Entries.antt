@@ -7,7 +7,7 @@ use Rattle.ord_tree.specs.declared.tree_links.Side.TheVariants.{Lesser, Greater}
 use Rattle.ord_tree.specs.{declared.node.SimpleOrdArenaNode.SimpleOrdArenaNode as Node, declared.tree_links.TreeLinks.TreeLinks}
 use Rattle.ord_tree.specs.{Node.bare_entry, Node.bare, Node.links_in, Node.slots_of, declared.tree_links.Side.Side, TreeLinks.with_child_at}
 
--- a write of a side keeps the parent
+-- writing a side keeps the parent
 pub back-with_child : {I : Type 0} (side : Side) (child : Option I) (l : TreeLinks I) → (with_child_at side child l).back ≡ l.back
 back-with_child Lesser child l = refl
 back-with_child Greater child l = refl
@@ -18,7 +18,7 @@ module _ {P T I G : Type 0} where
     bare-with_item [] h = refl
     bare-with_item (a ∷ es) h = grind (arith, common_steps, bare-with_item es)
 
-  -- the same of a whole chain
+  -- the same for a whole chain
   module _ (c : Chain (Node P T I G)) (i : ℕ) (e : ℕ × Node P T I G) (x : Node P T I G) (there : entry_at c.entries i ≡ Some e) where
     pub slots_of-written : slots_of (chain_with_item c i x) i ≡ Some (links_in x)
     slots_of-written = ap (option_map (λ (e : ℕ × Node P T I G). links_in e.1)) (entry_at-with_item_among c.entries i x ∙ ap (option_map (λ d. (d.0, x))) there)
@@ -28,7 +28,7 @@ module _ {P T I G : Type 0} where
         let same : links_in x ≡ n = rw (back, lesser, greater, rank) refl in
         slots_of-written ∙ ap Some same
 
-    -- links that are changed in part
+    -- links changed in part
     pub slots_of-changed : (change : TreeLinks ℕ → TreeLinks ℕ) → links_in x ≡ change (links_in e.1) → (n : TreeLinks ℕ) → slots_of c i ≡ Some n → slots_of (chain_with_item c i x) i ≡ Some (change n)
     slots_of-changed change made n is =
         let read : slots_of c i ≡ Some (links_in e.1) = ap (option_map (λ (e : ℕ × Node P T I G). links_in e.1)) there in

@@ -1,4 +1,4 @@
--- Forks told from a side, ways, and what nodes hold: facts that are the same for both mirror images.
+-- Forks seen from a side, paths, and what nodes store: facts shared by both mirror images.
 use Rattle.std.proofs.Common.{◌≡◌, ◌≢◌, ℕ, ◌+◌, ◌<◌, Option, Some, None, List, [], ◌∷◌, ◌++◌, arith, refl, sym, ◌∙◌, ap, subst, append_assoc}
 use Rattle.std.proofs.lemmas.Bool.{eq-eqb, ne_eqb}
 use Rattle.ord_tree.specs.Slots.{Slots, Holds, Way, top, up, plug, above, HoldsWay, here, times, times_in, times_way, IsOnce, IsApart}
@@ -49,7 +49,7 @@ pub size-fork : (side : Side) (near far : Shape) (i k : ℕ) → size_of (fork s
 size-fork Lesser near far i k = refl
 size-fork Greater near far i k = omega arith
 
--- the walk: a rotation keeps it
+-- a rotation keeps the walk
 pub walk-rotated : (side : Side) (outer inner far : Shape) (y z k l m n : ℕ)
     → walk (fork side (fork side outer y k inner) z l far) ≡ walk (fork side outer y m (fork side inner z n far))
 walk-rotated Lesser outer inner far y z k l m n = append_assoc (walk outer) (y ∷ walk inner) (z ∷ walk far)
@@ -67,7 +67,7 @@ pub walk-plug : (way : Way) (s t : Shape) → walk s ≡ walk t → walk (plug w
 walk-plug top s t e = e
 walk-plug (up side i k far rest) s t e = walk-plug rest (fork side s i k far) (fork side t i k far) (walk-fork_near side s t far i k e)
 
--- what nodes hold, told from a side
+-- what nodes store, seen from a side
 abbrev pub HoldsFork : Slots → Option ℕ → Option ℕ → Side → Shape → ℕ → ℕ → Shape → Type 0
 HoldsFork at over link side near i k far =
     (n : TreeLinks ℕ) × (link ≡ Some i) × (at i ≡ Some n) × (n.back ≡ over) × (n.rank ≡ k)
@@ -86,7 +86,7 @@ pub link-root : (at : Slots) (over link : Option ℕ) (s : Shape) → Holds at o
 link-root at over link missing h = h
 link-root at over link (node l i k r) h = h.1
 
--- a way and what stands at its end are a tree
+-- a path and the shape at its end form a tree
 pub Holds-plug : (at : Slots) (root : Option ℕ) (way : Way) (s : Shape) (link : Option ℕ) → HoldsWay at root way link → Holds at (above way) link s → Holds at None root (plug way s)
 Holds-plug at root top s link w h = let P : Option ℕ → Type 0 = λ l. Holds at None l s in subst P (sym w) h
 Holds-plug at root (up side i k far rest) s link w h =
@@ -140,6 +140,6 @@ times_in-plug j (up side i k far rest) s = times_in-plug j rest (fork side s i k
 pub IsApart-once : (way : Way) (s : Shape) (order : List ℕ) → walk (plug way s) ≡ order → IsOnce order → IsApart way s
 IsApart-once way s order e once j = omega (arith, once j, times_in-plug j way s, times-walk j (plug way s), ap (times j) e)
 
--- an index that stands in one part stands in no other
+-- an index that occurs in one part occurs in no other
 pub apart-from : (i j : ℕ) (f : ℕ → ℕ) → f i ≡ 0 → 0 < f j → j ≢ i
 apart-from i j f none some e = let g = ap f e in omega arith

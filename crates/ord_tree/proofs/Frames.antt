@@ -1,4 +1,4 @@
--- What nodes hold stays where no write touches them, and what a write of one link makes of it.
+-- What nodes form is unchanged unless a write touches it, and how a write of one link changes it.
 use Rattle.std.proofs.Common.{◌≡◌, ◌≢◌, ℕ, ◌+◌, ◌<◌, ◌≤◌, Option, Some, None, arith, refl, sym, ◌∙◌, ap, subst, is_some, true}
 use Rattle.std.proofs.lemmas.Grind.{common_steps}
 use Rattle.ord_tree.specs.Slots.{Slots, Holds, Way, top, up, above, HoldsWay, here, times_in, times_way, back_at}
@@ -7,7 +7,7 @@ use Rattle.ord_tree.specs.{TreeLinks.other_side, TreeLinks.child_at, TreeLinks.w
 use Rattle.ord_tree.specs.{Shape.Shape, Shape.missing, Shape.node, Shape.fork, Shape.root_of, declared.tree_links.Side.Side}
 use Rattle.ord_tree.proofs.Forks.{HoldsFork-holds, Holds-fork, here-same, apart-from, link-root, child-with_child, other_child-with_child, back-with_child, rank-with_child}
 
--- the root stands in the shape
+-- the root is in the shape
 pub root-in : (s : Shape) (i : ℕ) → root_of s ≡ Some i → 0 < times_in i s
 root-in missing i e = absurd cc
 root-in (node l j k r) i e = let same : j ≡ i = cc in rw same (omega (arith, here-same i))
@@ -15,7 +15,7 @@ root-in (node l j k r) i e = let same : j ≡ i = cc in rw same (omega (arith, h
 Some-apart : (i j : ℕ) → j ≢ i → ◌≡◌ {A = Option ℕ} (Some i) (Some j) → ⊥
 Some-apart i j ne e = ne cc
 
--- the step with which a way ends
+-- the last step of a path
 pub record LastStep (way : Way) (z : ℕ) : Type 0 where
   pub side : Side
   pub rank : ℕ
@@ -78,7 +78,7 @@ module _ (old new : Slots) where
           below r h.0.greater (omega (arith, here-same i)) (λ j in_r. omega arith) h.6,
         )
 
--- the link to y from its parent, or that to the root, is replaced by another; nothing else is written, and no parent moves
+-- the parent's link to y, or the root's, is replaced by another; nothing else is written, and no parent moves
 pub record IsReplaced (old new : Slots) (parent root root' : Option ℕ) (y : ℕ) (link : Option ℕ) : Type 0 where
   pub at_top : parent ≡ None → root' ≡ link
   pub below : (p : ℕ) → parent ≡ Some p → root' ≡ root
@@ -88,7 +88,7 @@ pub record IsReplaced (old new : Slots) (parent root root' : Option ℕ) (y : �
   pub backs : (j : ℕ) → back_at old j ≡ back_at new j
 
 module _ {old new : Slots} {root root' link : Option ℕ} {y : ℕ} where
-  -- so at the end of a way
+  -- the same at the end of a path
   pub HoldsWay-replaced : (way : Way) → IsReplaced old new (above way) root root' y link → ((j : ℕ) → times_way j way + here j y ≤ 1)
       → HoldsWay old root way (Some y) → HoldsWay new root' way link
   HoldsWay-replaced top by once h = by.at_top refl
@@ -114,13 +114,13 @@ child-ranked : (side : Side) (rank : ℕ) (n : TreeLinks ℕ) → child_at side 
 child-ranked Lesser rank n = refl
 child-ranked Greater rank n = refl
 
--- the node i gets another rank, and nothing else is written
+-- the node i gets another rank; nothing else is written
 pub record IsReranked (old new : Slots) (i rank : ℕ) : Type 0 where
   pub here : (n : TreeLinks ℕ) → old i ≡ Some n → new i ≡ Some (record n { rank = rank })
   pub elsewhere : (j : ℕ) → j ≢ i → new j ≡ old j
 
 module _ {old new : Slots} {i rank : ℕ} (by : IsReranked old new i rank) where
-  -- so at the root of a shape
+  -- the same at the root of a shape
   module _ (over link : Option ℕ) (side : Side) (near far : Shape) (k : ℕ) where
     pub Holds-reranked : times_in i near + times_in i far ≡ 0 → Holds old over link (fork side near i k far) → Holds new over link (fork side near i rank far)
     Holds-reranked none h =

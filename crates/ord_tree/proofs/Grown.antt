@@ -19,7 +19,7 @@ use Rattle.ord_tree.proofs.{Puts.put-same, Puts.put-other, Puts.put-indexes, Put
 use Rattle.ord_tree.proofs.{Forks.times-walk, Forks.apart-from, Frames.Holds-frame}
 
 module _ (P G : Type 0) {T I : Type 0} (number : I → ℕ) where
-  -- the place in the chain that is named is the one in the list
+  -- the named place in the chain is the place in the list
   pub placed-put : (at : Option (I × Ordering)) (es : List (Entry T)) (new : Entry T) → placed {P = P} {G = G} number (kind_at at) es new ≡ put_at number at es new
   placed-put None es new = refl
   placed-put (Some at) es new = grind (arith, common_steps)
@@ -28,7 +28,7 @@ module _ (P G : Type 0) {T I : Type 0} (number : I → ℕ) where
   CanPlace-put None c h = h
   CanPlace-put (Some at) c h = grind (arith, common_steps)
 
--- an insertion's chain
+-- the chain after an insertion
 module _ {T : Type 0} where
   -- the entry that an insertion puts into the list
   pub inserted-entries : (old new : Chain T) (place : Entry T → List (Entry T)) (e : Entry T)
@@ -57,7 +57,7 @@ module _ {P T I G : Type 0} where
         ap (λ (es : List (Entry T)). record { entries = es; capacity = old.capacity; vacant = rest; generation = old.generation; maximum = old.maximum })
         (same (record { index = i; generation = old.generation; item = item }))
 
-    -- the insertion as the list sees it
+    -- the insertion as seen by the list
     pub IsInsertion-bare : IsInsertion old new place item i g → IsInsertion (bare old) (bare last) put item.t i g
     IsInsertion-bare h =
         let Fresh : Chain T → Type 0 = λ c. IsFresh (bare old) → IsFresh c in
@@ -205,38 +205,38 @@ module _ {P T I G : Type 0} (c d : Chain (Node P T I G)) (root : Option ℕ) (x 
       let B : Shape → Type 0 = λ s. IsGrown missing s in
       subst A (sym shape_none) (subst B (sym shape_alone) (record { ranked = ranked_alone; tight = λ _. (inl refl, tt, tt); moved = ([], omega arith, λ i p q old new. elim old [ ]); rank_changes = ([], omega (arith, node_potential-full 1 0 0), λ i k l old new. elim old [ ]) }))
 
--- what the steps of an insertion say to each other, where `branch` is the one under which the new entry x hangs
+-- the facts that the steps of an insertion pass on; `branch` is where the new entry x is attached
 module _ {P T I G : Type 0} (number : I → ℕ) (branch : Option (Branch I)) where
-  -- it is the one for this place, in each tree that lies in the chain
+  -- the branch fits this place, in each tree that lies in the chain
   abbrev pub IsBranchFor : Chain (Node P T I G) → Option (I × Ordering) → Type 0
   IsBranchFor c at = (root : Option ℕ) (s : Shape) → IsLaidOut c root s → IsDistinct c.entries → IsLeafBranchAt number at (slots_of c) (indexes c.entries) branch
 
-  -- x is a new leaf there
+  -- x is a new leaf at the branch
   abbrev pub CanGrow : Chain (Node P T I G) → Option ℕ → ℕ → Type 0
   CanGrow d root x = MatchOption branch (Unit {0}) (λ p. (order : List ℕ) × (slack : ℕ) × IsNewLeaf (slots_of d) root p.side (number p.parent) x order slack)
 
-  -- the tree is repaired, or x is all of it
+  -- the tree is repaired, or x is its only node
   abbrev pub HasGrown : Chain (Node P T I G) → Option ℕ → I → Chain (Node P T I G) → Option I → Type 0
   HasGrown d root x new root' = MatchOption branch ((new ≡ d) × (root' ≡ Some x)) (λ p. (order : List ℕ) (slack : ℕ) → IsNewLeaf (slots_of d) root p.side (number p.parent) (number x) order slack
       → IsRepaired (slots_of d) (slots_of new) (option_map number root') (beside p.side (number p.parent) (number x) order) slack)
 
-  -- and the account of its rank changes
+  -- and the account of its rank changes holds
   abbrev pub HasAccount : Chain (Node P T I G) → Option ℕ → I → Chain (Node P T I G) → Option I → Type 0
   HasAccount d root x new root' = MatchOption branch (Unit {0}) (λ p. (order : List ℕ) (slack : ℕ) (bud : IsNewLeaf (slots_of d) root p.side (number p.parent) (number x) order slack)
       → IsSpelledWithin (rank_in bud.built.shape) (slots_of new) (option_map number root') (beside p.side (number p.parent) (number x) order) (potential bud.built.shape + 4))
 
-  -- the new entry e was put into the list at this place, and its node has the links of a leaf under the branch
+  -- the new entry e is in the list at this place, and its node has the links of a leaf at the branch
   pub record IsPut (c d : Chain (Node P T I G)) (at : Option (I × Ordering)) (e : Entry (Node P T I G)) : Type 0 where
     pub can : CanPutAt number at c
     pub found : IsBranchFor c at
     pub entries : d.entries ≡ put_at number at c.entries e
     pub links : links_in e.item ≡ leaf_links (option_map (λ (p : Branch I). number p.parent) branch)
 
--- the tree that lies in a chain, grown out of this shape
+-- the tree that lies in a chain, grown from this shape
 abbrev pub IsGrownTo : {P T I G : Type 0} → Shape → Chain (Node P T I G) → Option ℕ → Type 0
 IsGrownTo old new root = IsLaidOut new root (shape_in new root) × IsGrown old (shape_in new root)
 
--- an insertion as a whole
+-- a complete insertion
 module _ {P T I G : Type 0} (number : I → ℕ) (c d : Chain (Node P T I G)) (root : Option ℕ) (x : I) (g : ℕ) (leaf : Node P T I G)
     (laid : IsLaidOut c root (shape_in c root)) (free : entry_times (number x) c.entries ≡ 0)
     (most : ℕ) (greatest : Option ℕ) (sound : IsSound most greatest d) (fits : most + 1 < 2 ^ 64) where
@@ -272,7 +272,7 @@ module _ {P T I G : Type 0} (number : I → ℕ) (c d : Chain (Node P T I G)) (r
               (paid (indexes c.entries) 1 (leaves 1 (IsBalanced-ranked (shape_in c root) laid.ranked))),
         )
 
--- small steps of an insertion's call
+-- small steps of the insertion call
 bare_empty : {P T I G : Type 0} (es : List (Entry (Node P T I G))) → map bare_entry es ≡ [] → es ≡ []
 bare_empty [] h = refl
 bare_empty (e ∷ es) h = absurd cc
@@ -291,7 +291,7 @@ mapped-twice : {I : Type 0} (number : I → ℕ) (branch : Option (Branch I)) �
 mapped-twice number None = refl
 mapped-twice number (Some p) = refl
 
--- the call of an insertion, from what its steps ensure
+-- the insertion call, from what its steps ensure
 module _ {P T I G : Type 0} (number : I → ℕ) (c : Chain (Node P T I G)) (root : Option ℕ) (at : Option (I × Ordering)) (branch : Option (Branch I))
     {d : Chain (Node P T I G)} {kind : LinkInsertKind P I G}
     {back : Option I} {t : T} {leaf : Node P T I G} {index era : ℕ} {x : I}

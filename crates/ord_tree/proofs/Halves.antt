@@ -1,4 +1,4 @@
--- Rebuilt shapes: they exist, keep the rank rules and are as high as their size has digits.
+-- Rebuilt shapes exist, obey the rank rules, and are as high as their size has digits.
 use Rattle.std.proofs.Common.{◌≡◌, ℕ, zero, suc, ◌+◌, ◌-◌, ◌*◌, ◌/◌, ◌^◌, ◌<◌, ◌≤◌, List, [], ◌∷◌, ◌++◌, length, arith, refl, sym, ◌∙◌, ap, inl, inr, ⊎_elim, ◌⊎◌, length-append, below_more}
 use Rattle.std.proofs.{Math.Nat.two-pow-succ, Math.Nat.one-le-pow, lemmas.Bool.Decides.nat_tests, Math.Numerals.add-one}
 use Rattle.std.proofs.lemmas.Bool.{cases_lt}
@@ -28,7 +28,7 @@ height-rebuilt s (suc d) h e =
     (λ (high : 2 ^ d ≤ size_of s). omega (arith, height-half-le s h.0 (suc d) h.2 e.0, height-half-gt s h.0 d h.2 high))
     (cases_lt (size_of s) (2 ^ d))
 
--- the rank over a run is one of three by the run's length
+-- the rank over a run is one of three, depending on its length
 half_rank-small : (n q : ℕ) → n < 3 → half_rank n q ≡ n
 half_rank-small n q h = grind (arith, nat_tests)
 
@@ -61,11 +61,11 @@ power_cases (suc (suc (suc (suc zero)))) = inr (inr (inr (inl (omega arith))))
 power_cases (suc (suc (suc (suc (suc k))))) =
     inr (inr (inr (inr (omega (arith, one-le-pow k 2 (omega arith), two-pow-succ k, two-pow-succ (suc k), two-pow-succ (suc (suc k)), two-pow-succ (suc (suc (suc k))), two-pow-succ (suc (suc (suc (suc k)))))))))
 
--- the power of two of a rank, one lower, is about the length of the run
+-- the power of two of the rank less one is about the length of the run
 abbrev FitsRun : ℕ → ℕ → Type 0
 FitsRun n q = (k : ℕ) × (q ≡ suc k) × (n ≤ 2 ^ k + 1) × (2 ^ k ≤ 2 * n + 2)
 
--- the rank over a run may stand over the ranks of its halves
+-- the rank over a run is legal over the ranks of its halves
 IsRankOver-half : (n l r q : ℕ) → l ≡ n / 2 → n ≡ l + 1 + r → (5 ≤ n → FitsRun n q) → IsRankOver (half_rank n q) (half_rank l (q - 1)) (half_rank r (q - 1))
 IsRankOver-half n l r q lesser whole fit =
     ⊎_elim (λ (small : n < 5). let a = rank_cases n q in let b = rank_cases l (q - 1) in let c = rank_cases r (q - 1) in omega arith)
@@ -73,7 +73,7 @@ IsRankOver-half n l r q lesser whole fit =
     let a = rank_cases n q in let b = rank_cases l (q - 1) in let c = rank_cases r (q - 1) in omega arith)
     (cases_lt n 5)
 
--- and so does the half of a run
+-- the same holds for half a run
 FitsRun-half : (n c q : ℕ) → c ≤ n / 2 → n ≤ 2 * c + 2 → 5 ≤ n → FitsRun n q → FitsRun c (q - 1)
 FitsRun-half n c q below above large f = down f.0 f.1 f.2 f.3
   where
@@ -105,7 +105,7 @@ FitsRun-top n (suc k) h =
 pub IsRanked-from_rebuilt : RebuiltRanksLaw
 IsRanked-from_rebuilt s h = IsRanked-half s h.0 h.2 (λ large. rw (h.1.1, add-one) (FitsRun-top (size_of s) h.1.0 h.1.2))
 
--- what can be tested and holds somewhere holds at a least number
+-- a decidable property that holds somewhere holds at a least number
 abbrev LeastBelow : (ℕ → Type 0) → ℕ → Type 0
 LeastBelow P m = ((k : ℕ) × IsLeast P k) ⊎ ((j : ℕ) → j < m → ¬ P j)
 

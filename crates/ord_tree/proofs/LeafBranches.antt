@@ -1,4 +1,4 @@
--- Where a new leaf hangs.
+-- The branch of a new leaf.
 use Rattle.std.proofs.Common.{◌≡◌, ℕ, ◌<◌, Option, Some, None, List, [], ◌∷◌, arith, refl, sym, ◌∙◌, ap, is_some, true, false, option_map}
 use Rattle.std.proofs.lemmas.Grind.{common_steps}
 use Rattle.chain_base.specs.Chain.{Entry, entry_at, times as entry_times, link_between, first_or, IsDistinct}
@@ -12,7 +12,7 @@ use Rattle.ord_tree.specs.LeafBranch.{IsLeafBranch}
 use Rattle.ord_tree.proofs.Neighbours.{before_in, after_in, previous-neighbour, following-neighbour, between, first-within, second-within}
 
 module _ {T : Type 0} where
-  -- the indexes and the entries
+  -- indexes and entries
   pub times-indexes : (es : List (Entry T)) (i : ℕ) → times i (indexes es) ≡ entry_times i es
   times-indexes [] i = refl
   times-indexes (e ∷ es) i = grind (arith, common_steps, times-indexes es i)
@@ -34,7 +34,7 @@ module _ {T : Type 0} where
     neighbours-linked before [] h = absurd cc
     neighbours-linked before (e ∷ es) h = grind (arith, common_steps, neighbours-linked (Some e.index) es)
 
-  -- what is linked to an entry is linked to it whatever its generation
+  -- a link of an entry is found whatever its generation
   pub linked-some : (o : Option (ℕ × Link T)) (l : Link T) → option_map (λ (e : ℕ × Link T). e.1) o ≡ Some l → (g : ℕ) × (o ≡ Some (g, l))
   linked-some None l h = absurd cc
   linked-some (Some e) l h = (e.0, let same : e.1 ≡ l = cc in ap (λ (l : Link T). Some (e.0, l)) same)
@@ -43,7 +43,7 @@ module _ {T : Type 0} where
   linked-occupied before [] i h = absurd cc
   linked-occupied before (e ∷ es) i h = grind (arith, common_steps, linked-occupied (Some e.index) es i)
 
--- the neighbour under which a new leaf hangs where that side of i is taken
+-- the neighbour that gets the new leaf as a child if that side of i is taken
 pub record NextLeafBranch (side : Side) (i : ℕ) (slots : Slots) (order : List ℕ) : Type 0 where
   pub index : ℕ
   pub is : neighbour_in side i order ≡ Some index

@@ -1,4 +1,4 @@
--- The rotations after a removal, where the sibling is one below.
+-- The rotations after a removal, when the sibling is one below.
 use Rattle.std.proofs.Common.{◌≡◌, ◌≢◌, ℕ, ◌+◌, ◌-◌, ◌<◌, ◌≤◌, Option, Some, None, List, length, ◌^◌, arith, refl, sym, ◌∙◌, ap, subst, is_some, true}
 use Rattle.ord_tree.specs.Slots.{Slots, Holds, plug, above, here, times_in, times_way, rank_at}
 use Rattle.ord_tree.specs.{Shape.Shape, Shape.fork, Shape.rank_of, Shape.root_of, Shape.size_of, TreeLinks.other_side, TreeLinks.child_at}
@@ -9,13 +9,13 @@ use Rattle.ord_tree.proofs.Doubles.{root-some, rank_at-held, inner_root, IsRepai
 use Rattle.ord_tree.proofs.Frames.{Holds-frame, HoldsWay-frame, IsReranked, Holds-reranked, backs-ranked}
 use Rattle.ord_tree.proofs.{Slack.IsRanked-balanced, Slack.rank-small, Halves.size_of-walk, Promoting.size-plug}
 
--- what stands in a Some
+-- the value in a `Some`
 pub some_of : (o : Option (TreeLinks ℕ)) → is_some o ≡ true → (n : TreeLinks ℕ) × (o ≡ Some n)
 some_of None e = absurd cc
 some_of (Some n) e = (n, refl)
 
 module _ {old : Slots} {old_root : Option ℕ} {side : Side} {y s : ℕ} {order : List ℕ} (lean : IsLeaning old old_root side y s order) where
-  -- where the outer child isn't one below s, and the inner one isn't two below, a node stands there
+  -- if the outer child isn't one below s and the inner one isn't two below, the inner one is a node
   pub inner_some : (ns : TreeLinks ℕ) → old s ≡ Some ns → rank_of lean.site.inner + 2 ≢ lean.site.low → is_some (child_at (other_side side) ns) ≡ true
   inner_some ns e not_two = rw (inner_root lean.site ns e) (root-some lean.site.inner (omega (arith, lean.over, lean.low, lean.sibling)))
 
@@ -40,7 +40,7 @@ module _ {old : Slots} {old_root : Option ℕ} {side : Side} {y s : ℕ} {order 
         (omega (arith, rank_is, inner.0)) (omega (arith, lean.low, lean.sibling, rank_is, inner.0)) (omega (arith, lean.sibling))
         lean.balanced_outer lean.balanced_inner lean.balanced_low (subst P (sym is_high) lean.balanced_way) lean.listed
 
-  -- ranks stay small
+  -- the ranks are small
   pub low-small : lean.site.low < 128
   low-small =
       let t = fork side lean.site.outer s lean.site.low lean.site.inner in

@@ -1,4 +1,4 @@
--- An entry that goes to another place: from the tree without its node to the tree with it as a new leaf.
+-- An entry that moves: from the tree without its node to the tree with it as a new leaf.
 use Rattle.std.proofs.Common.{arith, ◌≡◌, ◌≢◌, ℕ, ◌+◌, ◌<◌, ◌≤◌, ◌^◌, Option, Some, None, List, [], ◌∷◌, ◌++◌, ◌∙◌, map, length, length-append, refl, sym, ap, subst, inl, inr, ⊎_elim, is_some, true, option_map}
 use Rattle.std.proofs.{lemmas.Grind.common_steps, lemmas.Bool.cases_eq, lemmas.Bool.ne_eqb}
 use Rattle.std.specs.declared.cmp.Ordering.{Ordering}
@@ -24,12 +24,12 @@ length-without_in : (i : ℕ) (xs : List ℕ) → 0 < times i xs → length (wit
 length-without_in i [] inside = absurd (omega arith)
 length-without_in i (x ∷ xs) inside = grind (arith, common_steps, length-without_in i xs)
 
--- what stands in a list of entries is found there
+-- an index in a list of entries is found there
 occupied-within : {T : Type 0} (es : List (Entry T)) (i : ℕ) → 0 < times i (indexes es) → is_some (entry_at es i) ≡ true
 occupied-within [] i inside = absurd (omega arith)
 occupied-within (e ∷ es) i inside = grind (arith, common_steps, occupied-within es i)
 
--- a new index has the neighbour on its side that the other had
+-- a new index has the neighbour that the other index had on that side
 module _ (y x : ℕ) where
   previous-beside : (first : Option ℕ) (order : List ℕ) → times x order ≡ 0 → previous first x (beside Lesser y x order) ≡ previous first y order
   previous-beside first [] none = refl
@@ -43,7 +43,7 @@ module _ (y x : ℕ) where
   neighbour-beside Lesser order none = previous-beside None order none
   neighbour-beside Greater order none = following-beside order none
 
--- d is the chain c once the node x is taken out of the tree, of which the root was and is now this one
+-- d is the chain c after the node x was taken out of the tree; `root` and `root'` are the roots before and after
 pub record IsTakenOut {P T I G : Type 0} (c : Chain (Node P T I G)) (root : Option ℕ) (d : Chain (Node P T I G)) (root' : Option ℕ) (x : ℕ) : Type 0 where
   pub kept : bare d ≡ bare c
   pub built : IsBuilt (slots_of d) root' (without x (indexes c.entries)) 1
@@ -53,7 +53,7 @@ pub record IsTakenOut {P T I G : Type 0} (c : Chain (Node P T I G)) (root : Opti
   pub few : length (indexes c.entries) < 2 ^ 64
   pub there : is_some (entry_at c.entries x) ≡ true
 
--- what the step that takes it out ensures
+-- what the removing step ensures
 module _ {P T I G : Type 0} (c : Chain (Node P T I G)) (root : Option ℕ) (x : ℕ) (laid : IsLaidOut c root (shape_in c root)) (there : is_some (entry_at c.entries x) ≡ true)
     (most : ℕ) (greatest : Option ℕ) (sound : IsSound most greatest c) (fits : most + 1 < 2 ^ 64) (before : Option ℕ) (is_before : before ≡ previous None x (indexes c.entries))
     (d : Chain (Node P T I G)) (root' : Option ℕ) (kept : bare d ≡ bare c)
@@ -65,7 +65,7 @@ module _ {P T I G : Type 0} (c : Chain (Node P T I G)) (root : Option ℕ) (x : 
       let can = detachable c root x laid there most greatest sound fits before is_before in
       record { kept = kept; built = builds _ can; backs = moves _ can; account = accounts _ can; once = can.once; few = can.few; there = there }
 
--- the accounts of a removal and of an insertion of one entry, together: its own rank may change as well
+-- the accounts of removing and inserting one entry, together: its own rank may change too
 module _ (s t : Shape) (x : ℕ) {at new : Slots} {root root' : Option ℕ} {order order' : List ℕ} (removal : IsSpelledWithin (ranks_without x s) at root order (potential s + 9)) where
   pub both_accounts : removal.shape ≡ t → IsSpelledWithin (rank_in t) new root' order' (potential t + 4) → IsSpelledWithin (rank_in s) new root' order' (potential s + 14)
   both_accounts same insertion =
@@ -124,7 +124,7 @@ module _ {P T I G : Type 0} {c d : Chain (Node P T I G)} {root root' : Option �
         let C : LinkInsertKind P I G → Type 0 = λ kind. CanPlace number kind (without_entry d x) in
         subst C (sym kind_is) (CanPlace-put P G number (Some at) (without_entry d x) (y_left, can.1))
 
-    -- the entry, as the chain still has it
+    -- the entry, still in the chain
     module _ (e : ℕ × Node P T I G) (has : entry_at d.entries x ≡ Some e) where
       abbrev entry : Entry (Node P T I G)
       entry = record { index = x; generation = e.0; item = e.1 }
@@ -135,7 +135,7 @@ module _ {P T I G : Type 0} {c d : Chain (Node P T I G)} {root root' : Option �
       abbrev put : List (Entry (Node P T I G))
       put = put_on at.1 y left entry
 
-      -- every index holds what it held
+      -- every index has the same entry as before
       entry_at-put : (j : ℕ) → entry_at put j ≡ entry_at d.entries j
       entry_at-put j = ⊎_elim
           (λ (same : j ≡ x). rw same (put-same at.1 left y y_left entry left_free ∙ sym has))
@@ -157,7 +157,7 @@ module _ {P T I G : Type 0} {c d : Chain (Node P T I G)} {root root' : Option �
           ∙ ap (λ (kind : LinkInsertKind P I G). record d { entries = placed number kind left entry }) kind_is
           ∙ ap (λ (es : List (Entry (Node P T I G))). record d { entries = es }) (placed-put P G number (Some at) left entry)
 
-    -- the chain with the entry at its new place; its node doesn't stand in the tree yet
+    -- the chain with the entry at its new place; its node isn't in the tree yet
     module _ (m : Chain (Node P T I G)) (kind : LinkInsertKind P I G) (kind_is : kind ≡ kind_at (Some at)) (m_is : m ≡ with_entry_moved d x (placed number kind)) where
       e : (e : ℕ × Node P T I G) × (entry_at d.entries x ≡ Some e)
       e = some_in (entry_at d.entries x) still_in
@@ -204,7 +204,7 @@ module _ {P T I G : Type 0} {c d : Chain (Node P T I G)} {root root' : Option �
         facing = ap (neighbour_in (side_at at.1) x) order_is ∙ neighbour-beside y x (side_at at.1) rest rest_fresh;
       }
 
-      -- its node is a leaf now, that knows its parent
+      -- its node is now a leaf with a parent link
       module _ (n : Chain (Node P T I G)) (branch : Branch I) (bud : IsLeafBranch number y (side_at at.1) (slots_of m) rest branch) (bare_kept : bare n ≡ bare m)
           (leaf : slots_of n x ≡ Some (leaf_links (Some (number branch.parent)))) (elsewhere : (j : ℕ) → j ≢ x → slots_of n j ≡ slots_of m j) where
         pub new_leaf : IsNewLeaf (slots_of n) root' branch.side (number branch.parent) x rest 1
@@ -232,7 +232,7 @@ module _ {P T I G : Type 0} {c d : Chain (Node P T I G)} {root root' : Option �
               (λ (other : j ≢ x). inr (ap (option_map (λ (l : TreeLinks ℕ). l.back)) (sym (elsewhere j other ∙ same_slots j)))) (cases_eq j x),
         )
 
-        -- and it hangs there
+        -- it is attached
         module _ (laid : IsLaidOut c root (shape_in c root)) (q : Chain (Node P T I G)) (root'' : Option ℕ) (hung : bare q ≡ bare n)
             (repairs : (order : List ℕ) (slack : ℕ) → IsNewLeaf (slots_of n) root' branch.side (number branch.parent) x order slack
             → IsRepaired (slots_of n) (slots_of q) root'' (beside branch.side (number branch.parent) x order) slack) where
@@ -261,7 +261,7 @@ module _ {P T I G : Type 0} {c d : Chain (Node P T I G)} {root root' : Option �
           moves : MovesBacks 15 (slots_of c) (slots_of q)
           moves = MovesBacks-then 9 6 (slots_of c) (slots_of d) (slots_of q) out.backs (MovesBacks-then 1 5 (slots_of d) (slots_of n) (slots_of q) own_back repaired.backs)
 
-          -- and the account of both steps
+          -- the account of both steps
           module _ (accounts : (order : List ℕ) (slack : ℕ) (bud : IsNewLeaf (slots_of n) root' branch.side (number branch.parent) x order slack)
               → IsSpelledWithin (rank_in bud.built.shape) (slots_of q) root'' (beside branch.side (number branch.parent) x order) (potential bud.built.shape + 4)) where
             account : IsSpelledWithin (rank_in (shape_in c root)) (slots_of q) root'' (beside branch.side (number branch.parent) x rest) (potential (shape_in c root) + 14)

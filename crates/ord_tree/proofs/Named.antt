@@ -1,4 +1,4 @@
--- Indexes of entries name something: none of them is 0.
+-- Indexes of entries are never 0.
 use Rattle.std.proofs.Common.{◌≡◌, ◌≢◌, ℕ, ◌≤◌, Option, List, arith, is_some, true}
 use Rattle.chain_base.specs.{Chain.Entry, Chain.Chain, Chain.entry_at, Chain.times, Chain.IsSound, Insert.IsInsertion}
 use Rattle.ord_tree.proofs.LeafBranches.{times-indexes, within-occupied}

@@ -8,7 +8,7 @@ use Rattle.ord_tree.specs.declared.tree_links.TreeLinks.{TreeLinks}
 use Rattle.ord_tree.proofs.Forks.{here-same, times-append, times-walk, link-root}
 use Rattle.ord_tree.proofs.Spots.{Spot, spot_in, around, beside-split}
 
--- the last node of a shape that isn't empty: nothing hangs on its greater side
+-- the last node of a nonempty shape, which has no greater child
 pub record LastOf (s : Shape) : Type 0 where
   pub last : ℕ
   pub front : List ℕ
@@ -27,12 +27,12 @@ last_of (node l i k (node a b c d)) j e =
       bare = λ at over link h. r.bare at (Some i) h.0.greater h.6;
     }
 
--- the index before this one, where the list is split there
+-- the predecessor of an index, if the list is split there
 pub previous-split : (first : Option ℕ) (z v : ℕ) (front back : List ℕ) → times z (front ++ v ∷ []) ≡ 0 → previous first z (front ++ v ∷ z ∷ back) ≡ Some v
 previous-split first z v [] back none = grind (arith, common_steps)
 previous-split first z v (x ∷ xs) back none = grind (arith, common_steps, previous-split (Some x) z v xs back)
 
--- the first node of a shape that isn't empty: nothing hangs on its lesser side
+-- the first node of a nonempty shape, which has no lesser child
 pub record FirstOf (s : Shape) : Type 0 where
   pub first : ℕ
   pub back : List ℕ
@@ -55,7 +55,7 @@ pub following-split : (z v : ℕ) (front back : List ℕ) → times z front ≡ 
 following-split z v [] back none = rw (eq-eqb z z refl) refl
 following-split z v (x ∷ xs) back none = grind (arith, common_steps, following-split z v xs back)
 
--- v stands directly before z, and nothing hangs on its greater side
+-- v is directly before z and has no greater child
 pub record BeforeIn (at : Slots) (z : ℕ) (order : List ℕ) : Type 0 where
   pub index : ℕ
   pub front : List ℕ
@@ -63,7 +63,7 @@ pub record BeforeIn (at : Slots) (z : ℕ) (order : List ℕ) : Type 0 where
   pub is : order ≡ front ++ index ∷ z ∷ back
   pub bare : (n : TreeLinks ℕ) → at index ≡ Some n → n.greater ≡ None
 
--- v stands directly after z, and nothing hangs on its lesser side
+-- v is directly after z and has no lesser child
 pub record AfterIn (at : Slots) (z : ℕ) (order : List ℕ) : Type 0 where
   pub index : ℕ
   pub front : List ℕ

@@ -1,4 +1,4 @@
--- A leaf that is hung on its parent has risen there.
+-- A leaf attached to its parent has risen there.
 use Rattle.std.proofs.Common.{◌≡◌, ◌≢◌, ℕ, ◌+◌, Option, Some, None, List, ◌∷◌, ◌++◌, arith, refl, sym, ◌∙◌, ap, subst, inl, ⊎_elim, is_some, true, append_assoc}
 use Rattle.std.proofs.{lemmas.Grind.common_steps, lemmas.Bool.cases_eq}
 use Rattle.ord_tree.specs.Slots.{Slots, top, up, plug, here, times, times_in, times_way, back_at}
@@ -27,7 +27,7 @@ module _ {at : Slots} {root : Option ℕ} {side : Side} {y x : ℕ} {order : Lis
   pub whole : plug spot.way (fork side missing y spot.rank spot.far) ≡ bud.built.shape
   whole = ap (λ s. plug spot.way (fork side s y spot.rank spot.far)) (sym near_missing) ∙ spot.is
 
-  -- no index twice, and x nowhere
+  -- no index occurs twice, and x doesn't occur
   pub total : (j : ℕ) → times j order ≡ times_way j spot.way + here j y + times_in j spot.far
   total j = ap (times j) (sym bud.built.listed) ∙ times-walk j bud.built.shape ∙ ap (times_in j) (sym whole)
       ∙ times_in-plug j spot.way (fork side missing y spot.rank spot.far) ∙ omega (arith, times_in-fork j side missing spot.far y spot.rank)

@@ -10,12 +10,12 @@ module _ {old : Slots} {old_root : Option ℕ} {side : Side} {z y : ℕ} {order 
   parts : IsOver slack steep.site.low (rank_of steep.site.outer) (rank_of steep.site.inner) × IsBalanced slack steep.site.outer × IsBalanced slack steep.site.inner
   parts = fork_balanced slack side steep.site.outer steep.site.inner y steep.site.low steep.balanced
 
-  -- where the outer side isn't one below, the inner side is, and so a node stands there
+  -- if the outer side isn't one below, the inner side is, so there is a node
   pub inner_some : (ny : TreeLinks ℕ) → old y ≡ Some ny → ny.rank ≢ rank_of steep.site.outer + 1 → is_some (child_at (other_side side) ny) ≡ true
   inner_some ny e not_outer =
       rw (inner_root steep.site ny e) (root-some steep.site.inner (omega (arith, low_rank steep.site ny e, steep.equal, steep.sibling, steep.uneven, parts.0.lesser)))
 
-  -- the single one
+  -- the single rotation
   module _ {new : Slots} {root : Option ℕ} {rank_z rank_y : ℕ} (r : IsRotated steep.site new root rank_z rank_y) where
     pub IsRepaired-single : rank_z ≡ rank_of steep.site.outer → rank_y ≡ steep.site.low → rank_y ≡ rank_z + 1 → IsRepaired old new root order slack
     IsRepaired-single is_z is_y outer =
@@ -23,7 +23,7 @@ module _ {old : Slots} {old_root : Option ℕ} {side : Side} {z y : ℕ} {order 
         IsRepaired-rotated steep.site r (omega (arith, steep.sibling, steep.equal, steep.uneven)) (omega (arith, steep.equal)) parts.1 parts.2 steep.balanced_far
         (subst P (omega (arith, steep.equal)) steep.balanced_way) steep.listed
 
-  -- the double one
+  -- the double rotation
   module _ (x : ℕ) (root_is : root_of steep.site.inner ≡ Some x) {mid : Slots} {mid_root : Option ℕ} {rank_low rank_high : ℕ} (r : IsRotated (site_below steep.site x root_is) mid mid_root rank_low rank_high)
       {new : Slots} {root : Option ℕ} (t : IsRotated (site_above steep.site x root_is r) new root rank_low rank_high) where
     pub IsRepaired-double : rank_low ≡ (middle steep.site x root_is).rank → rank_high ≡ steep.site.low → rank_high ≢ rank_of steep.site.outer + 1 → IsRepaired old new root order slack

@@ -23,7 +23,7 @@ module _ (k l r : ℕ) where
   unfolding node_potential
   node_potential-most = grind (arith, nat_tests)
 
-  -- where a rank is as great as another there, the node isn't slack
+  -- a node that exceeds one side's rank by at most 1 isn't slack
   pub node_potential-tight : (k ≤ l + 1) ⊎ (k ≤ r + 1) → node_potential k l r ≤ 1
   unfolding node_potential
   node_potential-tight h = grind (arith, nat_tests)
@@ -32,7 +32,7 @@ module _ (k l r : ℕ) where
   unfolding node_potential
   node_potential-turned = grind (arith, nat_tests)
 
-  -- within the rank rules
+  -- under the rank rules
   pub node_potential-cases : l < k → k ≤ l + 2 → r < k → k ≤ r + 2
       → (2 * k ≡ l + r + 2) × (node_potential k l r ≡ 1) ⊎ (2 * k ≡ l + r + 3) × (node_potential k l r ≡ 0) ⊎ (2 * k ≡ l + r + 4) × (node_potential k l r ≡ 3)
   unfolding node_potential
@@ -42,13 +42,13 @@ pub potential-fork : (side : Side) (near far : Shape) (i k : ℕ) → potential 
 potential-fork Lesser near far i k = refl
 potential-fork Greater near far i k = omega (arith, node_potential-turned k (rank_of near) (rank_of far))
 
--- the potential of a way with a shape at its end is the sum of both
+-- the potential of a path with a shape at its end is the sum of both
 pub potential-plug : (way : Way) (s : Shape) → potential (plug way s) ≡ potential_way way (rank_of s) + potential s
 potential-plug top s = omega arith
 potential-plug (up side i k far rest) s =
     omega (arith, potential-plug rest (fork side s i k far), potential-fork side s far i k, ap (potential_way rest) (rank-fork side s far i k))
 
--- at most three for each node
+-- the potential is at most three per node
 pub potential-le-size : (s : Shape) → potential s ≤ 3 * size_of s
 potential-le-size missing = omega arith
 potential-le-size (node l i k r) = omega (arith, potential-le-size l, potential-le-size r, node_potential-most k (rank_of l) (rank_of r))

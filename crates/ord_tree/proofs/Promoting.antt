@@ -10,7 +10,7 @@ use Rattle.ord_tree.proofs.Frames.{last_step, no_step, root-in, HoldsWay-frame, 
 use Rattle.ord_tree.proofs.{Slack.IsRanked-balanced, Slack.rank-small, Slack.IsUneven-fork, Slack.fork_uneven, Rotations.occupied-link}
 use Rattle.ord_tree.proofs.{Doubles.fork_of, Doubles.Forked, Doubles.rank_at-held, Halves.size_of-walk}
 
--- y hangs on a side of z
+-- y is a child of z
 pub record IsRisingUnder (at : Slots) (root : Option ℕ) (z y : ℕ) (order : List ℕ) (slack : ℕ) : Type 0 where
   pub side : Side
   pub rest : Way
@@ -36,7 +36,7 @@ pub record IsRisingUnder (at : Slots) (root : Option ℕ) (z y : ℕ) (order : L
   pub once : IsOnce order
   pub few : length order < 2 ^ 64
 
--- what the node holds to which a link leads
+-- what the node at a link stores
 pub root_holds : (at : Slots) (over : Option ℕ) (y : ℕ) (s : Shape) (ny : TreeLinks ℕ) → Holds at over (Some y) s → at y ≡ Some ny → (ny.back ≡ over) × (ny.rank ≡ rank_of s)
 root_holds at over y missing ny h e = absurd cc
 root_holds at over y (node l i k r) ny h e =
@@ -52,7 +52,7 @@ module _ {at : Slots} {root : Option ℕ} {y : ℕ} {order : List ℕ} {slack : 
   pub y_back : (ny : TreeLinks ℕ) → at y ≡ Some ny → above rising.way ≡ ny.back
   y_back ny e = sym (root_holds at (above rising.way) y rising.shape ny rising.held e).0
 
-  -- at the root the repair is over
+  -- at the root the repair ends
   pub IsBuilt-top : above rising.way ≡ None → IsBuilt at root order slack
   IsBuilt-top e = record {
     shape = plug rising.way rising.shape;
@@ -61,7 +61,7 @@ module _ {at : Slots} {root : Option ℕ} {y : ℕ} {order : List ℕ} {slack : 
     balanced = rw (no_step rising.way e) rising.balanced;
   }
 
-  -- elsewhere it hangs under its parent
+  -- elsewhere the node has a parent
   unfoldable pub rising_under : (z : ℕ) → above rising.way ≡ Some z → IsRisingUnder at root z y order slack
   rising_under z e =
       let last = last_step rising.way z e in
@@ -110,14 +110,14 @@ module _ {at : Slots} {root : Option ℕ} {z y : ℕ} {order : List ℕ} {slack 
   pub y_rank : (ny : TreeLinks ℕ) → at y ≡ Some ny → ny.rank ≡ u.low + 1
   y_rank ny e = (root_holds at (Some z) y u.shape ny u.held e).1 ∙ u.risen
 
-  -- the other side of z leads elsewhere
+  -- the other side of z isn't y
   pub not_far : child_at (other_side u.side) u.nz ≢ Some y
   not_far e =
       let in_far = root-in u.far y (sym (link-root at (Some z) (child_at (other_side u.side) u.nz) u.far u.held_far) ∙ e) in
       let in_shape = root-in u.shape y root_is in
       omega (arith, apart y, times_in-fork y u.side u.shape u.far z u.high)
 
-  -- what z holds
+  -- what z stores
   module _ (nz : TreeLinks ℕ) (e : at z ≡ Some nz) where
     nz_is : u.nz ≡ nz
     nz_is = let f = u.at_z in cc
@@ -142,7 +142,7 @@ module _ {at : Slots} {root : Option ℕ} {z y : ℕ} {order : List ℕ} {slack 
       let P : Option ℕ → Type 0 = λ link. Holds at (Some z) link u.shape in
       Holds-fork at (above u.rest) (Some z) u.side u.shape u.far z u.high (u.nz, refl, u.at_z, u.back, u.rank, subst P (sym u.child) u.held, u.held_far)
 
-  -- a greater parent ends the repair
+  -- a higher parent ends the repair
   pub IsBuilt-stop : u.low + 1 < u.high → IsBuilt at root order slack
   IsBuilt-stop higher = record {
     shape = plug u.rest (fork u.side u.shape z u.high u.far);
@@ -152,7 +152,7 @@ module _ {at : Slots} {root : Option ℕ} {z y : ℕ} {order : List ℕ} {slack 
         (IsBalanced-fork slack u.side u.shape u.far z u.high (omega (arith, u.over, u.risen)) u.balanced u.balanced_far);
   }
 
-  -- ranks stay small
+  -- the ranks are small
   pub low-small : u.low + 1 < 128
   low-small =
       let s = fork u.side u.shape z u.high u.far in
@@ -197,7 +197,7 @@ module _ {at : Slots} {root : Option ℕ} {z y : ℕ} {order : List ℕ} {slack 
       fits = omega (arith, rank_at_y, low-small);
     }
 
-  -- a steep place
+  -- a steep site
   module _ (equal : u.high ≡ u.low + 1) (not_sibling : rank_of u.far + 1 ≢ u.high) where
     pub forked : Forked u.side u.shape y
     forked = fork_of u.side u.shape y root_is
@@ -238,7 +238,7 @@ module _ {at : Slots} {root : Option ℕ} {z y : ℕ} {order : List ℕ} {slack 
           listed = subst S forked.is u.listed;
         }
 
--- a repair that follows steps that move no parent
+-- a repair after steps that move no parent
 module _ {first old new : Slots} {root : Option ℕ} {order : List ℕ} {slack : ℕ} where
   pub IsRepaired-after : ((j : ℕ) → back_at first j ≡ back_at old j) → IsRepaired old new root order slack → IsRepaired first new root order slack
   IsRepaired-after same r = record { built = r.built; backs = (r.backs.0, r.backs.1, λ j. ⊎_elim (λ e. inl e) (λ e. inr (same j ∙ e)) (r.backs.2 j)) }

@@ -15,7 +15,7 @@ use Rattle.ord_tree.proofs.Doubles.{middle, middle_rank_is, middle_over, site_be
 use Rattle.ord_tree.proofs.NewLeaf.{spot, whole, IsRising-attached}
 use Rattle.ord_tree.proofs.Promoting.{IsRisingUnder, rising_under, apart, root_is, held_z, rising_promoted, forked, IsSteep-rising}
 
--- the same ranks at first, and more credit
+-- the same initial ranks, and more credit
 pub IsSpelledWithin-more : (f g : ℕ → ℕ) (at : Slots) (root : Option ℕ) (order : List ℕ) (c d : ℕ) → ((j : ℕ) → f j ≡ g j) → c ≤ d → IsSpelledWithin g at root order c → IsSpelledWithin f at root order d
 IsSpelledWithin-more f g at root order c d same more paid = record {
   shape = paid.shape;
@@ -34,12 +34,12 @@ IsRisingWithin-more f g at root z order slack c d same more on = record {
   names = λ j. ⊎_elim (λ named. inl named) (⊎_elim (λ (none : g j ≡ 0). inr (inl (same j ∙ none))) (λ (e : g j ≡ rising_ranks on.rising j). inr (inr (same j ∙ e)))) (on.names j);
 }
 
--- nothing was done yet
+-- nothing has been done yet
 module _ {at : Slots} {root : Option ℕ} {y : ℕ} {order : List ℕ} {slack : ℕ} (rising : IsRising at root y order slack) where
   pub IsRisingWithin-first : IsRisingWithin (rising_ranks rising) at root y order slack (rising_credit rising)
   IsRisingWithin-first = record { rising = rising; named = []; within = omega arith; names = λ j. inr (inr refl) }
 
--- steps in a row
+-- consecutive steps
 module _ {was : ℕ → ℕ} {at : Slots} {root : Option ℕ} {y : ℕ} {order : List ℕ} {slack credit : ℕ} (on : IsRisingWithin was at root y order slack credit) where
   pub IsRisingWithin-next : {new : Slots} {root' : Option ℕ} {z : ℕ} → IsRisingWithin (rising_ranks on.rising) new root' z order slack (rising_credit on.rising) → IsRisingWithin was new root' z order slack credit
   IsRisingWithin-next next = record {
@@ -59,7 +59,7 @@ module _ {was : ℕ → ℕ} {at : Slots} {root : Option ℕ} {y : ℕ} {order :
     names = NamesChanges-joined on.named paid.named was (rising_ranks on.rising) (rank_in paid.shape) on.names paid.names;
   }
 
--- y is the only one whose rank may differ
+-- only the rank of y may differ
 names_pending : (y low : ℕ) (was is : ℕ → ℕ) → was y ≡ low → ((j : ℕ) → j ≢ y → was j ≡ is j) → NamesChanges (pending_change y low) was is
 names_pending y low was is from same j =
     ⊎_elim (λ (e : j ≡ y). ⊎_elim (λ among. let P : ℕ → Type 0 = λ i. Among i (pending_change y low) in inl (subst P (sym e) among)) (λ (new : low ≡ 0). inr (inl (ap was e ∙ from ∙ new))) (pending_or_new y low))
@@ -73,7 +73,7 @@ module _ {at : Slots} {root : Option ℕ} {z y : ℕ} {order : List ℕ} {slack 
   abbrev pub credit_under : ℕ
   credit_under = length (pending_change y u.low) + potential_way (up u.side z u.high u.far u.rest) u.low + potential u.shape
 
-  -- y stands at the root of its shape alone
+  -- y occurs only at the root of its shape
   parts : (j : ℕ) → times_way j u.rest + times_in j u.shape + here j z + times_in j u.far ≤ 1
   parts j = omega (arith, apart u j, times_in-fork j u.side u.shape u.far z u.high)
 
@@ -95,7 +95,7 @@ module _ {at : Slots} {root : Option ℕ} {z y : ℕ} {order : List ℕ} {slack 
         u.risen,
       )
 
-  -- a greater parent ends the repair
+  -- a higher parent ends the repair
   pub IsSpelledWithin-stop : u.low + 1 < u.high → IsSpelledWithin ranks_under at root order (credit_under + 3)
   IsSpelledWithin-stop higher =
       let s = fork u.side u.shape z u.high u.far in
@@ -115,7 +115,7 @@ module _ {at : Slots} {root : Option ℕ} {z y : ℕ} {order : List ℕ} {slack 
             (λ j other. omega (arith, rank_in-plug j u.rest s, rank_in-fork j u.side u.shape u.far z u.high, here-other j y other));
       }
 
-  -- a promotion is paid by z, which was full
+  -- z, which was full, pays for a promotion
   module _ (new : Slots) (by : IsReranked at new z (u.high + 1)) (equal : u.high ≡ u.low + 1) (sibling : rank_of u.far + 1 ≡ u.high) where
     pub IsRisingWithin-promoted : IsRisingWithin ranks_under new root z order slack credit_under
     IsRisingWithin-promoted =
@@ -134,7 +134,7 @@ module _ {at : Slots} {root : Option ℕ} {z y : ℕ} {order : List ℕ} {slack 
               (λ j other. omega (arith, rank_in-fork j u.side u.shape u.far z (u.high + 1), rank_here-next j z u.high, here-other j y other));
         }
 
-  -- a steep place has the same account
+  -- a steep site has the same account
   module _ (equal : u.high ≡ u.low + 1) (not_sibling : rank_of u.far + 1 ≢ u.high) where
     steep_ranks-under : (j : ℕ) → ranks_under j ≡ steep_ranks (IsSteep-rising u equal not_sibling) j
     unfolding IsSteep-rising
@@ -152,9 +152,9 @@ module _ {at : Slots} {root : Option ℕ} {z y : ℕ} {order : List ℕ} {slack 
         → IsSpelledWithin ranks_under new root' order (credit_under + more)
     IsSpelledWithin-steep {new} {root'} more paid = IsSpelledWithin-more ranks_under (steep_ranks (IsSteep-rising u equal not_sibling)) new root' order _ _ steep_ranks-under (omega (arith, steep_credit-under)) paid
 
--- what has risen, and where it hangs
+-- the node that has risen, and its place
 module _ {at : Slots} {root : Option ℕ} {y : ℕ} {order : List ℕ} {slack : ℕ} (rising : IsRising at root y order slack) where
-  -- at the root the repair is over
+  -- at the root the repair ends
   pub IsSpelledWithin-top : above rising.way ≡ None → IsSpelledWithin (rising_ranks rising) at root order (rising_credit rising + 3)
   IsSpelledWithin-top e =
       let w = no_step rising.way e in
@@ -237,7 +237,7 @@ module _ {old : Slots} {old_root : Option ℕ} {side : Side} {z y : ℕ} {order 
               )))) (cases_eq j y)) (cases_eq j z);
         }
 
-  -- the double one: y has the rank again that it had before it rose
+  -- the double rotation: y has again the rank it had before it rose
   module _ (x : ℕ) (x_is : root_of steep.site.inner ≡ Some x) {mid : Slots} {mid_root : Option ℕ} {rank_low rank_high : ℕ} (r : IsRotated (site_below steep.site x x_is) mid mid_root rank_low rank_high)
       {new : Slots} {root : Option ℕ} (t : IsRotated (site_above steep.site x x_is r) new root rank_low rank_high) where
     pub IsSpelledWithin-double : rank_low ≡ (middle steep.site x x_is).rank → rank_high ≡ steep.site.low → rank_high ≢ rank_of steep.site.outer + 1 → IsSpelledWithin (steep_ranks steep) new root order (steep_credit steep + 3)

@@ -1,4 +1,4 @@
--- A new entry in a list of entries: what is found by index, the indexes, the items.
+-- A new entry in a list of entries: lookups by index, the indexes, the items.
 use Rattle.std.proofs.Common.{arith, ◌≡◌, ◌≢◌, ℕ, Some, List, [], ◌∷◌, ◌∙◌, map, refl, sym, ap, is_some, true}
 use Rattle.std.proofs.lemmas.Grind.{common_steps}
 use Rattle.std.specs.declared.cmp.Ordering.TheVariants.{Less, Equal, Greater}
@@ -18,7 +18,7 @@ module _ {T : Type 0} where
   before-indexes [] i new = refl
   before-indexes (a ∷ es) i new = grind (arith, common_steps, before-indexes es i new)
 
-  -- on either side: between two stretches
+  -- on either side, the entry is between two parts of the list
   put-between : (o : Ordering) (es : List (Entry T)) (i : ℕ) → is_some (entry_at es i) ≡ true → Parted es (put_on o i es)
   put-between Less es i there = insert_before-between es i there
   put-between Equal es i there = insert_after-between es i there

@@ -1,4 +1,4 @@
--- Ranks by index, and lists that name who has another.
+-- Ranks by index, and lists of indexes whose rank changes.
 use Rattle.std.proofs.Common.{◌≡◌, ◌≢◌, ℕ, zero, suc, ◌+◌, ◌<◌, ◌≤◌, ◌⊎◌, Option, Some, List, [], ◌∷◌, ◌++◌, length, arith, refl, sym, ◌∙◌, ap, inl, inr, ⊎_elim}
 use Rattle.std.proofs.{lemmas.Grind.common_steps, lemmas.Bool.eq-eqb, lemmas.Bool.ne_eqb}
 use Rattle.ord_tree.specs.declared.tree_links.Side.TheVariants.{Lesser, Greater}
@@ -14,11 +14,11 @@ rank_here-same i k = rw (eq-eqb i i refl) refl
 pub rank_here-other : (j i k : ℕ) → j ≢ i → rank_here j i k ≡ 0
 rank_here-other j i k e = rw (ne_eqb j i e) refl
 
--- one more
+-- a rank one higher
 pub rank_here-next : (j i k : ℕ) → rank_here j i (k + 1) ≡ rank_here j i k + here j i
 rank_here-next j i k = grind (arith, common_steps)
 
--- an index that stands nowhere has no rank
+-- an index that doesn't occur has no rank
 pub rank_in-absent : (j : ℕ) (s : Shape) → times_in j s ≡ 0 → rank_in s j ≡ 0
 rank_in-absent j missing none = refl
 rank_in-absent j (node l i k r) none =
@@ -47,7 +47,7 @@ pub rank_in-plug : (j : ℕ) (way : Way) (s : Shape) → rank_in (plug way s) j 
 rank_in-plug j top s = omega arith
 rank_in-plug j (up side i k far rest) s = omega (arith, rank_in-plug j rest (fork side s i k far), rank_in-fork j side s far i k)
 
--- lists in a row
+-- appended lists
 pub Among-before : (xs ys : List ℕ) (j : ℕ) → Among j xs → Among j (xs ++ ys)
 Among-before [] ys j h = elim h [ ]
 Among-before (x ∷ xs) ys j h = ⊎_elim (λ e. inl e) (λ rest. inr (Among-before xs ys j rest)) h
@@ -76,14 +76,14 @@ pub pending-most : (y low : ℕ) → length (pending_change y low) ≤ 1
 pending-most y zero = omega arith
 pending-most y (suc low) = omega arith
 
--- an index that stands in a shape with some rank
+-- an index with a rank in a shape occurs there
 standing : (s : Shape) (i k : ℕ) → HasRank s i k → 0 < times_in i s
 standing missing i k h = elim h [ ]
 standing (node l j m r) i k h =
     ⊎_elim (λ (at : (i ≡ j) × (k ≡ m)). let one : here i j ≡ 1 = ap (here i) (sym at.0) ∙ here-same i in omega arith)
     (⊎_elim (λ in_l. let some = standing l i k in_l in omega arith) (λ in_r. let some = standing r i k in_r in omega arith)) h
 
--- is there with that rank alone, where no index stands twice
+-- it has only that rank, if no index occurs twice
 pub rank_in-standing : (s : Shape) (i k : ℕ) → times_in i s ≤ 1 → HasRank s i k → rank_in s i ≡ k
 rank_in-standing missing i k once h = elim h [ ]
 rank_in-standing (node l j m r) i k once h =
@@ -105,7 +105,7 @@ rank-positive missing i k ranked h = elim h [ ]
 rank-positive (node l j m r) i k ranked h =
     ⊎_elim (λ (at : (i ≡ j) × (k ≡ m)). omega (arith, at.1, ranked.0.lesser)) (⊎_elim (rank-positive l i k ranked.1) (rank-positive r i k ranked.2)) h
 
--- an account of a change of this shape, as the shapes tell it; `was` has the ranks of those that stay
+-- the account of a change, in terms of the shapes; `was` has the ranks of the indexes that stay
 pub ChangesRanksWithin-spelled : (m : ℕ) (s : Shape) {was : ℕ → ℕ} {at : Slots} {root : Option ℕ} {order : List ℕ} (paid : IsSpelledWithin was at root order (potential s + m))
     → ((j : ℕ) → 0 < times_in j paid.shape → was j ≡ rank_in s j) → ((j : ℕ) → times_in j s ≤ 1) → ((j : ℕ) → times_in j paid.shape ≤ 1) → IsRanked s → ChangesRanksWithin m s paid.shape
 ChangesRanksWithin-spelled m s {was} paid stays once once' ranked = (

@@ -1,4 +1,4 @@
--- What the reads before a change say of the shapes that stand there.
+-- What the reads before a change say about the shapes there.
 use Rattle.std.proofs.{lemmas.Option.same_Some}
 use Rattle.std.proofs.Common.{◌≡◌, ◌≢◌, ℕ, ◌+◌, Option, Some, None, List, refl, sym, ◌∙◌, ap, option_map, is_some, true, false}
 use Rattle.ord_tree.specs.{TreeLinks.other_side, TreeLinks.child_at, TreeLinks.as_numbers, declared.tree_links.TreeLinks.TreeLinks}
@@ -9,7 +9,7 @@ use Rattle.ord_tree.proofs.Doubles.{high_rank, low_rank as site_low, outer_rank,
 use Rattle.ord_tree.proofs.Demoting.{y_rank as fallen_rank, low_rank as fallen_low, far_root, far_rank}
 use Rattle.ord_tree.proofs.{LeafBranches.is_some-mapped, Rotations.child-as_numbers}
 
--- links with one number are one link
+-- links with the same number are the same link
 pub same-link : {I : Type 0} (number : I → ℕ) → ((i j : I) → number i ≡ number j → i ≡ j) → (a b : Option I) → option_map number a ≡ option_map number b → a ≡ b
 same-link number one None None same = refl
 same-link number one (Some i) (Some j) same = ap (λ i. Some i) (one i j (same_Some _ _ same))
@@ -17,7 +17,7 @@ same-link number one None (Some j) same = let never : false ≡ true = ap is_som
 same-link number one (Some i) None same = let never : true ≡ false = ap is_some same in cc
 
 module _ {I : Type 0} (number : I → ℕ) where
-  -- what a link leads to, as a number
+  -- the link read from a side, as a number
   pub child-read : (side : Side) (n : TreeLinks I) (link : Option I) → link ≡ child_at side n → option_map number link ≡ child_at side (as_numbers number n)
   child-read side n link is = ap (option_map number) is ∙ child-as_numbers number side n
 
@@ -51,7 +51,7 @@ module _ {I : Type 0} (number : I → ℕ) where
     pub inner-there : (b : Option I) → b ≡ child_at other low → is_some (child_at (other_side side) (as_numbers number low)) ≡ true → is_some b ≡ true
     inner-there b b_is there = sym (is_some-mapped number b) ∙ ap is_some (child_other-read _ other other_is low b b_is) ∙ there
 
-  -- under y, a side of which has fallen
+  -- at y, a side of which has fallen
   module _ {at : Slots} {root : Option ℕ} {y : ℕ} {side : Side} {order : List ℕ} (fallen : IsFallen at root y side order) (other : Side) (other_is : other ≡ other_side side)
       (links : TreeLinks I) (at_y : at y ≡ Some (as_numbers number links)) where
     pub low-read : (a : Option I) → a ≡ child_at side links → (low : ℕ) → low ≡ rank_at at (option_map number a) → low ≡ rank_of fallen.low
@@ -69,7 +69,7 @@ module _ {I : Type 0} (number : I → ℕ) where
           far_rank fallen (as_numbers number links) at_y (number s) (as_numbers number sibling)
           (sym (child_other-read _ other other_is links b b_is) ∙ ap (option_map number) is) at_s
 
-  -- over y, which has risen under z
+  -- at y, which has risen under z
   module _ {at : Slots} {root : Option ℕ} {z y : ℕ} {order : List ℕ} {slack : ℕ} (u : IsRisingUnder at root z y order slack)
       (low high : TreeLinks I) (at_y : at y ≡ Some (as_numbers number low)) (at_z : at z ≡ Some (as_numbers number high)) where
     pub ranks-read : (high.rank ≡ u.high) × (low.rank ≡ u.low + 1)
@@ -79,7 +79,7 @@ module _ {I : Type 0} (number : I → ℕ) where
       pub side-read : side ≡ u.side
       side-read = told u.side (z_child u (as_numbers number high) at_z) (z_not_far u (as_numbers number high) at_z)
 
-      -- and the other side of z
+      -- and at the other side of z
       module _ (other : Side) (other_is : other ≡ other_side side) (b : Option I) (b_is : b ≡ child_at other high) where
         link_is : option_map number b ≡ child_at (other_side u.side) (as_numbers number high)
         link_is = child_other-read u.side other (other_is ∙ ap other_side side-read) high b b_is

@@ -13,24 +13,24 @@ use Rattle.ord_tree.proofs.Forks.{here-same, times-append, times-walk, times_in-
 use Rattle.ord_tree.proofs.{Frames.root-in, Frames.Holds-frame, Frames.Holds-rehung, Halves.rebuilt_exists, Halves.size_of-walk}
 use Rattle.ord_tree.proofs.Rotations.{occupied-link}
 
--- how many steps a way has
+-- the number of steps of a path
 abbrev pub depth : Way → ℕ
 depth top = 0
 depth (up side i k far rest) = suc (depth rest)
 
--- a side of a half is a half, one rank below and at most half as large
+-- a side of a half is a half, one rank lower and at most half as large
 IsHalf-near : (side : Side) (near far : Shape) (i k p : ℕ) → IsHalf p (fork side near i k far) → IsHalf (p - 1) near × (2 * size_of near ≤ size_of (fork side near i k far))
 IsHalf-near Lesser near far i k p h = (h.2, omega (arith, h.0))
 IsHalf-near Greater near far i k p h = (h.3, omega (arith, h.0))
 
--- so is what stands at the end of a way
+-- the same holds at the end of a path
 pub IsHalf-plug : (way : Way) (t : Shape) (q p : ℕ) → p ≡ q - depth way → IsHalf q (plug way t) → IsHalf p t
 IsHalf-plug top t q p e h = let same : p ≡ q = omega arith in rw same h
 IsHalf-plug (up side i k far rest) t q p e h =
     let same : p ≡ q - depth rest - 1 = omega arith in
     rw same (IsHalf-near side t far i k (q - depth rest) (IsHalf-plug rest (fork side t i k far) q (q - depth rest) refl h)).0
 
--- each step of a way halves what stands at its end
+-- each step of a path halves the shape at its end
 halved : (u v p n r : ℕ) → r ≡ p * 2 → 2 * u ≤ v → v * p ≤ n → u * r ≤ n
 halved u v p n r e g l = rw e (omega (arith, mul-le-mul_right p g))
 
@@ -41,7 +41,7 @@ size-plug (up side i k far rest) t q h =
     (IsHalf-near side t far i k (q - depth rest) (IsHalf-plug rest (fork side t i k far) q (q - depth rest) refl h)).1
     (size-plug rest (fork side t i k far) q h)
 
--- what comes before the end of a way and what stands there is a part of the whole
+-- the nodes before the end of a path and the shape there are part of the whole
 behind-plug : (way : Way) (t : Shape) → behind way + size_of t ≤ size_of (plug way t)
 behind-plug top t = omega arith
 behind-plug (up Lesser i k far rest) t = omega (arith, behind-plug rest (node t i k far))
@@ -52,7 +52,7 @@ below_power k l n d p s g =
     ⊎_elim (λ (less : k < d). less)
     (λ (more : d ≤ k). absurd (omega (arith, pow_mono {i = d} {j = k} more, mul-le-mul_right (2 ^ k) p, s))) (cases_lt k d)
 
--- so a way to a node of the plan has fewer steps than the size of the plan has digits
+-- so a path to a node of the plan has fewer steps than the size of the plan has digits
 few-steps : {at : Slots} {q : ℕ} {s : Shape} (way : Way) (t : Shape) → IsPlan at q s → plug way t ≡ s → 0 < size_of t → (d : ℕ) → size_of s < 2 ^ d → depth way < d
 few-steps {at} {q} {s} way t plan whole some d below =
     let P : Shape → Type 0 = λ s. IsHalf q s in
@@ -68,7 +68,7 @@ apart way t plan whole j = omega (arith, plan.once j, times_in-plug j way t, ap 
 within : {at : Slots} {q : ℕ} {s : Shape} (way : Way) (t : Shape) → IsPlan at q s → plug way t ≡ s → (j : ℕ) → 0 < times_way j way + times_in j t → is_some (at j) ≡ true
 within way t plan whole j some = plan.there j (omega (arith, some, times_in-plug j way t, ap (times_in j) whole))
 
--- the last of a list is one
+-- the last element of a list is unique
 pub snoc-same : {A : Type 0} (xs ys : List A) (x y : A) → xs ++ x ∷ [] ≡ ys ++ y ∷ [] → (xs ≡ ys) × (x ≡ y)
 snoc-same [] [] x y e = (refl, cc)
 snoc-same [] (b ∷ ys) x y e = absurd (omega (arith, ap length e, length-append ys (y ∷ [])))
@@ -82,7 +82,7 @@ snoc-same (a ∷ xs) (b ∷ ys) x y e =
 not-snoc : {A : Type 0} (xs : List A) (x : A) → [] ≡ xs ++ x ∷ [] → ⊥
 not-snoc xs x e = omega (arith, ap length e, length-append xs (x ∷ []))
 
--- the last of a list is found at the end
+-- the last element is at the last position
 pub slice_get-end : {A : Type 0} (xs : List A) (x : A) (n : ℕ) → n ≡ length xs → slice_get (xs ++ x ∷ []) n ≡ Some x
 slice_get-end [] x n e = rw e refl
 slice_get-end (a ∷ xs) x zero e = absurd (omega (arith, e))
@@ -92,13 +92,13 @@ pub slice_get-last : {A : Type 0} (all below : List A) (x : A) → all ≡ below
 slice_get-last all below x e = ap (λ xs. slice_get xs (length all - 1)) e ∙ slice_get-end below x (length all - 1) (omega (arith, ap length e, length-append below (x ∷ [])))
 
 module _ where
-  -- as many frames as steps
+  -- there are as many frames as steps
   pub length-stack : (at : Slots) (way : Way) (n : ℕ) (frames : List Frame) → IsStack at way n frames → length frames ≡ depth way
   length-stack at top n frames h = ap length h
   length-stack at (up side i k far rest) n frames h =
       omega (arith, ap length h.2, length-append h.0 (h.1 ∷ []), length-stack at rest (n + 1 + size_of far) h.0 h.6)
 
-  -- so no more than the size of the plan has digits
+  -- so there are at most as many as the size of the plan has digits
   few-frames : {at : Slots} {q : ℕ} {s : Shape} (frames : List Frame) → IsPlan at q s → (way : Way) (t : Shape) → plug way t ≡ s → IsStack at way (size_of t) frames → IsFew frames s
   few-frames {at} {q} {s} frames plan top t whole stack d digits = omega (arith, length-stack at top (size_of t) frames stack)
   few-frames {at} {q} {s} frames plan (up side i k far rest) t whole stack d digits =
@@ -107,7 +107,7 @@ module _ where
   pub IsWaiting-few : {at : Slots} {q : ℕ} {s : Shape} {frames : List Frame} {link : Option ℕ} {todo : List ℕ} → IsPlan at q s → IsWaiting at frames s link todo → IsFew frames s
   IsWaiting-few {frames = frames} plan ready = few-frames frames plan ready.finished.way ready.finished.done ready.finished.whole ready.finished.stack
 
-  -- what the frames say stays where no write touches the nodes that are met
+  -- the facts that the frames record stay if no write touches the nodes that were met
   module _ (old new : Slots) where
     module _ (i k : ℕ) (far : Shape) (middle : Option ℕ) (same : (j : ℕ) → 0 < here j i + times_in j far → new j ≡ old j) where
       IsMiddle-frame : (side : Side) → IsMiddle old side i k far middle → IsMiddle new side i k far middle
@@ -279,7 +279,7 @@ module _ where
 
   -- ending a run
   module _ {at : Slots} {q : ℕ} {s : Shape} (plan : IsPlan at q s) {frames : List Frame} {link : Option ℕ} {todo : List ℕ} (finished : IsFinished at frames s link todo) where
-    -- where the innermost run has no middle yet, or there is none, the next entry can be met
+    -- if the innermost run has no middle yet, or there is no run, the next entry can be met
     pub IsWaiting-bare : ((below : List Frame) (f : Frame) → frames ≡ below ++ f ∷ [] → f.middle ≡ None) → IsWaiting at frames s link todo
     IsWaiting-bare bare = record { finished = finished; facing = go finished.way finished.stack }
       where
@@ -288,7 +288,7 @@ module _ where
         go (up Lesser i k far rest) stack = tt
         go (up Greater i k far rest) stack = let none = bare stack.0 stack.1 stack.2 in let some = stack.3.0 in cc
 
-    -- the run that ends
+    -- the run that is ended
     pub record IsEnding (below : List Frame) (m : ℕ) : Type 0 where
       pub rest : Way
       pub l : Shape
@@ -380,11 +380,11 @@ module _ where
           todo_is = ending.todo_is;
         }
 
--- the plan stays where no node goes
+-- the plan stays if no node is removed
 pub IsPlan-kept : {old new : Slots} {q : ℕ} {s : Shape} → ((j : ℕ) → is_some (new j) ≡ is_some (old j)) → IsPlan old q s → IsPlan new q s
 IsPlan-kept same plan = record { half = plan.half; few = plan.few; once = plan.once; there = λ j some. same j ∙ plan.there j some }
 
--- the top rank by the count of leading zeros
+-- the top rank, computed from the count of leading zeros
 pub IsTop-leading : (n : ℕ) → n < 2 ^ 64 → IsTop n (64 - count_leading_zeros 64 (n - 2) + 1)
 IsTop-leading n fits =
     let h = leading_length 64 (n - 2) (omega arith) in
@@ -395,12 +395,12 @@ IsTop-same n p q a b =
     ⊎_elim (λ (less : a.0 < b.0). absurd (b.2.1 a.0 less a.2.0))
     (λ (more : b.0 ≤ a.0). ⊎_elim (λ (less : b.0 < a.0). absurd (a.2.1 b.0 less b.2.0)) (λ (same : a.0 ≤ b.0). omega (arith, a.1, b.1)) (cases_lt b.0 a.0)) (cases_lt a.0 b.0)
 
--- what follows an entry in a list
+-- the successor of an entry in a list
 pub following-at : (z : ℕ) (front back : List ℕ) → times z front ≡ 0 → following z (front ++ z ∷ back) ≡ list_head back
 following-at z [] back none = rw (eq-eqb z z refl) refl
 following-at z (x ∷ xs) back none = grind (arith, common_steps, following-at z xs back)
 
--- a list that is to be rebuilt
+-- a list to be rebuilt
 module _ (at : Slots) (order : List ℕ) (n top_rank : ℕ) (len : n ≡ length order) (fits : n < 2 ^ 64) (once : IsOnce order) (there : (j : ℕ) → 0 < times j order → is_some (at j) ≡ true) (top_is : IsTop n top_rank) where
   abbrev pub planned : Shape
   planned = (rebuilt_exists order).0
@@ -427,7 +427,7 @@ module _ (at : Slots) (order : List ℕ) (n top_rank : ℕ) (len : n ≡ length 
       }
 
 module _ {at : Slots} {s : Shape} {order : List ℕ} where
-  -- at the start nothing is open
+  -- at the start no run is open
   pub IsOpening-start : (walk s ≡ order) → (n : ℕ) → n ≡ length order → (frames : List Frame) → frames ≡ [] → IsOpening at frames s 0 n order
   IsOpening-start walked n len frames none =
       let size : n ≡ size_of s = omega (arith, len, size_of-walk s, ap length walked) in
@@ -465,7 +465,7 @@ module _ {at : Slots} {s : Shape} {order : List ℕ} where
         go [] split h = absurd (omega (arith, passing.count, ap length split, length-append passing.met []))
         go (y ∷ rest) split h = rw h refl
 
-    -- at the end all hangs on the link
+    -- at the end the link leads to the whole tree
     pub Holds-passed : length order ≤ position → Holds at None link s
     Holds-passed all = go passing.ready.finished.way passing.ready.facing passing.ready.finished.whole (passing.ready.finished.todo_is ∙ none passing.todo passing.split) passing.ready.finished.held
       where
@@ -478,7 +478,7 @@ module _ {at : Slots} {s : Shape} {order : List ℕ} where
         go (up Lesser i k far rest) facing whole e held = absurd cc
         go (up Greater i k far rest) facing whole e held = absurd facing
 
--- one entry more is met
+-- one more entry is met
 module _ {at : Slots} {s : Shape} {order : List ℕ} {frames : List Frame} {link target : Option ℕ} {position x : ℕ}
     (passing : IsPassing at frames s order link position target) (is : IsTarget passing x) (once : IsOnce order) {next : Option ℕ} (next_is : next ≡ following x order) where
   pub IsPassing-next : {new : Slots} {frames' : List Frame} {link' : Option ℕ} → IsWaiting new frames' s link' is.rest → IsPassing new frames' s order link' (position + 1) next

@@ -1,4 +1,4 @@
--- A rebuild over a chain of nodes: what it asks of the chain, and what it makes of the tree.
+-- A rebuild over a chain of nodes: what it requires of the chain, and what it does to the tree.
 use Rattle.std.proofs.Common.{◌≡◌, ℕ, ◌<◌, ◌≤◌, Option, Some, None, List, [], ◌∷◌, map, arith, refl, sym, ◌∙◌, ap, subst, is_some, true}
 use Rattle.std.proofs.{lemmas.Grind.common_steps, lemmas.Bool.ne_eqb}
 use Rattle.arena_base.specs.Pointer.{index_number}
@@ -15,7 +15,7 @@ use Rattle.ord_tree.proofs.{Trees.indexes-bare, Trees.shape_in-held, Halves.IsRa
 pub index-some : (n : ℕ) → 0 < n → is_some (index_number n) ≡ true
 index-some n some = rw (ne_eqb n 0 (λ e. omega arith)) refl
 
--- the first pointer is that of an entry
+-- the first pointer names an entry
 pub first-occupied : {T : Type 0} (es : List (Entry T)) (i g : ℕ) → Some (i, g) ≡ first_pointer es → is_some (entry_at es i) ≡ true
 first-occupied [] i g first = absurd (cc)
 first-occupied (e ∷ es) i g first = grind (arith, common_steps)
@@ -27,7 +27,7 @@ module _ {P T I G : Type 0} (c : Chain (Node P T I G)) where
   pub slots-within : (i : ℕ) → 0 < times i (indexes c.entries) → is_some (slots_of c i) ≡ true
   slots-within i some = is_some-mapped (λ (e : ℕ × Node P T I G). links_in e.1) (entry_at c.entries i) ∙ occurs-entry c.entries i (omega (arith, some, times-indexes c.entries i))
 
-  -- so in the bare list
+  -- the same in the bare list
   pub slots-within_bare : (i : ℕ) → 0 < times i (indexes (map bare_entry c.entries)) → is_some (slots_of c i) ≡ true
   slots-within_bare i some = slots-within i (rw (indexes-bare c.entries) at some)
 
@@ -39,7 +39,7 @@ module _ {P T I G : Type 0} (c : Chain (Node P T I G)) where
       let inside = sound.within i (omega (arith, times-indexes c.entries i, within-occupied c.entries i (entry-occupied i some))) in
       (inside.0, omega (arith, inside.1, sound.within_limit, limit_of-below most c.maximum))
 
--- what a rebuild owes of the chain: the nodes spell a rebuilt shape along it, and so the tree's shape is a rebuilt one
+-- the obligation of a rebuild: the nodes form a rebuilt shape over the chain, which is the tree's shape
 module _ {P T I G : Type 0} (c new : Chain (Node P T I G)) (kept : bare new ≡ bare c) (root : Option ℕ)
     (r : (s : Shape) × (walk s ≡ indexes (map bare_entry c.entries)) × IsRebuilt s × Holds (slots_of new) None root s) where
   laid_rebuilt : IsLaidOut new root r.0

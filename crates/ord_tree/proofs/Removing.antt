@@ -15,7 +15,7 @@ use Rattle.ord_tree.proofs.Forks.{Holds-plug, HoldsFork-holds, here-same, times-
 use Rattle.ord_tree.proofs.{Cutting.without-split, Cutting.times-without, Cutting.length-without, Spots.Spot, Spots.spot_in}
 use Rattle.ord_tree.proofs.{Demoting.BuiltOrFallen, Standing.stand_in-same, PromotionAccount.IsSpelledWithin-more}
 
--- the other branch is the first, with v for z
+-- the second branch is the first with v in place of z
 abbrev pub IsRenamed : {I : Type 0} → (I → ℕ) → ℕ → ℕ → Option (Branch I) → Option (Branch I) → Type 0
 IsRenamed number z v cut branch = MatchOption cut (branch ≡ None) (λ p. IsSomeAnd branch (λ q. (number q.parent ≡ stand_in z v (number p.parent)) × (q.side ≡ p.side)))
 
@@ -26,7 +26,7 @@ module _ {old : Slots} {root : Option ℕ} {z : ℕ} {before : Option ℕ} {orde
   pub z_occupied : is_some (old z) ≡ true
   z_occupied = ap is_some spot.at_y
 
-  -- where nothing hangs on its lesser side
+  -- z has no lesser child
   pub bare_z : (nz : TreeLinks ℕ) → old z ≡ Some nz → nz.lesser ≡ None → (n : TreeLinks ℕ) → old z ≡ Some n → n.lesser ≡ None
   bare_z nz e none n is = let same : nz ≡ n = cc in ap (λ (n : TreeLinks ℕ). n.lesser) (sym same) ∙ none
 
@@ -154,7 +154,7 @@ module _ {old : Slots} {root : Option ℕ} {z : ℕ} {before : Option ℕ} {orde
               let Q : Side → Type 0 = λ side. IsFallen new root'' (stand_in z v y) side (without z order) in
               subst P (sym is_y) (subst Q (sym is_side) (fallen_stood f))
 
-          -- and its account
+          -- and the account
           module _ (s : Shape) (credit : ℕ) where
             built_paid : (total : ℕ) → credit + 1 ≤ total → IsSpelledWithin (ranks_without v s) mid root' (without v order) credit → IsSpelledWithin (ranks_without z s) new root'' (without z order) total
             built_paid total enough paid = record {
@@ -221,12 +221,12 @@ pub paid_more : {I : Type 0} (number : I → ℕ) (was : ℕ → ℕ) (at : Slot
 paid_more number was at root order c d more None paid = IsSpelledWithin-more was was at root order c d (λ j. refl) more paid
 paid_more number was at root order c d more (Some b) up = record { fallen = up.fallen; named = up.named; within = omega (arith, up.within); names = up.names }
 
--- a link that leads nowhere, with numbers for indexes
+-- an empty link, with numbers for indexes
 pub mapped_none : {I : Type 0} (number : I → ℕ) (o : Option I) → is_some o ≡ false → option_map number o ≡ None
 mapped_none number None e = refl
 mapped_none number (Some i) e = absurd cc
 
--- a link that leads somewhere, with numbers for indexes
+-- a nonempty link, with numbers for indexes
 pub mapped : {I : Type 0} (number : I → ℕ) (o : Option I) → is_some o ≡ true → (j : ℕ) × option_map number o ≡ Some j
 mapped number None e = absurd cc
 mapped number (Some i) e = (number i, refl)

@@ -1,4 +1,4 @@
--- A new pointer for an entry: the tree stays.
+-- A new pointer for an entry; the tree is unchanged.
 use Rattle.std.proofs.Common.{arith, ◌≡◌, ℕ, Option, Some, None, List, [], ◌∷◌, map, refl, sym, ◌∙◌, ap, is_some, option_map, OnSome, IfNone, subst}
 use Rattle.std.proofs.lemmas.Grind.{common_steps}
 use Rattle.arena_base.specs.{Generation.next_generation, Arena.item_if}
@@ -8,7 +8,7 @@ use Rattle.ord_tree.specs.Node.{bare_entry, bare, entry_in, indexes}
 use Rattle.ord_tree.proofs.Trees.{links_at, entry_at-bare, IsLaidOut-linked, shape_in-linked, either_option, on_some, if_none}
 
 module _ {P T I G : Type 0} where
-  -- a pointer names an entry of the list where it names a node
+  -- a pointer names an entry of the list if it names a node
   is_some-item_if : (g : ℕ) (o : Option (ℕ × Node P T I G)) → is_some (item_if g (option_map entry_in o)) ≡ is_some (item_if g o)
   is_some-item_if g None = refl
   is_some-item_if g (Some e) = grind (arith, common_steps)
@@ -42,7 +42,7 @@ module _ {P T I G : Type 0} where
         ap (λ (es : List (Entry T)). record { list = record { entries = es; capacity = c.capacity; vacant = c.vacant; generation = g; maximum = c.maximum }; shape = shape_in (renewed greatest c i) root }) (bare-renewed c.entries i g)
         ∙ ap (λ s. record { list = list; shape = s }) same
 
-    -- the call, from what the chain's ensures
+    -- the call, from what the chain's call ensures
     module _ {X : Type 0} (o : Option X) (new : Chain (Node P T I G)) (renewing : OnSome o (new ≡ renewed greatest c i)) where
       pub call_laid_out : IfNone o (new ≡ c) → IsLaidOut new root (shape_in new root)
       call_laid_out keeping =

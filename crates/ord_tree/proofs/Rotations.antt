@@ -1,4 +1,4 @@
--- What the four writes of a rotation come to.
+-- The combined effect of the four writes of a rotation.
 use Rattle.std.proofs.Common.{◌≡◌, ◌≢◌, ℕ, ◌+◌, ◌<◌, ◌≤◌, Option, Some, None, arith, refl, sym, ◌∙◌, ap, subst, inl, inr, ⊎_elim, ◌⊎◌, option_map, is_some, true}
 use Rattle.std.proofs.lemmas.Bool.{cases_eq}
 use Rattle.ord_tree.specs.Slots.{Slots, Holds, Way, top, up, above, HoldsWay, here, times_in, times_way, back_at}
@@ -9,7 +9,7 @@ use Rattle.ord_tree.specs.{declared.tree_links.Side.Side, Rotate.Site, Rotate.Is
 use Rattle.ord_tree.proofs.Forks.{HoldsFork-holds, Holds-fork, here-same, times_in-fork, apart-from, link-root, child-with_child, other_child-with_child, child-with_other, other_child-with_other}
 use Rattle.ord_tree.proofs.Frames.{root-in, Holds-frame, HoldsWay-frame, Holds-rehung, IsReplaced, HoldsWay-replaced}
 
--- the numbers of links
+-- links as numbers
 pub child-as_numbers : {I : Type 0} (number : I → ℕ) (side : Side) (n : TreeLinks I) → option_map number (child_at side n) ≡ child_at side (as_numbers number n)
 child-as_numbers number Lesser n = refl
 child-as_numbers number Greater n = refl
@@ -22,7 +22,7 @@ pub child-placed : (side : Side) (back : Option ℕ) (rank : ℕ) (n : TreeLinks
 child-placed Lesser back rank n = refl
 child-placed Greater back rank n = refl
 
--- what a node at the root of a fork holds
+-- what a node at the root of a fork stores
 pub record ForkAt (at : Slots) (over : Option ℕ) (side : Side) (near : Shape) (i k : ℕ) (far : Shape) (n : TreeLinks ℕ) : Type 0 where
   pub back : n.back ≡ over
   pub rank : n.rank ≡ k
@@ -48,13 +48,13 @@ occupied-link at over link (node l j k r) i h e = let same : i ≡ j = cc in rw 
 
 -- the lower node of a rotation
 module _ (at : Slots) (root : Option ℕ) (side : Side) (z y : ℕ) (site : Site at root side z y) (ny : TreeLinks ℕ) (e : at y ≡ Some ny) where
-  -- what it holds
+  -- what it stores
   pub fork_at_low : ForkAt at (Some z) side site.outer y site.low site.inner ny
   fork_at_low =
       let f = HoldsFork-holds at (above site.way) (Some z) side (fork side site.outer y site.low site.inner) site.far z site.high site.held in
       ForkAt-holds at (Some z) (child_at side f.0) side site.outer y site.low site.inner ny e f.5
 
-  -- its link to what stands between the two nodes leads to a node
+  -- its link to the shape between the two nodes leads to a node
   pub occupied-inner : (i : ℕ) → child_at (other_side side) ny ≡ Some i → is_some (at i) ≡ true
   occupied-inner i link = occupied-link at (Some y) (child_at (other_side side) ny) site.inner i fork_at_low.far_held link
 
@@ -78,7 +78,7 @@ module _ (old replaced hung below new : Slots) (root root' : Option ℕ) (side :
   fork_y : ForkAt old (Some z) side site.outer y site.low site.inner ny
   fork_y = ForkAt-holds old (Some z) (child_at side nz) side site.outer y site.low site.inner ny is_y fork_z.near_held
 
-  -- the parts have no index in common
+  -- the parts share no index
   total : (j : ℕ) → times_way j site.way + times_in j site.outer + here j y + times_in j site.inner + here j z + times_in j site.far ≤ 1
   total j = omega (arith, site.apart j, times_in-fork j side (fork side site.outer y site.low site.inner) site.far z site.high, times_in-fork j side site.outer site.inner y site.low)
 
@@ -94,7 +94,7 @@ module _ (old replaced hung below new : Slots) (root root' : Option ℕ) (side :
   y≢z : y ≢ z
   y≢z = apart-from z y (λ j. here j y) (omega (arith, total z, here-same z)) (omega (arith, here-same y))
 
-  -- neither of the two nodes was written before
+  -- the earlier writes changed neither of the two nodes
   z_stays : hung z ≡ Some nz
   z_stays = but_middle z (λ e. omega (arith, total z, here-same z, in_inner z e)) ∙ parent.elsewhere z (λ e. omega (arith, total z, here-same z, in_way z e)) ∙ is_z
 
@@ -104,7 +104,7 @@ module _ (old replaced hung below new : Slots) (root root' : Option ℕ) (side :
   elsewhere : (j : ℕ) → j ≢ z → j ≢ y → child_at (other_side side) ny ≢ Some j → nz.back ≢ Some j → new j ≡ old j
   elsewhere j not_z not_y not_middle not_parent = but_y j not_y ∙ but_z j not_z ∙ but_middle j not_middle ∙ parent.elsewhere j not_parent
 
-  -- a part that holds none of the written indexes stays
+  -- a part without the written indexes is unchanged
   stays : (f : ℕ → ℕ) → ((j : ℕ) → f j + times_way j site.way + here j y + times_in j site.inner + here j z ≤ 1) → (j : ℕ) → 0 < f j → new j ≡ old j
   stays f alone j in_f =
       elsewhere j (apart-from z j f (omega (arith, alone z, here-same z)) in_f) (apart-from y j f (omega (arith, alone y, here-same y)) in_f)

@@ -15,7 +15,7 @@ use Rattle.ord_tree.proofs.{RankChanges.ChangesRanksWithin-spelled, Cutting.time
 use Rattle.ord_tree.proofs.{LeafBranches.IsOnce-distinct, LeafBranches.within-occupied, Slack.IsRanked-balanced, Slack.IsBalanced-ranked}
 use Rattle.ord_tree.proofs.{Forks.times-walk, Forks.apart-from, Frames.Holds-frame}
 
--- what holds in any case holds of an option
+-- what always holds also holds of an option
 pub some_always : {X A : Type 0} (o : Option X) → A → OnSome o A
 some_always None a = tt
 some_always (Some x) a = a
@@ -40,7 +40,7 @@ module _ {P T I G : Type 0} where
   abbrev linked_item : ℕ × Link (Node P T I G) → ℕ × T
   linked_item e = (e.0, e.1.item.t)
 
-  -- what the list says of an entry, from the link in the chain of nodes
+  -- the list's entry, from the link in the chain of nodes
   entry_at-bare_link : (c d : Chain (Node P T I G)) (x : ℕ) → bare d ≡ bare c → entry_at (map bare_entry c.entries) x ≡ option_map linked_item (link_at d.entries x)
   entry_at-bare_link c d x kept =
       ap (λ (b : Chain T). entry_at b.entries x) (sym kept) ∙ entry_at-bare d.entries x ∙ ap (option_map entry_in) (entry_at-link None None d.entries x) ∙ over (link_at d.entries x)
@@ -49,14 +49,14 @@ module _ {P T I G : Type 0} where
       over None = refl
       over (Some e) = refl
 
--- what a removal owes: `new` is the chain c without the entry x, and `answer` what the entry was, its generation by `gen`
+-- the obligation of a removal: `new` is the chain c without the entry x, and `answer` the removed item and its generation by `gen`
 pub record Removal {P T I G : Type 0} (greatest : Option ℕ) (c new : Chain (Node P T I G)) (root root' : Option ℕ) (x : ℕ) (gen : G → ℕ) (answer : G × T) : Type 0 where
   pub laid : IsLaidOut new root' (shape_in new root')
   pub listed : bare new ≡ removed greatest (bare c) x
   pub shrunk : IsShrunk (shape_in c root) (shape_in new root')
   pub value : entry_at (map bare_entry c.entries) x ≡ Some (gen answer.0, answer.1)
 
--- the tree without the entry x: c is its chain, d the chain once the node is taken out of the tree
+-- the tree without the entry x: c is its chain, d the chain after the node was taken out of the tree
 module _ {P T I G : Type 0} (c : Chain (Node P T I G)) (root : Option ℕ) (x : ℕ)
     (laid : IsLaidOut c root (shape_in c root)) (occupied : is_some (entry_at c.entries x) ≡ true)
     (most : ℕ) (greatest : Option ℕ) (sound : IsSound most greatest c) (fits : most + 1 < 2 ^ 64) where
@@ -142,7 +142,7 @@ module _ {P T I G : Type 0} (c : Chain (Node P T I G)) (root : Option ℕ) (x : 
     pub still_there : is_some (entry_at d.entries x) ≡ true
     still_there = sym (is_some-bare d.entries x) ∙ ap (λ (b : Chain T). is_some (entry_at b.entries x)) kept ∙ is_some-bare c.entries x ∙ occupied
 
-    -- the call, from what its steps ensure: the chain's answer, and the same with the item alone
+    -- the call, from what its steps ensure: the chain's result, with the item alone
     module _ (new : Chain (Node P T I G)) (gen : G → ℕ) (taken : G × Link (Node P T I G)) (answer : G × T)
         (value : link_at d.entries x ≡ Some (gen taken.0, taken.1)) (new_is : new ≡ removed greatest d x) (answer_is : answer ≡ (taken.0, taken.1.item.t)) where
       pub removal : Removal greatest c new root root' x gen answer

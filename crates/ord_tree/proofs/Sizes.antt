@@ -1,4 +1,4 @@
--- Rank rules and sizes: how long a way down can be, and how few nodes a rank needs.
+-- Rank rules and sizes: the longest path down, and the fewest nodes for a rank.
 use Rattle.std.proofs.Common.{◌≡◌, ℕ, zero, suc, ◌+◌, ◌*◌, ◌^◌, ◌<◌, ◌≤◌, arith, ⊎_elim}
 use Rattle.std.proofs.{Math.Nat.mul-le-mul, Math.Nat.mul-le-mul_left, Math.Nat.two-pow-succ, Math.Numerals.add-one, Math.Numerals.add-two}
 use Rattle.std.proofs.lemmas.Bool.{cases_lt}
@@ -10,7 +10,7 @@ pub height-le-rank : HeightLaw
 height-le-rank missing h = omega arith
 height-le-rank (node l i k r) h = omega (arith, h.0.lesser, h.0.greater, height-le-rank l h.1, height-le-rank r h.2)
 
--- where two squares are at least x, the square of the sum is at least 4 x
+-- if two squares are at least x, the square of the sum is at least 4 x
 square_of_sum : (a b x : ℕ) → x ≤ a * a → x ≤ b * b → x + x + (x + x) ≤ (a + b) * (a + b)
 square_of_sum a b x p q =
     ⊎_elim (λ (less : a < b). let h : a * a ≤ a * b = mul-le-mul_left a (omega arith) in omega arith)
@@ -19,7 +19,7 @@ square_of_sum a b x p q =
 four_powers : (j : ℕ) → 2 ^ suc (suc j) ≡ 2 ^ j + 2 ^ j + (2 ^ j + 2 ^ j)
 four_powers j = let e = two-pow-succ j in let d = two-pow-succ (suc j) in omega arith
 
--- where a rank is, a node is
+-- a positive rank means a node
 size-positive : (s : Shape) → 0 < rank_of s → 0 < size_of s
 size-positive missing b = b
 size-positive (node l i k r) b = omega arith
@@ -32,7 +32,7 @@ two_nodes l r k h b =
     (λ (empty : rank_of r ≤ 0). absurd (omega (arith, h.leaf (omega arith) (omega arith)))) (cases_lt 0 (rank_of r)))
     (cases_lt 0 (rank_of l))
 
--- a shape of rank above j has so many nodes that the square of one more is 2 ^ (j + 2) at least
+-- the square of one more than the size of a shape of rank above j is at least 2 ^ (j + 2)
 pub nodes_over_rank : (s : Shape) (j : ℕ) → IsRanked s → suc j ≤ rank_of s → 2 ^ (suc (suc j)) ≤ (size_of s + 1) * (size_of s + 1)
 nodes_over_rank missing j h b = absurd (omega (arith, b))
 nodes_over_rank (node l i k r) zero h b =

@@ -29,7 +29,7 @@ IsBalanced-tight missing h t = tt
 IsBalanced-tight (node l i k r) h t =
     (record { lesser = h.0.lesser; greater = h.0.greater; leaf = h.0.leaf; tight = omega (arith, h.0.lesser, h.0.greater, t.0) }, IsBalanced-tight l h.1 t.1, IsBalanced-tight r h.2 t.2)
 
--- a rank fits a byte with room to spare, where the number of nodes fits a word
+-- a rank fits into a byte with room to spare, if the number of nodes fits into a word
 pub rank-small : (s : Shape) → IsRanked s → size_of s < 2 ^ 64 → rank_of s < 128
 rank-small s h few =
     ⊎_elim (λ (low : rank_of s < 128). low)
@@ -38,7 +38,7 @@ rank-small s h few =
     let bound : (size_of s + 1) * (size_of s + 1) ≤ 2 ^ 64 * 2 ^ 64 = mul-le-mul {n₂ = 2 ^ 64} {m₂ = 2 ^ 64} (omega arith) (omega arith) in
     absurd (omega arith)) (cases_lt (rank_of s) 128)
 
--- and is at most 126, where there is one node less than that
+-- it is at most 126 with one node less
 pub rank-most : (s : Shape) → IsRanked s → size_of s + 1 < 2 ^ 64 → rank_of s ≤ 126
 rank-most s h few =
     ⊎_elim (λ (low : rank_of s < 127). omega (arith, low))

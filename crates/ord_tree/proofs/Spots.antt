@@ -1,4 +1,4 @@
--- Where an index stands in a tree, and what stands before and behind it.
+-- The place of an index in a tree, and what is before and after it.
 use Rattle.std.proofs.Common.{◌≡◌, ◌≢◌, ℕ, ◌+◌, ◌<◌, ◌≤◌, Option, Some, List, [], ◌∷◌, ◌++◌, length, arith, refl, sym, ◌∙◌, ap, subst, ⊎_elim, append_assoc}
 use Rattle.std.proofs.{lemmas.Bool.cases_eq, lemmas.Bool.cases_lt, lemmas.Bool.eq-eqb, lemmas.Grind.common_steps}
 use Rattle.ord_tree.specs.Slots.{Slots, Holds, Way, top, up, plug, above, HoldsWay, here, times, times_in}
@@ -7,7 +7,7 @@ use Rattle.ord_tree.specs.{Shape.Shape, Shape.missing, Shape.node, Shape.fork, S
 use Rattle.ord_tree.specs.{Balance.IsBalanced, Balance.IsBalancedWay, declared.tree_links.TreeLinks.TreeLinks, Leaf.paired, Leaf.beside}
 use Rattle.ord_tree.proofs.{Forks.HoldsFork-holds, Forks.rank-fork, Forks.here-other, Forks.fork_balanced, Rotations.ForkAt}
 
--- y stands at the end of a way; told from a side
+-- y is at the end of a path, seen from a side
 pub record Spot (at : Slots) (root : Option ℕ) (side : Side) (y : ℕ) (whole : Shape) : Type 0 where
   pub way : Way
   pub near : Shape
@@ -54,7 +54,7 @@ module _ (at : Slots) (root : Option ℕ) where
       here_on Lesser = spot_here Lesser way l r i k link w h
       here_on Greater = spot_here Greater way r l i k link w h
 
--- balance along a way
+-- balance along a path
 pub plug_balanced : (slack : ℕ) (way : Way) (s : Shape) → IsBalanced slack (plug way s) → IsBalancedWay slack way (rank_of s) × IsBalanced slack s
 plug_balanced slack top s h = (tt, h)
 plug_balanced slack (up side i k far rest) s h =
@@ -63,7 +63,7 @@ plug_balanced slack (up side i k far rest) s h =
     let P : ℕ → Type 0 = λ rank. IsBalancedWay slack rest rank in
     ((parts.0, parts.2, subst P (rank-fork side s far i k) below.0), parts.1)
 
--- what stands before and behind the end of a way
+-- what is before and after the end of a path
 pub record Around (way : Way) : Type 0 where
   pub before : List ℕ
   pub behind : List ℕ
@@ -82,7 +82,7 @@ around (up Greater i k far rest) =
     let a = around rest in
     record { before = a.before ++ (walk far ++ i ∷ []); behind = a.behind; is = λ s. a.is (node far i k s) ∙ simp append_assoc }
 
--- x beside y in a list that has y once
+-- x beside y in a list that contains y once
 pub beside-split : (side : Side) (y x : ℕ) (front back : List ℕ) → times y front ≡ 0 → beside side y x (front ++ y ∷ back) ≡ front ++ paired side y x back
 beside-split side y x [] back none = rw (eq-eqb y y refl) refl
 beside-split side y x (i ∷ is) back none = grind (arith, common_steps, beside-split side y x is back)

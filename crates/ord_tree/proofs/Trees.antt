@@ -1,4 +1,4 @@
--- A tree that lies in a chain: what its view is, and what changes of the chain keep it.
+-- A tree that lies in a chain: its view, and the changes of the chain that keep it.
 use Rattle.std.proofs.Common.{◌≡◌, ℕ, zero, suc, ◌+◌, ◌≤◌, Option, Some, None, List, [], ◌∷◌, map, length, arith, refl, sym, ◌∙◌, ap, subst, is_some, option_map, max, Result, Ok, Err, OnOk, OnErr, OnSome, IfNone}
 use Rattle.std.proofs.{lemmas.Grind.common_steps, lemmas.List.length-map}
 use Rattle.chain_base.specs.Chain.{Entry, Chain, entry_at, times, with_item_among, with_item as chain_with_item, vacant_among, with_capacity, with_room, grown_capacity, greatest_index, IsSound}
@@ -11,11 +11,11 @@ use Rattle.ord_tree.specs.{declared.node.SimpleOrdArenaNode.SimpleOrdArenaNode a
 use Rattle.ord_tree.specs.Tree.{IsSoundTree, with_item}
 use Rattle.ord_tree.proofs.{Views.shape_under-held, Halves.size_of-walk, Frames.Holds-frame}
 
--- nodes with the same links hold the same
+-- nodes with the same links form the same shape
 Holds-same : (old new : Slots) → ((j : ℕ) → new j ≡ old j) → (s : Shape) (over link : Option ℕ) → Holds old over link s → Holds new over link s
 Holds-same old new same s over link h = Holds-frame old new s over link (λ j _. same j) h
 
--- what a result doesn't decide
+-- what holds for both outcomes of a result
 pub either_result : {X Y : Type 0} (r : Result X Y) (A : Type 0) → OnOk r A → OnErr r A → A
 either_result (Ok x) A ok err = ok
 either_result (Err y) A ok err = err
@@ -28,7 +28,7 @@ pub on_err : {X Y : Type 0} (r : Result X Y) (A B : Type 0) → OnErr r A → (A
 on_err (Ok x) A B err f = err
 on_err (Err y) A B err f = f err
 
--- what an option doesn't decide
+-- what holds for both outcomes of an option
 pub either_option : {X : Type 0} (o : Option X) (A : Type 0) → OnSome o A → IfNone o A → A
 either_option None A some none = none
 either_option (Some x) A some none = some
@@ -41,7 +41,7 @@ pub if_none : {X : Type 0} (o : Option X) (A B : Type 0) → IfNone o A → (A �
 if_none None A B none f = f none
 if_none (Some x) A B none f = none
 
--- no shape is higher than it has nodes
+-- the height of a shape is at most its size
 pub height-le-size : (s : Shape) → height s ≤ size_of s
 height-le-size missing = omega arith
 height-le-size (node l i k r) = omega (arith, height-le-size l, height-le-size r)
@@ -101,13 +101,13 @@ module _ {P T I G : Type 0} where
   indexes-below [] i x = refl
   indexes-below (e ∷ es) i x = grind (arith, common_steps, indexes-below es i x)
 
-  -- a shape that the nodes spell is the view's
+  -- a shape that the nodes form is the view's shape
   pub shape_in-held : (c : Chain (Node P T I G)) (root : Option ℕ) (s : Shape) → Holds (slots_of c) None root s → walk s ≡ indexes c.entries → shape_in c root ≡ s
   shape_in-held c root s h listed =
       let counted : size_of s ≡ length c.entries = size_of-walk s ∙ ap length listed ∙ length-map c.entries (λ (e : Entry (Node P T I G)). e.index) in
       shape_under-held (length c.entries) (slots_of c) None root s h (omega (arith, height-le-size s, counted))
 
-  -- the layout depends on the entries alone
+  -- the layout depends only on the entries
   pub IsLaidOut-entries : (c d : Chain (Node P T I G)) (root : Option ℕ) → d.entries ≡ c.entries → IsLaidOut c root (shape_in c root) → IsLaidOut d root (shape_in d root)
   IsLaidOut-entries c d root e h =
       let Spelled : List (Entry (Node P T I G)) → Shape = λ es. shape_under (length es) (links_at es) root in
@@ -116,7 +116,7 @@ module _ {P T I G : Type 0} where
       let Ranks : List (Entry (Node P T I G)) → Type 0 = λ es. IsRanked (Spelled es) in
       record { held = subst Held (sym e) h.held; listed = subst Listed (sym e) h.listed; ranked = subst Ranks (sym e) h.ranked }
 
-  -- what holds of a tree that lies in a chain
+  -- the facts about a tree that lies in a chain
   pub IsSoundTree-laid_out : (c : Chain (Node P T I G)) (root : Option ℕ) → IsLaidOut c root (shape_in c root) → IsSoundTree (tree_of c root)
   IsSoundTree-laid_out c root h = record { listed = h.listed ∙ sym (indexes-bare c.entries); ranked = h.ranked }
 
@@ -127,12 +127,12 @@ module _ {P T I G : Type 0} where
         ap (λ (l : Chain T). record { list = l; shape = shape_in c root })
         (bare-with_capacity c (max n (greatest_index c.entries)) ∙ ap (λ (k : ℕ). with_capacity (bare c) (max n k)) (sym (greatest_index-bare c.entries)))
 
-  -- a growth that makes room
+  -- growing to make room
   pub tree_of-with_room : (most : ℕ) (c : Chain (Node P T I G)) (root : Option ℕ)
       → tree_of (with_room most c) root ≡ record (tree_of c root) { list = with_room most (bare c) }
   tree_of-with_room most c root = grind (arith, common_steps, bare-with_capacity c (grown_capacity most c))
 
-  -- the shape depends on the links and the order of the nodes alone
+  -- the shape depends only on the links and the order of the nodes
   module _ {U : Type 0} (c : Chain (Node P U I G)) (d : Chain (Node P T I G)) (root : Option ℕ) (links : (j : ℕ) → slots_of d j ≡ slots_of c j) (order : indexes d.entries ≡ indexes c.entries)
       (h : IsLaidOut c root (shape_in c root)) where
     held-linked : Holds (slots_of d) None root (shape_in c root)
@@ -158,7 +158,7 @@ module _ {P T I G : Type 0} where
       ap (λ (es : List (Entry T)). record { list = record { entries = es; capacity = c.capacity; vacant = c.vacant; generation = c.generation; maximum = c.maximum }; shape = shape_in (with_node_item c i x) root }) (bare-below c.entries i x)
       ∙ ap (λ (t : Shape). record { list = chain_with_item (bare c) i x; shape = t }) same
 
-  -- what chain arenas promise holds of the bare chain too
+  -- the facts that chain arenas promise hold for the bare chain too
   entries_lawful-bare : (Q : ℕ → Type 0) (o : Option (ℕ × Node P T I G)) (b : Option (ℕ × T)) → b ≡ option_map entry_in o → ForSome o (λ e. Q e.0) → ForSome b (λ e. Q e.0)
   entries_lawful-bare Q o b e h = grind (arith, common_steps)
 

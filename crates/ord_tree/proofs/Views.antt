@@ -1,4 +1,4 @@
--- The shape that nodes spell is a function of them, and their parents are the shape's.
+-- The nodes determine the shape that they form, and their parent links are the shape's parents.
 use Rattle.std.proofs.Common.{◌≡◌, ℕ, zero, suc, ◌+◌, ◌≤◌, Option, Some, None, List, [], ◌∷◌, arith, refl, sym, ◌∙◌, ap, inl, inr, ⊎_elim}
 use Rattle.std.proofs.lemmas.List.Elements.{Contains-append_right}
 use Rattle.std.specs.List.{Contains}
@@ -13,12 +13,12 @@ shape_under-held (suc n) at over link (node l i k r) h b =
     rw (h.1, h.2, shape_under-held n at (Some i) h.0.lesser l h.5 (omega (arith, b)), shape_under-held n at (Some i) h.0.greater r h.6 (omega (arith, b)))
     (ap (λ k. node l i k r) h.4)
 
--- so there is one
+-- so the shape is unique
 pub Holds-unique : (at : Slots) (over link : Option ℕ) (s t : Shape) → Holds at over link s → Holds at over link t → s ≡ t
 Holds-unique at over link s t h g =
     sym (shape_under-held (height s + height t) at over link s h (omega arith)) ∙ shape_under-held (height s + height t) at over link t g (omega arith)
 
--- a node's parent in the shape is the one that it holds
+-- a node's parent in the shape is the one it stores
 pub back-parent : (at : Slots) (over link : Option ℕ) (s : Shape) (i : ℕ) (p : Option ℕ) → Holds at over link s → HasParentUnder over s i p → back_at at i ≡ Some p
 back-parent at over link missing i p h e = elim e [ ]
 back-parent at over link (node l j k r) i p h e =
@@ -30,7 +30,7 @@ Contains-among j [] h = elim h [ ]
 Contains-among j (x ∷ xs) h =
     ⊎_elim (λ (e : j ≡ x). (0, omega arith, sym e)) (λ rest. Contains-append_right (x ∷ []) xs j (Contains-among j xs rest)) h
 
--- few moved links are few moved parents
+-- at most m moved links are at most m moved parents
 pub MovesAtMost-backs : (m : ℕ) (old new : Slots) (root root' : Option ℕ) (s t : Shape) → Holds old None root s → Holds new None root' t → MovesBacks m old new → MovesAtMost m s t
 MovesAtMost-backs m old new root root' s t h g moves = (
   moves.0,

@@ -6,16 +6,16 @@ use Rattle.ord_tree.specs.{Shape.Shape, Shape.missing, Shape.node, Shape.rank_of
 use Rattle.ord_tree.specs.Demote.{IsFallen, IsLeaning, IsDemotedNode}
 use Rattle.ord_tree.specs.{declared.tree_links.Side.Side}
 
--- the potential of the nodes of a way, with this rank at its end
+-- the potential of the nodes on a path up to the root, with this rank at its end
 abbrev pub potential_way : Way → ℕ → ℕ
 potential_way top rank = 0
 potential_way (up side i k far rest) rank = node_potential k rank (rank_of far) + potential far + potential_way rest k
 
--- k if both are one index, otherwise 0
+-- k if the two indexes are equal, else 0
 abbrev pub rank_here : ℕ → ℕ → ℕ → ℕ
 rank_here j i k = if j == i then k else 0
 
--- the rank of an index in a shape and on a way; 0 if it isn't there
+-- the rank of an index in a shape and on a path; 0 if it isn't there
 abbrev pub rank_in : Shape → ℕ → ℕ
 rank_in missing j = 0
 rank_in (node l i k r) j = rank_in l j + rank_here j i k + rank_in r j
@@ -24,11 +24,12 @@ abbrev pub rank_way : Way → ℕ → ℕ
 rank_way top j = 0
 rank_way (up side i k far rest) j = rank_here j i k + rank_in far j + rank_way rest j
 
--- the list names each index whose rank changes, unless it is new: then its rank was 0
+-- the list names each index whose rank changes, except new ones, whose rank was 0
 abbrev pub NamesChanges : List ℕ → (ℕ → ℕ) → (ℕ → ℕ) → Type 0
 NamesChanges named was is = (j : ℕ) → Among j named ⊎ (was j ≡ 0) ⊎ (was j ≡ is j)
 
--- Nodes spell a tree over `order`. The indexes whose ranks have changed since `was`, and the potential, are within the credit.
+-- The nodes form a tree over `order`. The number of indexes whose ranks have changed since `was`, plus the potential, is at most the
+-- credit.
 pub record IsSpelledWithin (was : ℕ → ℕ) (at : Slots) (root : Option ℕ) (order : List ℕ) (credit : ℕ) : Type 0 where
   pub shape : Shape
   pub held : Holds at None root shape
@@ -37,7 +38,7 @@ pub record IsSpelledWithin (was : ℕ → ℕ) (at : Slots) (root : Option ℕ) 
   pub within : length named + potential shape ≤ credit
   pub names : NamesChanges named was (rank_in shape)
 
--- y, whose change from the rank low is still to be counted, unless y is new
+-- y, if its change from the rank low is still to be counted; nothing if y is new
 abbrev pub pending_change : ℕ → ℕ → List ℕ
 pending_change y zero = []
 pending_change y (suc low) = y ∷ []
@@ -47,7 +48,7 @@ module _ {at : Slots} {root : Option ℕ} {y : ℕ} {order : List ℕ} {slack : 
   abbrev pub rising_ranks : ℕ → ℕ
   rising_ranks j = rank_way rising.way j + rank_in rising.shape j - here j y
 
-  -- the potential, with y as it was, and one for the change of y
+  -- the potential with y as it was, plus one for y's change
   abbrev pub rising_credit : ℕ
   rising_credit = length (pending_change y rising.low) + potential_way rising.way rising.low + potential rising.shape
 
@@ -58,58 +59,58 @@ module _ {at : Slots} {root : Option ℕ} {side : Side} {z y : ℕ} {order : Lis
       rank_way steep.site.way j + (rank_in steep.site.outer j + rank_here j y steep.site.low + rank_in steep.site.inner j)
       + rank_here j z steep.site.high + rank_in steep.site.far j - here j y
 
-  -- the same credit, spelled out: before y rose, z was neither full nor slack, nor is y now
+  -- the same credit, written out: before y rose, z was neither full nor slack, and y now isn't either
   abbrev pub steep_credit : ℕ
   steep_credit = 1 + potential_way steep.site.way steep.site.high + potential steep.site.outer + potential steep.site.inner + potential steep.site.far
 
--- z has risen now; the changes so far and the credit that this state needs are within the credit
+-- z has now risen; the changes so far, plus the credit that this state needs, are at most the credit
 pub record IsRisingWithin (was : ℕ → ℕ) (at : Slots) (root : Option ℕ) (z : ℕ) (order : List ℕ) (slack credit : ℕ) : Type 0 where
   pub rising : IsRising at root z order slack
   pub named : List ℕ
   pub within : length named + rising_credit rising ≤ credit
   pub names : NamesChanges named was (rising_ranks rising)
 
--- Kept for an empty side: its node may become a leaf, which is one change of a rank and a full node.
+-- the reserve for an empty side: its node may become a leaf, which changes one rank and makes a full node
 abbrev pub leaf_reserve : ℕ → ℕ
 leaf_reserve zero = 2
 leaf_reserve (suc k) = 0
 
--- the ranks of all but z
+-- the ranks of all indexes but z
 abbrev pub ranks_without : ℕ → Shape → ℕ → ℕ
 ranks_without z s j = if j == z then 0 else rank_in s j
 
 module _ {at : Slots} {root : Option ℕ} {y : ℕ} {side : Side} {order : List ℕ} (fallen : IsFallen at root y side order) where
-  -- the ranks there
+  -- the ranks in this state
   abbrev pub fallen_ranks : ℕ → ℕ
   fallen_ranks j = rank_way fallen.way j + rank_in fallen.low j + rank_here j y fallen.rank + rank_in fallen.far j
 
-  -- the potential, with y as if its side had not fallen, and the reserve for a leaf
+  -- the potential with y as if its side had not fallen, plus the reserve for a leaf
   abbrev pub fallen_credit : ℕ
   fallen_credit =
       leaf_reserve (rank_of fallen.low) + node_potential fallen.rank (rank_of fallen.low + 1) (rank_of fallen.far) + potential fallen.low + potential fallen.far
       + potential_way fallen.way fallen.rank
 
 module _ {at : Slots} {root : Option ℕ} {side : Side} {y s : ℕ} {order : List ℕ} (lean : IsLeaning at root side y s order) where
-  -- the ranks there
+  -- the ranks in this state
   abbrev pub leaning_ranks : ℕ → ℕ
   leaning_ranks j =
       rank_way lean.site.way j + rank_in lean.site.outer j + rank_here j s lean.site.low + rank_in lean.site.inner j + rank_here j y lean.site.high
       + rank_in lean.site.far j
 
-  -- the same credit, spelled out: before its other side fell, y was neither full nor slack
+  -- the same credit, written out: before its other side fell, y was neither full nor slack
   abbrev pub leaning_credit : ℕ
   leaning_credit =
       node_potential lean.site.low (rank_of lean.site.outer) (rank_of lean.site.inner) + potential lean.site.outer + potential lean.site.inner
       + potential lean.site.far + potential_way lean.site.way lean.site.high
 
--- y was demoted; the changes so far and the potential, with y's parent as if y were higher by one, are within the credit
+-- y was demoted; the changes so far, plus the potential with y one higher as seen from its parent, are at most the credit
 pub record IsDemotedWithin (was : ℕ → ℕ) (at : Slots) (root : Option ℕ) (y : ℕ) (order : List ℕ) (credit : ℕ) : Type 0 where
   pub demoted : IsDemotedNode at root y order
   pub named : List ℕ
   pub within : length named + potential_way demoted.way (rank_of demoted.shape + 1) + potential demoted.shape ≤ credit
   pub names : NamesChanges named was (λ j. rank_way demoted.way j + rank_in demoted.shape j)
 
--- this side of y has fallen now; the changes so far and the credit that this state needs are within the credit
+-- this side of y has now fallen; the changes so far, plus the credit that this state needs, are at most the credit
 pub record IsFallenWithin (was : ℕ → ℕ) (at : Slots) (root : Option ℕ) (y : ℕ) (side : Side) (order : List ℕ) (credit : ℕ) : Type 0 where
   pub fallen : IsFallen at root y side order
   pub named : List ℕ

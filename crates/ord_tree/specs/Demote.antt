@@ -4,7 +4,7 @@ use Rattle.ord_tree.specs.Slots.{Slots, Holds, Way, plug, above, HoldsWay, IsOnc
 use Rattle.ord_tree.specs.{Balance.IsOver, Balance.IsBalanced, Balance.IsBalancedWay, Shape.Shape, Shape.fork, Shape.rank_of, Shape.walk}
 use Rattle.ord_tree.specs.{declared.tree_links.Side.Side, Rotate.Site}
 
--- the nodes would spell a balanced tree over this list, if that side of y were higher by one: it has fallen
+-- the nodes would form a balanced tree over this list if that side of y were one higher: it has fallen
 pub record IsFallen (at : Slots) (root : Option ℕ) (y : ℕ) (side : Side) (order : List ℕ) : Type 0 where
   pub way : Way
   pub low : Shape
@@ -20,7 +20,7 @@ pub record IsFallen (at : Slots) (root : Option ℕ) (y : ℕ) (side : Side) (or
   pub once : IsOnce order
   pub few : length order < 2 ^ 64
 
--- they would, if y's rank were higher by one: y was demoted
+-- the nodes would form a balanced tree over this list if y were one higher: y was demoted
 pub record IsDemotedNode (at : Slots) (root : Option ℕ) (y : ℕ) (order : List ℕ) : Type 0 where
   pub way : Way
   pub shape : Shape
@@ -32,21 +32,21 @@ pub record IsDemotedNode (at : Slots) (root : Option ℕ) (y : ℕ) (order : Lis
   pub once : IsOnce order
   pub few : length order < 2 ^ 64
 
--- y was demoted, below the rank that it had; no node has another parent
+-- y was demoted by one; no node has another parent
 pub record IsDemoted (old new : Slots) (root : Option ℕ) (y : ℕ) (order : List ℕ) : Type 0 where
   pub demoted : IsDemotedNode new root y order
   pub rank : rank_of demoted.shape + 1 ≡ rank_at old (Some y)
   pub fits : rank_at old (Some y) < 256
   pub backs : (j : ℕ) → back_at old j ≡ back_at new j
 
--- y was demoted, so that this side of z, its parent, has fallen now; z is above the rank that y had, and no node has another parent
+-- y was demoted, so this side of its parent z has now fallen; z is above y's old rank, and no node has another parent
 pub record HasDemoted (old new : Slots) (root : Option ℕ) (y z : ℕ) (side : Side) (order : List ℕ) : Type 0 where
   pub fallen : IsFallen new root z side order
   pub higher : rank_at old (Some y) < rank_at new (Some z)
   pub fits : rank_at old (Some y) < 256
   pub backs : (j : ℕ) → back_at old j ≡ back_at new j
 
--- s, on that side of y, is one below it, and the other side of y three
+-- s, on that side of y, is one below y, and y's other side is three below
 pub record IsLeaning (at : Slots) (root : Option ℕ) (side : Side) (y s : ℕ) (order : List ℕ) : Type 0 where
   pub site : Site at root side y s
   pub low : rank_of site.far + 3 ≡ site.high

@@ -1,4 +1,4 @@
--- Taking a node out: the list without it, and what takes its place.
+-- Removing a node: the list without it, and what takes its place.
 use Rattle.std.specs.Prelude.{◌≡◌, ℕ, ◌^◌, ◌<◌, ◌≤◌, ◌==◌, if◌then◌else◌, Option, None, Some, List, [], ◌∷◌, length, IsSome}
 use Rattle.ord_tree.specs.{Slots.Slots, Slots.Holds, Slots.times, Slots.times_in, Slots.IsOnce, declared.tree_links.TreeLinks.TreeLinks}
 use Rattle.ord_tree.specs.{Shape.Shape, Shape.missing, Shape.node, declared.tree_links.Side.Side, TreeLinks.child_at, Promote.IsBuilt}
@@ -9,16 +9,16 @@ abbrev pub without : ℕ → List ℕ → List ℕ
 without i [] = []
 without i (j ∷ js) = if j == i then js else j ∷ without i js
 
--- v stands for z
+-- v replaces z
 abbrev pub stand_in : ℕ → ℕ → ℕ → ℕ
 stand_in z v j = if j == z then v else j
 
--- the shape with v in the place of z
+-- the shape with v in place of z
 abbrev pub renamed : ℕ → ℕ → Shape → Shape
 renamed z v missing = missing
 renamed z v (node l i k r) = node (renamed z v l) (stand_in z v i) k (renamed z v r)
 
--- v stands in a balanced tree, and nothing hangs on that side of it
+-- v is in a balanced tree and has no child on that side
 pub record IsLoose (at : Slots) (root : Option ℕ) (v : ℕ) (side : Side) (order : List ℕ) : Type 0 where
   pub built : IsBuilt at root order 1
   pub within : 0 < times v order
@@ -26,7 +26,7 @@ pub record IsLoose (at : Slots) (root : Option ℕ) (v : ℕ) (side : Side) (ord
   pub once : IsOnce order
   pub few : length order < 2 ^ 64
 
--- z stands in the tree that nodes spell, and the node v doesn't
+-- z is in the tree that the nodes form, and the node v isn't
 pub record CanStandIn (at : Slots) (root : Option ℕ) (z v : ℕ) (s : Shape) : Type 0 where
   pub held : Holds at None root s
   pub within : 0 < times_in z s
@@ -34,7 +34,7 @@ pub record CanStandIn (at : Slots) (root : Option ℕ) (z v : ℕ) (s : Shape) :
   pub apart : (j : ℕ) → times_in j s ≤ 1
   pub spare : IsSome (at v)
 
--- z stands in a balanced tree, and `before` is the index directly before it in the list
+-- z is in a balanced tree, and `before` is its predecessor in the list
 pub record IsDetachable (at : Slots) (root : Option ℕ) (z : ℕ) (before : Option ℕ) (order : List ℕ) : Type 0 where
   pub built : IsBuilt at root order 1
   pub within : 0 < times z order

@@ -1,4 +1,4 @@
--- The shape that a rebuild gives: each node stands in the middle of its run.
+-- The shape that a rebuild makes: each node is in the middle of its run.
 use Rattle.std.specs.Prelude.{◌≡◌, ℕ, ◌+◌, ◌-◌, ◌/◌, nat_le, if◌then◌else◌}
 use Rattle.ord_tree.specs.{Shape.Shape, Shape.missing, Shape.node, Shape.size_of, Numbers.IsTop}
 
@@ -13,6 +13,6 @@ IsHalf q (node l i k r) =
     let n = size_of l + 1 + size_of r in
     (size_of l ≡ n / 2) × (k ≡ half_rank n q) × IsHalf (q - 1) l × IsHalf (q - 1) r
 
--- the shape is the one that a rebuild of so many nodes gives
+-- a rebuild of as many nodes makes this shape
 abbrev pub IsRebuilt : Shape → Type 0
 IsRebuilt s = (q : ℕ) × IsTop (size_of s) q × IsHalf q s

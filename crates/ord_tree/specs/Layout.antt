@@ -5,7 +5,7 @@ use Rattle.ord_tree.specs.{declared.node.SimpleOrdArenaNode.SimpleOrdArenaNode a
 use Rattle.ord_tree.specs.{Slots.Holds, Slots.shape_under, Shape.Shape, Shape.walk, Ranks.IsRanked}
 
 module _ {P T I G : Type 0} where
-  -- the shape that a chain's nodes spell from this root
+  -- the shape that a chain's nodes form, from this root
   abbrev pub shape_in : Chain (Node P T I G) → Option ℕ → Shape
   shape_in c root = shape_under (length c.entries) (slots_of c) root
 
@@ -13,7 +13,7 @@ module _ {P T I G : Type 0} where
   abbrev pub tree_of : Chain (Node P T I G) → Option ℕ → Tree T
   tree_of c root = record { list = bare c; shape = shape_in c root }
 
-  -- the nodes of the chain spell this shape from this root: it walks along the chain, under the rank rules
+  -- the chain's nodes form this shape from this root; its walk is the chain's order, and it obeys the rank rules
   pub record IsLaidOut (c : Chain (Node P T I G)) (root : Option ℕ) (s : Shape) : Type 0 where
     pub held : Holds (slots_of c) None root s
     pub listed : walk s ≡ indexes c.entries

@@ -1,10 +1,10 @@
--- A new leaf: where it stands in the list, and what attaching it finds.
+-- A new leaf: its place in the list, and the state in which it is attached.
 use Rattle.std.specs.Prelude.{◌≡◌, ℕ, ◌+◌, ◌^◌, ◌<◌, ◌==◌, if◌then◌else◌, Option, None, Some, List, [], ◌∷◌, length}
 use Rattle.ord_tree.specs.{declared.tree_links.Side.TheVariants.Lesser, declared.tree_links.Side.TheVariants.Greater, TreeLinks.child_at}
 use Rattle.ord_tree.specs.{declared.tree_links.TreeLinks.TreeLinks, Slots.Slots, Slots.times, Slots.IsOnce, declared.tree_links.Side.Side}
 use Rattle.ord_tree.specs.Promote.{IsBuilt}
 
--- two indexes in a row, x on that side of y
+-- two consecutive indexes, with x on that side of y
 abbrev pub paired : Side → ℕ → ℕ → List ℕ → List ℕ
 paired Lesser y x rest = x ∷ y ∷ rest
 paired Greater y x rest = y ∷ x ∷ rest
@@ -14,12 +14,12 @@ abbrev pub beside : Side → ℕ → ℕ → List ℕ → List ℕ
 beside side y x [] = []
 beside side y x (i ∷ is) = if i == y then paired side y x is else i ∷ beside side y x is
 
--- the first of a list
+-- the first element of a list
 abbrev pub list_head : List ℕ → Option ℕ
 list_head [] = None
 list_head (i ∷ is) = Some i
 
--- the index directly before this one, or `first` where it begins the list
+-- the index directly before this one, or `first` if it begins the list
 abbrev pub previous : Option ℕ → ℕ → List ℕ → Option ℕ
 previous first i [] = None
 previous first i (j ∷ js) = if j == i then first else previous (Some j) i js
@@ -38,7 +38,7 @@ neighbour_in Greater i order = following i order
 abbrev pub leaf_links : Option ℕ → TreeLinks ℕ
 leaf_links back = record { back = back; lesser = None; greater = None; rank = 1 }
 
--- y stands in a balanced tree and has no child on that side; x is a leaf that knows y as its parent
+-- y is in a balanced tree and has no child on that side; x is a leaf whose parent link is y
 pub record IsNewLeaf (at : Slots) (root : Option ℕ) (side : Side) (y x : ℕ) (order : List ℕ) (slack : ℕ) : Type 0 where
   pub built : IsBuilt at root order slack
   pub within : 0 < times y order

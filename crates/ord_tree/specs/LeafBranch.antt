@@ -1,4 +1,4 @@
--- Where a new entry is put, in the list and in the tree. No public clause cites this file.
+-- The place of a new entry in the list and in the tree. No public clause cites this file.
 use Rattle.std.specs.declared.cmp.Ordering.TheVariants.{Less, Equal, Greater}
 use Rattle.std.specs.Prelude.{◌≡◌, ℕ, ◌<◌, Option, None, Some, IsSomeAnd, List}
 use Rattle.std.specs.declared.cmp.Ordering.{Ordering}
@@ -8,7 +8,7 @@ use Rattle.ord_tree.specs.declared.tree_links.Side.TheVariants.{Lesser as OnLess
 use Rattle.ord_tree.specs.{declared.tree_links.TreeLinks.TreeLinks, declared.tree_links.Branch.Branch, declared.tree_links.Side.Side}
 use Rattle.ord_tree.specs.{Slots.Slots, Slots.times, TreeLinks.child_at, Leaf.beside}
 
--- the side of an entry on which another stands
+-- the side of an entry that an ordering names
 abbrev pub side_at : Ordering → Side
 side_at Less = OnLesser
 side_at Equal = OnGreater
@@ -20,18 +20,18 @@ kind_on Less i = PrevToInx i
 kind_on Equal i = NextToInx i
 kind_on Greater i = NextToInx i
 
--- the place in the chain that is named
+-- the place in the chain that `at` names
 abbrev pub kind_at : {P I G : Type 0} → Option (I × Ordering) → LinkInsertKind P I G
 kind_at None = Disconnected
 kind_at (Some at) = kind_on at.1 at.0
 
--- a branch for a new entry on that side of i: nothing hangs there, and beside that node it stands where it is wanted
+-- the branch is free, and a leaf there is directly beside i in the list, on that side
 pub record IsLeafBranch {I : Type 0} (number : I → ℕ) (i : ℕ) (side : Side) (slots : Slots) (order : List ℕ) (branch : Branch I) : Type 0 where
   pub within : 0 < times (number branch.parent) order
   pub bare : (n : TreeLinks ℕ) → slots (number branch.parent) ≡ Some n → child_at branch.side n ≡ None
   pub put : (x : ℕ) → beside branch.side (number branch.parent) x order ≡ beside side i x order
 
--- so where a place beside an entry is named
+-- the branch is a place for a new leaf at the named place, or `None` for the only entry
 abbrev pub IsLeafBranchAt : {I : Type 0} → (I → ℕ) → Option (I × Ordering) → Slots → List ℕ → Option (Branch I) → Type 0
 IsLeafBranchAt number None slots order branch = branch ≡ None
 IsLeafBranchAt number (Some at) slots order branch = IsSomeAnd branch (IsLeafBranch number (number at.0) (side_at at.1) slots order)

@@ -1,10 +1,10 @@
--- How an item is made within a node. No public clause cites this file.
+-- How the item of a node is mapped. No public clause cites this file.
 use Rattle.std.specs.Prelude.{◌≡◌}
 use Rattle.arena_base.specs.declared.invalidation.InvalidationOption.{InvalidationOption}
 use Rattle.arena_base.specs.Invalidation.{allowed_value, is_overflow}
 use Rattle.ord_tree.specs.declared.node.SimpleOrdArenaNode.{SimpleOrdArenaNode as Node}
 
--- the call made a new item of the item of the node that was taken
+-- the call made the new item from the item of the removed node
 pub record MapsTaken {Q U J H P T I G M : Type 0} (step : M → Q → InvalidationOption U → P → T → M → Type 0) (m : M) (old : Q)
     (taken : InvalidationOption (Node Q U J H)) (new : P) (answer : Node P T I G) (n : M) : Type 0 where
   pub plain : InvalidationOption U

@@ -1,4 +1,4 @@
--- What the nodes in a chain say: their links as numbers, and the list without them.
+-- What the nodes in a chain store: their links as numbers, and the list without them.
 use Rattle.std.specs.{Prelude.ℕ, Prelude.List, Prelude.map, Option.option_map}
 use Rattle.chain_base.specs.Chain.{Entry, Chain, entry_at}
 use Rattle.ord_tree.specs.{declared.node.SimpleOrdArenaNode.SimpleOrdArenaNode as Node, declared.tree_links.TreeLinks.TreeLinks}
@@ -9,7 +9,7 @@ abbrev pub indexes : {T : Type 0} → List (Entry T) → List ℕ
 indexes es = map (λ e. e.index) es
 
 module _ {P T I G : Type 0} where
-  -- the entry with the item alone, without its node
+  -- an entry with its item alone, without the node
   abbrev pub bare_entry : Entry (Node P T I G) → Entry T
   bare_entry e = record { index = e.index; generation = e.generation; item = e.item.t }
 
@@ -17,11 +17,11 @@ module _ {P T I G : Type 0} where
   abbrev pub entry_in : ℕ × Node P T I G → ℕ × T
   entry_in e = (e.0, e.1.t)
 
-  -- the chain with the items alone
+  -- the chain with its items alone
   abbrev pub bare : Chain (Node P T I G) → Chain T
   bare c = record { entries = map bare_entry c.entries; capacity = c.capacity; vacant = c.vacant; generation = c.generation; maximum = c.maximum }
 
-  -- the links that a node holds, as numbers
+  -- the links of a node, as numbers
   abbrev pub links_in : Node P T I G → TreeLinks ℕ
   links_in n = record { back = n.p_back; lesser = n.p_tree0; greater = n.p_tree1; rank = n.rank }
 

@@ -8,12 +8,12 @@ use Rattle.ord_tree.specs.Ranks.{HasRank}
 unfoldable pub node_potential : ℕ → ℕ → ℕ → ℕ
 node_potential k l r = if (k == l + 1) && (k == r + 1) then 1 else (if (k == l + 2) && (k == r + 2) then 3 else 0)
 
--- the potential of a shape is the sum over its nodes
+-- the potential of a shape, which is the sum over its nodes
 abbrev pub potential : Shape → ℕ
 potential missing = 0
 potential (node l i k r) = node_potential k (rank_of l) (rank_of r) + potential l + potential r
 
--- the list names each entry, by its index, that is in both shapes with different ranks
+-- the list names the index of each entry that is in both shapes with different ranks
 abbrev pub NamesRankChanges : List ℕ → Shape → Shape → Type 0
 NamesRankChanges changed old new = (i k l : ℕ) → HasRank old i k → HasRank new i l → Contains changed i ⊎ (k ≡ l)
 

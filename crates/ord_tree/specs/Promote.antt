@@ -4,14 +4,14 @@ use Rattle.ord_tree.specs.Slots.{Slots, Holds, Way, plug, above, HoldsWay, IsOnc
 use Rattle.ord_tree.specs.{Balance.IsBalanced, Balance.IsBalancedWay, Balance.IsUneven, Shape.Shape, Shape.fork, Shape.rank_of, Shape.walk}
 use Rattle.ord_tree.specs.{declared.tree_links.Side.Side, Rotate.Site}
 
--- the nodes spell a balanced tree over this list
+-- the nodes form a balanced tree over this list
 pub record IsBuilt (at : Slots) (root : Option ℕ) (order : List ℕ) (slack : ℕ) : Type 0 where
   pub shape : Shape
   pub held : Holds at None root shape
   pub listed : walk shape ≡ order
   pub balanced : IsBalanced slack shape
 
--- they would, if y's rank were lower by one: it has risen, and may be as great as its parent's
+-- the nodes would form a balanced tree over this list if y were one lower: y has risen, and may be as high as its parent
 pub record IsRising (at : Slots) (root : Option ℕ) (y : ℕ) (order : List ℕ) (slack : ℕ) : Type 0 where
   pub way : Way
   pub shape : Shape
@@ -37,12 +37,12 @@ pub record IsSteep (at : Slots) (root : Option ℕ) (side : Side) (z y : ℕ) (o
   pub balanced_way : IsBalancedWay slack site.way site.high
   pub listed : walk (plug site.way (fork side (fork side site.outer y site.low site.inner) z site.high site.far)) ≡ order
 
--- a balanced tree again, and at most five nodes have another parent
+-- the tree is balanced again, and at most five nodes have another parent
 pub record IsRepaired (old new : Slots) (root : Option ℕ) (order : List ℕ) (slack : ℕ) : Type 0 where
   pub built : IsBuilt new root order slack
   pub backs : MovesBacks 5 old new
 
--- z has risen now, above the rank of y; no node has another parent
+-- z has now risen, above the rank of y; no node has another parent
 pub record IsPromoted (old new : Slots) (root : Option ℕ) (y z : ℕ) (order : List ℕ) (slack : ℕ) : Type 0 where
   pub rising : IsRising new root z order slack
   pub backs : (j : ℕ) → back_at old j ≡ back_at new j

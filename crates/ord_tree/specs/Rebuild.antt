@@ -1,55 +1,55 @@
--- The states of a rebuild: what the stack of open runs says of the shape that is being built.
+-- The states of a rebuild: what the stack of open runs says about the shape that is being built.
 use Rattle.std.specs.Prelude.{◌≡◌, ℕ, ◌+◌, ◌^◌, ◌<◌, ◌≤◌, ◌⊎◌, Option, None, Some, List, [], ◌∷◌, ◌++◌, length, IsSome}
 use Rattle.ord_tree.specs.{declared.tree_links.Side.TheVariants.Lesser, declared.tree_links.Side.TheVariants.Greater, Numbers.HasDigits}
 use Rattle.ord_tree.specs.{Slots.Slots, Slots.Holds, Slots.Way, Slots.top, Slots.up, Slots.plug, Slots.times_in, Leaf.list_head}
 use Rattle.ord_tree.specs.{declared.tree_links.TreeLinks.TreeLinks, Shape.Shape, Shape.size_of, Shape.walk, declared.tree_links.Side.Side}
 use Rattle.ord_tree.specs.{declared.rebuild.Frame.Frame, Half.IsHalf}
 
--- what comes behind the end of a way, in order
+-- the nodes after the end of a path, in order
 abbrev pub ahead : Way → List ℕ
 ahead top = []
 ahead (up Lesser i k far rest) = i ∷ walk far ++ ahead rest
 ahead (up Greater i k far rest) = ahead rest
 
--- how many nodes come before the end of a way, in order
+-- the number of nodes before the end of a path, in order
 abbrev pub behind : Way → ℕ
 behind top = 0
 behind (up Lesser i k far rest) = behind rest
 behind (up Greater i k far rest) = behind rest + size_of far + 1
 
--- the way doesn't end on a greater side
+-- the path doesn't end on a greater side
 abbrev pub IsFacing : Way → Type 0
 IsFacing top = Unit {0}
 IsFacing (up Lesser i k far rest) = Unit {0}
 IsFacing (up Greater i k far rest) = ⊥
 
--- s is the shape to be built from nodes that are there: a half of so many ranks
+-- s is the shape to build, from nodes that exist: a half with top rank q
 pub record IsPlan (at : Slots) (q : ℕ) (s : Shape) : Type 0 where
   pub half : IsHalf q s
   pub few : size_of s < 2 ^ 64
   pub once : (j : ℕ) → times_in j s ≤ 1
   pub there : (j : ℕ) → 0 < times_in j s → IsSome (at j)
 
--- no more frames stand than the length of the whole list has binary digits
+-- there are at most as many frames as the length of the whole list has binary digits
 abbrev pub IsFew : List Frame → Shape → Type 0
 IsFew frames s = (d : ℕ) → HasDigits (size_of s) d → length frames ≤ d
 
 module _ (at : Slots) where
-  -- what the frame of a run says whose root is i, of rank k. On the lesser side of i, that i was not met yet; on its
-  -- greater side, that i was met, has its rank and leads to its lesser side, which is finished
+  -- What the frame of a run says if its root is i, of rank k. On the lesser side of i, i was not met yet. On its greater side, i was met,
+  -- has its rank and leads to its finished lesser side.
   abbrev pub IsMiddle : Side → ℕ → ℕ → Shape → Option ℕ → Type 0
   IsMiddle Lesser i k far middle = middle ≡ None
   IsMiddle Greater i k far middle =
       (middle ≡ Some i) × (n : TreeLinks ℕ) × (at i ≡ Some n) × (n.back ≡ None) × (n.rank ≡ k) × Holds at (Some i) n.lesser far
 
-  -- the frames are those of the runs on a way, the innermost last, where n nodes stand at its end
+  -- the frames are those of the runs on a path with n nodes at its end, the innermost last
   abbrev pub IsStack : Way → ℕ → List Frame → Type 0
   IsStack top n frames = frames ≡ []
   IsStack (up side i k far rest) n frames =
       (below : List Frame) × (f : Frame) × (frames ≡ below ++ f ∷ []) × IsMiddle side i k far f.middle
       × (f.len ≡ n + 1 + size_of far) × (f.start ≡ behind rest) × IsStack rest (n + 1 + size_of far) below
 
--- at the end of the way stands a run that no frame and no link knows yet, from this position on
+-- at the end of the path is a run, from this position on, that no frame and no link refers to yet
 pub record IsUnopened (at : Slots) (frames : List Frame) (s : Shape) (start len : ℕ) (todo : List ℕ) : Type 0 where
   pub way : Way
   pub run : Shape
@@ -59,7 +59,7 @@ pub record IsUnopened (at : Slots) (frames : List Frame) (s : Shape) (start len 
   pub position : start ≡ behind way
   pub todo_is : walk run ++ ahead way ≡ todo
 
--- what stands at the end of the way is finished, and hangs on the link
+-- the part at the end of the path is finished, and its root is the link
 pub record IsFinished (at : Slots) (frames : List Frame) (s : Shape) (link : Option ℕ) (todo : List ℕ) : Type 0 where
   pub way : Way
   pub done : Shape
@@ -68,17 +68,17 @@ pub record IsFinished (at : Slots) (frames : List Frame) (s : Shape) (link : Opt
   pub held : Holds at None link done
   pub todo_is : ahead way ≡ todo
 
--- so, and the innermost run waits for its middle
+-- the part at the end of the path is finished, and the innermost run waits for its middle
 pub record IsWaiting (at : Slots) (frames : List Frame) (s : Shape) (link : Option ℕ) (todo : List ℕ) : Type 0 where
   pub finished : IsFinished at frames s link todo
   pub facing : IsFacing finished.way
 
--- so, and if nothing of it is left to open, the innermost run waits for its middle
+-- the run is unopened; if it is empty, the innermost run waits for its middle
 pub record IsOpening (at : Slots) (frames : List Frame) (s : Shape) (start len : ℕ) (todo : List ℕ) : Type 0 where
   pub unopened : IsUnopened at frames s start len todo
   pub facing : (0 < len) ⊎ IsFacing unopened.way
 
--- so many entries of the list are met, and the target is the next one
+-- the first `position` entries of the list are met, and the target is the next one
 pub record IsPassing (at : Slots) (frames : List Frame) (s : Shape) (order : List ℕ) (link : Option ℕ) (position : ℕ) (target : Option ℕ) : Type 0 where
   pub met : List ℕ
   pub todo : List ℕ

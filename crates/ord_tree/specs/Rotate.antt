@@ -1,9 +1,9 @@
--- What a rotation finds and what it leaves.
+-- The state before a rotation and the state after it.
 use Rattle.std.specs.Prelude.{◌≡◌, ℕ, ◌⊎◌, Option, Some}
 use Rattle.ord_tree.specs.Slots.{Slots, Holds, Way, above, HoldsWay, back_at, IsApart}
 use Rattle.ord_tree.specs.{Shape.Shape, Shape.fork, Shape.root_of, declared.tree_links.Side.Side}
 
--- z stands at the end of a way, and y on that side of it, nearer to `outer` than to `inner`
+-- z is at the end of a path, and y on that side of it; `outer` is y's child on the same side, and `inner` the other
 pub record Site (at : Slots) (root : Option ℕ) (side : Side) (z y : ℕ) : Type 0 where
   pub way : Way
   pub outer : Shape
@@ -15,9 +15,9 @@ pub record Site (at : Slots) (root : Option ℕ) (side : Side) (z y : ℕ) : Typ
   pub held : Holds at (above way) (Some z) (fork side (fork side outer y low inner) z high far)
   pub apart : IsApart way (fork side (fork side outer y low inner) z high far)
 
--- y has taken z's place, and z is y's child on the other side, with what was between them; each has its new rank
+-- y has taken z's place, z is y's child on the other side with `inner` below it, and both have their new ranks
 pub record IsRotated {old : Slots} {old_root : Option ℕ} {side : Side} {z y : ℕ} (site : Site old old_root side z y) (new : Slots) (root : Option ℕ) (rank_z rank_y : ℕ) : Type 0 where
   pub held_way : HoldsWay new root site.way (Some y)
   pub held : Holds new (above site.way) (Some y) (fork side site.outer y rank_y (fork side site.inner z rank_z site.far))
-  -- no other node than z, y and the root of what was between them has another parent
+  -- no other node than z, y and the root of `inner` has another parent
   pub backs : (j : ℕ) → (j ≡ z) ⊎ (j ≡ y) ⊎ (root_of site.inner ≡ Some j) ⊎ (back_at old j ≡ back_at new j)

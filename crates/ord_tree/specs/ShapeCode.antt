@@ -1,10 +1,10 @@
--- A code for shapes, by which a proof tells them apart: the nodes in postorder.
+-- A code for shapes, by which a proof distinguishes them: the nodes in postorder.
 use Rattle.std.specs.Prelude.{◌≡◌, ℕ, Option, None, Some, List, [], ◌∷◌, refl}
 use Rattle.std.specs.Coded.{Coded, code_by, coded×, coded_ℕ, coded_list, coded_option}
 use Rattle.std.proofs.Common.{ap, ◌∙◌}
 use Rattle.ord_tree.specs.Shape.{Shape, missing, node}
 
--- the nodes of a shape in postorder, before the rest: None where no node stands, else its index and rank
+-- the nodes of a shape in postorder, before the rest: None for an empty shape, else its index and rank
 abbrev pub postorder : Shape → List (Option (ℕ × ℕ)) → List (Option (ℕ × ℕ))
 postorder missing rest = None ∷ rest
 postorder (node l i k r) rest = postorder l (postorder r (Some (i, k) ∷ rest))

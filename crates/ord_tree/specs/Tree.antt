@@ -1,4 +1,4 @@
--- A tree as its users see it: one list of entries, with a shape.
+-- A tree as its users see it: a list of entries, with a shape.
 use Rattle.std.specs.Prelude.{◌≡◌, ◌≢◌, ℕ, Option, None, Some, List, [], ◌∷◌, refl}
 use Rattle.std.specs.declared.cmp.Ordering.TheVariants.{Less, Equal, Greater}
 use Rattle.std.specs.Coded.{Coded, code_by, coded×, coded_ℕ, coded_list, coded_option}
@@ -7,12 +7,12 @@ use Rattle.chain_base.specs.Chain.{Entry, Chain, insert_after, insert_before, wi
 use Rattle.ord_tree.specs.{declared.node.SimpleOrdArenaNode.SimpleOrdArenaNode as Node, Shape.Shape, Shape.root_of, Shape.walk, Slots.Holds}
 use Rattle.ord_tree.specs.{Node.indexes, Node.bare, Node.slots_of, Ranks.IsRanked, Ranks.IsTight, ShapeCode.shape_code, Parents.MovesAtMost, Potential.ChangesRanksWithin}
 
--- the list of entries with the numbers around it, as a chain arena has them, and the shape over the entries' indexes
+-- the list of entries, with capacity, free list, generation and maximum, as in a chain arena, and the shape over the entries' indexes
 pub record Tree (T : Type 0) : Type 0 where
   pub list : Chain T
   pub shape : Shape
 
--- the codes, by which a proof tells values apart: an entry as a tuple, and so a chain and a tree
+-- the codes by which a proof distinguishes values: an entry as a tuple, then a chain and a tree
 abbrev pub entry_code : {T : Type 0} → Coded T → Coded (Entry T)
 entry_code {T} code =
     code_by (ℕ × (ℕ × T)) (coded× coded_ℕ (coded× coded_ℕ code)) (λ e. (e.index, (e.generation, e.item)))
@@ -29,42 +29,42 @@ abbrev pub tree_code : {T : Type 0} → Coded T → Coded (Tree T)
 tree_code {T} code =
     code_by (Chain T × Shape) (coded× (chain_code code) shape_code) (λ t. (t.list, t.shape)) (λ p. record { list = p.0; shape = p.1 }) (λ _. refl)
 
--- what is true of every tree: the walk of the shape is the list, and the rank rules hold
+-- true of every tree: the walk of the shape is the list, and the rank rules hold
 pub record IsSoundTree {T : Type 0} (t : Tree T) : Type 0 where
   pub listed : walk t.shape ≡ indexes t.list.entries
   pub ranked : IsRanked t.shape
 
--- the chain of nodes under the tree: it has the list, and its nodes' links and ranks spell the shape
+-- the chain of nodes below the tree: it has the list, and its nodes' links and ranks form the shape
 pub record IsChainOf {P T I G : Type 0} (t : Tree T) (c : Chain (Node P T I G)) : Type 0 where
   pub list : bare c ≡ t.list
   pub held : Holds (slots_of c) None (root_of t.shape) t.shape
 
--- the list with a new entry directly before the one with this index, or directly after it
+-- the list with a new entry directly before or after the entry with this index
 abbrev pub put_on : {T : Type 0} → Ordering → ℕ → List (Entry T) → Entry T → List (Entry T)
 put_on Less i es new = insert_before i new es
 put_on Equal i es new = insert_after i new es
 put_on Greater i es new = insert_after i new es
 
--- the list with a new entry at the place that is named: before or after an entry, or alone
+-- the list with a new entry at the named place: before or after an entry, or as the only entry
 abbrev pub put_at : {I T : Type 0} → (I → ℕ) → Option (I × Ordering) → List (Entry T) → Entry T → List (Entry T)
 put_at number None es new = new ∷ es
 put_at number (Some at) es new = put_on at.1 (number at.0) es new
 
--- a new entry can be put there: alone into an empty list, else before or after an entry
+-- a new entry can be put there: as the only entry of an empty list, else before or after an entry
 abbrev pub CanPutAt : {I T : Type 0} → (I → ℕ) → Option (I × Ordering) → Chain T → Type 0
 CanPutAt number None c = c.entries ≡ []
 CanPutAt number (Some at) c = IsOccupied c (number at.0) × (at.1 ≢ Equal)
 
--- What an insertion makes of the shape: a tight one stays tight, at most five entries get another parent, and the number of old
--- entries whose rank changes, plus the new potential, is at most the old potential plus 4.
+-- What an insertion does to the shape. A tight shape stays tight, and at most five entries get another parent. The number of old entries
+-- whose rank changes, plus the new potential, is at most the old potential plus 4.
 pub record IsGrown (old new : Shape) : Type 0 where
   pub ranked : IsRanked new
   pub tight : IsTight old → IsTight new
   pub moved : MovesAtMost 5 old new
   pub rank_changes : ChangesRanksWithin 4 old new
 
--- What a removal makes of the shape: at most nine entries get another parent, and the number of entries whose rank changes, plus
--- the new potential, is at most the old potential plus 9.
+-- What a removal does to the shape. At most nine entries get another parent. The number of entries whose rank changes, plus the new
+-- potential, is at most the old potential plus 9.
 pub record IsShrunk (old new : Shape) : Type 0 where
   pub ranked : IsRanked new
   pub moved : MovesAtMost 9 old new

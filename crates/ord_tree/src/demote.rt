@@ -1,4 +1,4 @@
-//! The repair after a removal: demotions upwards, then at most one single or double rotation.
+//! The repair after a removal: demotions up the tree, then at most one single or double rotation.
 
 ghost use Rattle.std.specs.Prelude.{◌≡◌, ℕ, ◌+◌, Option, Some, List, option_map, MatchBool, MatchOption};
 ghost use Rattle.ord_tree.specs.Promote.{IsRepaired};
@@ -9,9 +9,9 @@ use crate::nodes::{Nodes, branch_of, rank_of};
 use crate::rotate::rotate;
 use crate::tree_links::{Branch, Side};
 
-/// Restores the rank rule at y, of rank r, where s on that side of it has rank r-1 and its other side r-3. Returns whether y was demoted.
+/// Restores the rank rule at y, of rank r, if its child s has rank r-1 and its other side r-3. Returns whether y was demoted.
 ///
-/// If s has its higher child on the outer side, s takes the place of y.
+/// If the outer child of s has rank r-2, s takes the place of y.
 ///
 /// ```text
 ///        y r                        s r
@@ -21,7 +21,7 @@ use crate::tree_links::{Branch, Side};
 ///          a     r-2       r-3     a
 /// ```
 ///
-/// If both children of s are two below it, the ranks of s and y fall by one.
+/// If both children of s have rank r-3, s and y are demoted.
 ///
 /// ```text
 ///        y r                  y r-1
@@ -89,7 +89,7 @@ pub fn demote_or_rotate<N: Nodes>(
     false
 }
 
-/// Restores the rank rule at y, a side of which has fallen by one. Returns whether y was demoted.
+/// Restores the rank rule at y, one side of which has fallen by one. Returns whether y was demoted.
 pub fn demote<N: Nodes>(nodes: &mut N, root: &mut Option<N::Inx>, y: N::Inx, side: Side) -> bool
     requires { (order : List ℕ)
         × IsFallen (N.at nodes.old) (option_map N.number root.old) (N.number y) side order }
@@ -127,7 +127,7 @@ pub fn demote<N: Nodes>(nodes: &mut N, root: &mut Option<N::Inx>, y: N::Inx, sid
     demote_or_rotate(nodes, root, other, y, s)
 }
 
-/// One step of the repair, where this side of a node has fallen by one: returns y's own branch where that has fallen now.
+/// Does one step of the repair at a node one side of which has fallen by one. Returns the node's own branch if it has now fallen.
 pub fn demote_next<N: Nodes>(
     nodes: &mut N,
     root: &mut Option<N::Inx>,
@@ -160,7 +160,7 @@ pub fn demote_next<N: Nodes>(
     branch_of(nodes, branch.parent)
 }
 
-/// The repair from a branch that has fallen by one.
+/// Repairs the tree, starting at a branch that has fallen by one.
 pub fn demote_all<N: Nodes>(nodes: &mut N, root: &mut Option<N::Inx>, fallen: Branch<N::Inx>)
     requires { (order : List ℕ)
         × IsFallen (N.at nodes.old) (option_map N.number root.old)

@@ -1,4 +1,4 @@
-//! Taking a node out of the tree, and the repair that it needs.
+//! Removing a node from the tree, and the repair that follows.
 
 ghost use Rattle.std.specs.Prelude.{◌≡◌, ℕ, ◌+◌, None, Some, List, option_map, is_some, IsSomeAnd, MatchOption};
 ghost use Rattle.ord_tree.specs.Shape.{Shape};
@@ -13,9 +13,9 @@ use crate::demote::demote_all;
 use crate::nodes::{Nodes, branch_of, hang, replace_child};
 use crate::tree_links::{Branch, Side};
 
-/// Takes v out of the tree, where nothing hangs on that side of it: what hangs on its other side takes its place.
+/// Takes v, which has no child on side `bare`, out of the tree. Its other child, if any, takes its place.
 ///
-/// Returns the branch, which has fallen by one, or None where it is the root's.
+/// Returns that branch, which has fallen by one, or `None` if it is the root's.
 #[inline(always)]
 pub fn cut<N: Nodes>(
     nodes: &mut N,
@@ -55,7 +55,7 @@ pub fn cut<N: Nodes>(
     branch
 }
 
-/// Lets v, which stands nowhere, stand in the place of z, with the links and the rank of z.
+/// Puts v, which is not in the tree, in the place of z, with z's links and rank.
 pub fn substitute<N: Nodes>(nodes: &mut N, root: &mut Option<N::Inx>, z: N::Inx, v: N::Inx)
     requires { (s : Shape)
         × CanStandIn (N.at nodes.old) (option_map N.number root.old) (N.number z) (N.number v) s }
@@ -75,7 +75,7 @@ pub fn substitute<N: Nodes>(nodes: &mut N, root: &mut Option<N::Inx>, z: N::Inx,
     nodes.set_links(v, links);
 }
 
-/// A branch once v stands for z.
+/// Returns the branch after v has replaced z.
 fn branch_with<N: Nodes>(
     branch: Option<Branch<N::Inx>>,
     z: N::Inx,
@@ -90,10 +90,10 @@ fn branch_with<N: Nodes>(
     Some(Branch { parent, side })
 }
 
-/// Takes z out of the tree; `before` is the entry directly before it in the list. Returns the branch that has fallen by one, if any.
+/// Takes z out of the tree; `before` is its predecessor in the list. Returns the branch that has fallen by one, if any.
 ///
-/// Where nothing hangs on the lesser side of z, what hangs on its greater side takes its place. Otherwise the entry before it,
-/// on whose greater side nothing hangs, is taken out first and then stands for z.
+/// If z has no lesser child, its greater child takes its place. Otherwise its predecessor, which has no greater child, is taken out first
+/// and then takes the place of z.
 pub fn displace<N: Nodes>(
     nodes: &mut N,
     root: &mut Option<N::Inx>,
@@ -135,7 +135,7 @@ pub fn displace<N: Nodes>(
     branch_with::<N>(branch, z, v)
 }
 
-/// Takes z out of the tree, and repairs the ranks above; `before` is the entry directly before it in the list.
+/// Takes z out of the tree and repairs the ranks above; `before` is its predecessor in the list.
 pub fn detach<N: Nodes>(nodes: &mut N, root: &mut Option<N::Inx>, z: N::Inx, before: Option<N::Inx>)
     requires { (order : List ℕ)
         × IsDetachable (N.at nodes.old) (option_map N.number root.old)

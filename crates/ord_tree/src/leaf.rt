@@ -1,4 +1,4 @@
-//! A new leaf, and the repair that it needs.
+//! Adding a leaf, and the repair that follows.
 
 ghost use Rattle.std.specs.Prelude.{◌≡◌, ℕ, ◌+◌, List, option_map};
 ghost use Rattle.ord_tree.specs.Leaf.{IsNewLeaf, beside};
@@ -10,7 +10,7 @@ use crate::nodes::Nodes;
 use crate::promote::promote_all;
 use crate::tree_links::Side;
 
-/// Hangs the leaf x on a side of y where nothing hangs yet, and repairs the ranks above it.
+/// Attaches the leaf x to a side of y that has no child, and repairs the ranks above it.
 #[inline(always)]
 pub fn add_leaf<N: Nodes>(
     nodes: &mut N,

@@ -6,21 +6,21 @@ use crate::node_inx::{NodeInx, kept};
 use crate::tree_links::Side;
 use arena_base::{BasePtr, OptInx};
 
-/// What the chain holds of an entry of a tree: the item, and the links and the rank of its node.
+/// What the chain stores for an entry of a tree: the item, and the links and rank of its node.
 ///
-/// The links are indexes without generations, since what a link leads to is always an entry. The fields that a descent reads
-/// stand together, and a link that leads nowhere takes no more room than another.
+/// The links are indexes without generations, since a link always leads to an entry. The fields that a descent reads are adjacent, and an
+/// empty link takes no extra space.
 #[derive(Clone, Debug, Drop)]
 pub struct SimpleOrdArenaNode<P: BasePtr, T> {
-    /// The root of the lesser side, or `None` where nothing hangs there.
+    /// The root of the lesser side, or `None` if that side is empty.
     pub p_tree0: OptInx<P>,
-    /// The root of the greater side, or `None` where nothing hangs there.
+    /// The root of the greater side, or `None` if that side is empty.
     pub p_tree1: OptInx<P>,
     /// The item.
     pub t: T,
     /// The parent, or `None` at the root.
     pub p_back: OptInx<P>,
-    /// The rank: from 1, that of a node without children, up to 126 ([`rank_law`](crate::laws::rank_law)).
+    /// The rank: 1 for a node without children, at most 126 ([`rank_law`](crate::laws::rank_law)).
     pub rank: u8,
 }
 
@@ -28,7 +28,7 @@ impl<P: BasePtr, T> SimpleOrdArenaNode<P, T> {
     ghost use Rattle.ord_tree.specs.TreeLinks.{with_child_at};
     ghost use Rattle.ord_tree.specs.Node.{links_in};
 
-    /// A node without children.
+    /// Creates a node without children.
     pub(crate) fn leaf(p_back: Option<NodeInx<P::Inx>>, t: T) -> Self
         ensures { result ≡ record {
           p_tree0 = None;
@@ -47,7 +47,7 @@ impl<P: BasePtr, T> SimpleOrdArenaNode<P, T> {
         }
     }
 
-    /// A node at the same place of the tree, with this item.
+    /// Returns a node with this item and the same links and rank.
     pub(crate) fn with_item<U>(&self, t: U) -> SimpleOrdArenaNode<P, U>
         ensures { result ≡ record {
           p_tree0 = self.now.p_tree0;
@@ -66,7 +66,7 @@ impl<P: BasePtr, T> SimpleOrdArenaNode<P, T> {
         }
     }
 
-    /// Keeps another root of a side from now on.
+    /// Replaces the root of a side.
     pub(crate) fn set_child(&mut self, side: Side, child: Option<NodeInx<P::Inx>>)
         ensures links { links_in self.new
             ≡ with_child_at side (option_map P.Inx.number child) (links_in self.old) }
@@ -78,7 +78,7 @@ impl<P: BasePtr, T> SimpleOrdArenaNode<P, T> {
         }
     }
 
-    /// Keeps another root of a side, another parent and another rank from now on.
+    /// Replaces the root of a side, the parent and the rank.
     pub(crate) fn relink(
         &mut self,
         side: Side,

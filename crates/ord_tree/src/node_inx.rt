@@ -9,7 +9,7 @@ use chain_base::ChainArena;
 use std::alloc::{AllocError, Allocator};
 use std::marker::Model;
 
-/// The index of a node: any but 0, which stands for no link where a node keeps its links.
+/// The index of a node. It is never 0, which a node stores for an empty link.
 #[derive(Debug)]
 pub struct NodeInx<I: BasePtrInx> {
     inx: I,
@@ -36,7 +36,7 @@ impl<I: BasePtrInx> Clone for NodeInx<I> {
 impl<I: BasePtrInx> Copy for NodeInx<I> {}
 
 impl<I: BasePtrInx> NodeInx<I> {
-    /// The index of a node.
+    /// Creates the index of a node.
     pub fn new(inx: I) -> Self
         requires { I.number inx ≢ 0 }
         ensures { result ≡ inx }
@@ -44,7 +44,7 @@ impl<I: BasePtrInx> NodeInx<I> {
         NodeInx { inx }
     }
 
-    /// The index.
+    /// Returns the index.
     pub fn get(self) -> I
         ensures value { result ≡ self }
         ensures named { I.number self ≢ 0 }
@@ -53,7 +53,7 @@ impl<I: BasePtrInx> NodeInx<I> {
     }
 }
 
-/// The index of an entry, as that of its node.
+/// Returns the index of an entry as the index of its node.
 pub fn node_at<P: BasePtr, T, A: Allocator>(
     chain: &ChainArena<P, T, A>,
     i: P::Inx,
@@ -65,7 +65,7 @@ pub fn node_at<P: BasePtr, T, A: Allocator>(
     NodeInx::new(i)
 }
 
-/// A link, as a node keeps it.
+/// Converts a link to the form in which a node stores it.
 pub fn kept<P: BasePtr>(link: Option<NodeInx<P::Inx>>) -> OptInx<P>
     ensures { result ≡ option_map P.Inx.number link }
 {
@@ -75,14 +75,14 @@ pub fn kept<P: BasePtr>(link: Option<NodeInx<P::Inx>>) -> OptInx<P>
     }
 }
 
-/// The link that a node keeps.
+/// Returns the link that a node stores.
 pub fn link_in<P: BasePtr>(kept: &OptInx<P>) -> Option<NodeInx<P::Inx>>
     ensures { option_map P.Inx.number result ≡ kept.now }
 {
     as_link::<P>(kept.get())
 }
 
-/// A link of indexes, none of which is 0.
+/// Converts a link whose index isn't 0.
 pub fn as_link<P: BasePtr>(link: Option<P::Inx>) -> Option<NodeInx<P::Inx>>
     requires { named_of (option_map P.Inx.number link) ≡ option_map P.Inx.number link }
     ensures { result ≡ link }

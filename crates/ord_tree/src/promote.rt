@@ -1,4 +1,4 @@
-//! The repair after an insertion: promotions upwards, then at most one single or double rotation.
+//! The repair after an insertion: promotions up the tree, then at most one single or double rotation.
 
 ghost use Rattle.std.specs.Prelude.{◌≡◌, ℕ, ◌+◌, Option, Some, List, option_map, MatchOption};
 ghost use Rattle.ord_tree.specs.Promote.{IsRising, IsSteep, IsRepaired, IsPromoted};
@@ -8,9 +8,9 @@ use crate::nodes::{Nodes, rank_of, side_of};
 use crate::rotate::rotate;
 use crate::tree_links::Side;
 
-/// Lifts the higher child of y over z: y has z's rank r, and z's other side has rank r-2.
+/// Restores the rank rule at z by a rotation: its child y has z's rank r, and its other side has rank r-2.
 ///
-/// If the higher child stands on y's own side, y takes the place of z.
+/// If the outer child of y is the higher one, y takes the place of z.
 ///
 /// ```text
 ///            z r                      y r
@@ -20,7 +20,7 @@ use crate::tree_links::Side;
 ///    r-1     r-2                       r-2     r-2
 /// ```
 ///
-/// If it stands between them, it takes the place of z.
+/// If the inner child is the higher one, it takes the place of z.
 ///
 /// ```text
 ///            z r                        x r
@@ -65,7 +65,7 @@ pub fn rotate_once_or_twice<N: Nodes>(
     rotate(nodes, root, side, z, x, rank, low.rank);
 }
 
-/// One step of the repair, where y has risen by one: returns the parent where that has risen now.
+/// Does one step of the repair after y has risen by one. Returns the parent if it has now risen.
 #[inline(always)]
 pub fn promote<N: Nodes>(nodes: &mut N, root: &mut Option<N::Inx>, y: N::Inx) -> Option<N::Inx>
     requires { (order : List ℕ) × (slack : ℕ)
@@ -104,7 +104,7 @@ pub fn promote<N: Nodes>(nodes: &mut N, root: &mut Option<N::Inx>, y: N::Inx) ->
     None
 }
 
-/// The repair from a node that has risen by one.
+/// Repairs the tree, starting at a node that has risen by one.
 #[inline(always)]
 pub fn promote_all<N: Nodes>(nodes: &mut N, root: &mut Option<N::Inx>, y: N::Inx)
     requires { (order : List ℕ) × (slack : ℕ)

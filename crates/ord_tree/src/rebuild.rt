@@ -1,4 +1,4 @@
-//! Building the tree anew, in one pass along the list, with a stack of the runs that are open.
+//! Rebuilding the tree in one pass along the list, with a stack of the open runs.
 
 ghost use Rattle.std.specs.Prelude.{◌≡◌, ℕ, ◌<◌, ◌≤◌, None, Some, List, [], ◌∷◌, ◌++◌, option_map, length, IsSome, MatchOption};
 ghost use Rattle.arrayvec.specs.ArrayVec.{array_vec_len};
@@ -13,22 +13,22 @@ use crate::nodes::{Nodes, hang};
 use crate::tree_links::{Side, TreeLinks};
 use arrayvec::ArrayVec;
 
-/// A run of the list over which a tree is being built: some entries in a row, of which the one in the middle becomes the root.
+/// A run of consecutive entries over which a tree is being built. Its middle entry becomes the root.
 #[derive(Clone, Copy, Debug, Default)]
 pub struct Frame {
     /// The position of its first entry, counted from 0.
     pub start: usize,
-    /// How many entries it has.
+    /// The number of its entries.
     pub len: usize,
-    /// The number of the entry in its middle, once that was met.
+    /// The number of its middle entry, once the pass has met that entry.
     pub middle: Option<usize>,
 }
 
-/// The frames of the runs around a position in the list, the innermost last. Each is at most half as long as the one around it, so
-/// that no more frames ever stand than the length of the list has binary digits.
+/// The frames of the runs around a position in the list, the innermost last. Each run is at most half as long as the one around it, so
+/// there are never more frames than the length of the list has binary digits.
 pub type Stack = ArrayVec<Frame, 64>;
 
-/// Puts a frame on the stack, which isn't full.
+/// Pushes a frame onto the stack, which isn't full.
 fn put(stack: &mut Stack, frame: Frame)
     requires not_full { array_vec_len stack.old < 64 }
     ensures { stack.new.items ≡ stack.old.items ++ frame ∷ [] }
@@ -36,7 +36,7 @@ fn put(stack: &mut Stack, frame: Frame)
     stack.push(frame);
 }
 
-/// The rank over a run of so many entries, where that over a run of five or more is `level`.
+/// Returns the rank over a run of `len` entries, if that over a run of five or more is `level`.
 pub fn rank_over(len: usize, level: u8) -> u8
     ensures { result ≡ half_rank len level }
 {
@@ -49,7 +49,7 @@ pub fn rank_over(len: usize, level: u8) -> u8
     }
 }
 
-/// The rank at the top of a rebuilt tree of so many entries.
+/// Returns the level of the root in a rebuild of `len` entries. From five entries on it is the root's rank.
 pub fn top_rank(len: usize) -> u8
     ensures { IsTop len result }
 {
@@ -57,7 +57,7 @@ pub fn top_rank(len: usize) -> u8
     digits as u8 + 1
 }
 
-/// Opens a run: puts it on the stack, then its lesser half, and so on down to a run of one entry, which is met next.
+/// Opens a run: pushes it onto the stack, then its lesser half, and so on down to a run of one entry, which is met next.
 pub fn open(stack: &mut Stack, start: usize, len: usize)
     requires { (at : Slots) × (s : Shape) × (top : ℕ) × (todo : List ℕ) × IsPlan at top s
         × IsOpening at stack.old.items s start len todo }
@@ -78,8 +78,8 @@ pub fn open(stack: &mut Stack, start: usize, len: usize)
     }
 }
 
-/// Meets the entry in the middle of the innermost run, whose lesser side is finished and hangs on `lesser`. Returns where its
-/// greater side starts, and how many entries that has.
+/// Meets the middle entry of the innermost run, whose lesser side is finished and has the root `lesser`. Returns the start and the length
+/// of the greater side.
 pub fn meet<N: Nodes>(
     nodes: &mut N,
     stack: &mut Stack,
@@ -119,8 +119,7 @@ pub fn meet<N: Nodes>(
     (frame.start + half + 1, frame.len - half - 1)
 }
 
-/// Where the middle of the innermost run was met, its greater side is finished and hangs on `greater`: this ends the run, and
-/// returns its middle.
+/// Ends the innermost run, whose middle was met and whose greater side is finished and has the root `greater`. Returns the middle.
 pub fn close_one<N: Nodes>(
     nodes: &mut N,
     stack: &mut Stack,
@@ -147,7 +146,7 @@ pub fn close_one<N: Nodes>(
     Some(middle)
 }
 
-/// Ends each run that is finished, from the innermost on. Returns what hangs on the lesser side of the next entry, or the root.
+/// Ends each finished run, from the innermost on. Returns the root of the next entry's lesser side, or the tree's root.
 pub fn close<N: Nodes>(nodes: &mut N, stack: &mut Stack) -> Option<N::Inx>
     requires { (s : Shape) × (top : ℕ) × (todo : List ℕ) × IsPlan (N.at nodes.old) top s
         × IsFinished (N.at nodes.old) stack.old.items s None todo }
@@ -166,7 +165,7 @@ pub fn close<N: Nodes>(nodes: &mut N, stack: &mut Stack) -> Option<N::Inx>
     finished
 }
 
-/// One step of a rebuild, at the next entry. Returns what hangs on the lesser side of the entry after it, or the root.
+/// Does one step of a rebuild, at the next entry. Returns the root of the lesser side of the entry after it, or the tree's root.
 pub fn pass<N: Nodes>(
     nodes: &mut N,
     stack: &mut Stack,
@@ -196,9 +195,9 @@ pub fn pass<N: Nodes>(
     close(nodes, stack)
 }
 
-/// Builds the tree anew over the list, whatever the links say. Returns the root.
+/// Rebuilds the tree over the list, whatever the links are, and returns the root.
 ///
-/// Each entry is met once, in order. It takes no memory.
+/// Each entry is met once, in order. Takes no memory.
 pub fn rebuild<N: Nodes>(nodes: &mut N, len: usize) -> Option<N::Inx>
     requires len { len ≡ length (indexes (N.list nodes.old).entries) }
     requires once { IsOnce (indexes (N.list nodes.old).entries) }

@@ -6,7 +6,7 @@ ghost use Rattle.ord_tree.specs.Rotate.{Site, IsRotated};
 use crate::nodes::{Nodes, hang, replace_child};
 use crate::tree_links::Side;
 
-/// Lifts y, the child of z on a side, to the place of z. Each gets the rank that is given for it.
+/// Lifts y, the child of z on a side, to the place of z, and gives each its new rank.
 ///
 /// ```text
 ///         z                 y
@@ -16,7 +16,7 @@ use crate::tree_links::Side;
 ///  outer  inner          inner  far
 /// ```
 ///
-/// and its mirror image for the other side.
+/// The other side is the mirror image.
 #[inline(always)]
 pub fn rotate<N: Nodes>(
     nodes: &mut N,
@@ -34,7 +34,7 @@ pub fn rotate<N: Nodes>(
     ensures kept { N.list nodes.new ≡ N.list nodes.old }
 {
     let other = side.other();
-    // for the proof alone: what `child` returns is a link of this node
+    // For the prover: what `child` returns is a link of this node.
     let _ = nodes.links(y);
     let high = nodes.links(z);
     let inner = nodes.child(y, other);

@@ -23,12 +23,11 @@ use chain_base::ChainArena;
 use std::alloc::{Allocator, Global};
 use std::marker::Model;
 
-/// One list of entries, over which a balanced tree stands. It knows no key: a new entry is put beside an entry that is named.
+/// A list of entries with a balanced tree over it. It knows no keys: a new entry is put beside a given entry.
 ///
-/// The in-order walk of the tree is the list. The tree is rank-balanced (Haeupler, Sen and Tarjan, "Rank-balanced trees",
-/// 2015, ranks shifted by one): a missing node counts as rank 0, a node without children has rank 1, and a node's rank is
-/// greater than that of each side by 1 or 2. So a tree of n entries and rank R has `2^(R+1) <= (n+1)^2`, and no way down
-/// passes more than R entries.
+/// The in-order traversal of the tree is the list. The tree is rank-balanced (Haeupler, Sen and Tarjan, "Rank-balanced trees", 2015,
+/// ranks shifted by one): a missing node has rank 0, a node without children has rank 1, and a node's rank exceeds that of each side by 1
+/// or 2. So a tree of n > 0 entries and rank R has `2^(R+1) <= (n+1)^2`, and no path down passes more than R entries.
 #[derive(Drop)]
 pub struct OrdTree<P: BasePtr, T, A: Allocator = Global> {
     chain: ChainArena<P, SimpleOrdArenaNode<P, T>, A>,
@@ -52,7 +51,7 @@ impl<P: BasePtr, T, A: Allocator> Model for OrdTree<P, T, A> {
 }
 
 impl<P: BasePtr, T, A: Allocator> OrdTree<P, T, A> {
-    /// The list, with the links and ranks of its entries.
+    /// Returns the list, with the links and ranks of its entries.
     pub fn chain(&self) -> &ChainArena<P, SimpleOrdArenaNode<P, T>, A>
         ensures chain { IsChainOf self.now result.now }
         ensures sound { IsSoundTree self.now }
@@ -60,7 +59,7 @@ impl<P: BasePtr, T, A: Allocator> OrdTree<P, T, A> {
         &self.chain
     }
 
-    /// How many entries there are.
+    /// Returns the number of entries.
     pub fn len(&self) -> usize
         ensures value { result ≡ length self.now.list.entries }
         ensures list { IsSound P.Inx.most P.Gen.greatest self.now.list }
@@ -69,28 +68,28 @@ impl<P: BasePtr, T, A: Allocator> OrdTree<P, T, A> {
         self.chain.len()
     }
 
-    /// Whether there is no entry.
+    /// Returns whether there are no entries.
     pub fn is_empty(&self) -> bool
         ensures { result ≡ (length self.now.list.entries == 0) }
     {
         self.len() == 0
     }
 
-    /// Whether there is an entry at the index.
+    /// Returns whether there is an entry at the index.
     pub fn contains_inx(&self, i: P::Inx) -> bool
         ensures { result ≡ is_some (entry_at self.now.list.entries (P.Inx.number i)) }
     {
         self.chain.contains_inx(i)
     }
 
-    /// The index of the root, or `None` where there is no entry.
+    /// Returns the index of the root, or `None` if there are no entries.
     pub fn root(&self) -> Option<P::Inx>
         ensures { option_map P.Inx.number result ≡ root_of self.now.shape }
     {
         Some(self.root?.get())
     }
 
-    /// Sets the generation that the next entry gets, and leaves each entry its own.
+    /// Sets the generation of the next entry. Existing entries keep theirs.
     pub fn set_generation(&mut self, generation: P::Gen)
         requires { IsLawfulGeneration P.Gen.greatest (P.Gen.number generation) }
         ensures { self.new ≡ record self.old {
@@ -100,8 +99,7 @@ impl<P: BasePtr, T, A: Allocator> OrdTree<P, T, A> {
         self.chain.set_generation(generation);
     }
 
-    /// Raises the generation that the next entry gets, and leaves each entry its own. The result says whether the generations
-    /// began again.
+    /// Raises the generation of the next entry. Existing entries keep theirs. The result says whether the generation overflowed.
     pub fn inc_generation(&mut self) -> InvalidationOption<()>
         ensures after { self.new ≡ record self.old { list = raised P.Gen.greatest self.old.list } }
         ensures overflow { is_overflow result

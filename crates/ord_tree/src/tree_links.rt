@@ -1,4 +1,4 @@
-//! The tree links of a node, and what the repairs ask of whatever keeps the nodes.
+//! The tree links of a node, its sides and its branches.
 
 ghost use Rattle.std.specs.Prelude.{◌≡◌, ◌≢◌, ℕ, ◌↔◌, IsTrue, IsSome, Option, Some, option_map};
 ghost use Rattle.ord_tree.specs.TreeLinks.{other_side, child_at, with_child_at, as_numbers};
@@ -6,14 +6,14 @@ ghost use Rattle.ord_tree.specs.TreeLinks.{other_side, child_at, with_child_at, 
 /// A side of a node.
 #[derive(Clone, Copy, Debug, PartialEq, Eq)]
 pub enum Side {
-    /// The side of what stands before the node.
+    /// The side of what is before the node.
     Lesser,
-    /// The side of what stands behind it.
+    /// The side of what is after it.
     Greater,
 }
 
 impl Side {
-    /// The opposite side.
+    /// Returns the opposite side.
     pub fn other(self) -> Side
         ensures { result ≡ other_side self }
     {
@@ -24,19 +24,19 @@ impl Side {
     }
 }
 
-/// A branch of the tree: a side of a node, where another may hang.
+/// A branch of the tree: a node and a side of it, where a child may be.
 #[derive(Clone, Copy, Debug)]
 pub struct Branch<I> {
     /// The node.
     pub parent: I,
-    /// The side of it.
+    /// The side.
     pub side: Side,
 }
 
-/// The tree links of a node: its parent, the roots of its sides, its rank.
+/// The tree links of a node: its parent, the roots of its sides, and its rank.
 #[derive(Clone, Copy, Debug)]
 pub struct TreeLinks<I> {
-    /// The parent, or None at the root.
+    /// The parent, or `None` at the root.
     pub back: Option<I>,
     /// The root of the lesser side.
     pub lesser: Option<I>,
@@ -47,7 +47,7 @@ pub struct TreeLinks<I> {
 }
 
 impl<I: Copy> TreeLinks<I> {
-    /// The root of a side.
+    /// Returns the root of a side.
     pub fn child(&self, side: Side) -> Option<I>
         ensures { result ≡ child_at side self.now }
     {
@@ -57,7 +57,7 @@ impl<I: Copy> TreeLinks<I> {
         }
     }
 
-    /// The same links with another root of a side.
+    /// Returns the same links with another root of a side.
     pub fn with_child(self, side: Side, child: Option<I>) -> TreeLinks<I>
         ensures { result ≡ with_child_at side child self }
     {

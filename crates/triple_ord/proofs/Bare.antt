@@ -1,4 +1,4 @@
--- A chain of nodes and the list of its items: each look-up in the one reads what the other has.
+-- A chain of nodes and the list of its items: a look-up in one reads what the other has.
 use Rattle.std.specs.Prelude.{IsNone}
 use Rattle.chain_base.specs.Chain.{item_of}
 use Rattle.ord_tree.specs.{Node.bare_entry, Node.links_in, Node.slots_of, Node.indexes, Parents.HasParentUnder, Slots.Slots, Slots.Holds, Slots.Among, declared.tree_links.TreeLinks.TreeLinks}
@@ -33,7 +33,7 @@ module _ {P T I G : Type 0} where
   link_between-bare low high [] i = refl
   link_between-bare low high (e ∷ es) i = grind (arith, common_steps, link_between-bare (Some e.index) high es i)
 
-  -- what the chain of nodes under a tree says of the tree's list
+  -- what the chain of nodes under a tree says about the tree's list
   module _ (t : Tree T) (c : Chain (SimpleOrdArenaNode P T I G)) (under : IsChainOf t c) where
     pub entry_at-under : (i : ℕ) → entry_at t.list.entries i ≡ option_map (λ e. (e.0, e.1.t)) (entry_at c.entries i)
     entry_at-under i = ap (λ (l : Chain T). entry_at l.entries i) (sym under.list) ∙ entry_at-bare c.entries i
@@ -84,7 +84,7 @@ Among-append : (j : ℕ) (xs ys : List ℕ) → Among j (xs ++ ys) → Among j x
 Among-append j [] ys there = inr there
 Among-append j (x ∷ xs) ys there = grind (arith, common_steps, Among-append j xs ys)
 
--- an index of a walk is that of a part's root
+-- an index of a walk is the index of a part's root
 part_at : (s : Shape) (i : ℕ) → Among i (walk s) → (l : Shape) × (k : ℕ) × (r : Shape) × IsPart (node l i k r) s
 part_at missing i there = absurd there
 part_at (node l j k r) i there = elim (Among-append i (walk l) (j ∷ walk r) there) [
@@ -95,12 +95,12 @@ part_at (node l j k r) i there = elim (Among-append i (walk l) (j ∷ walk r) th
   ]
 ]
 
--- a link leads to the root of what hangs there
+-- a link leads to the root of the shape there
 held-root : (at : Slots) (back link : Option ℕ) (s : Shape) → Holds at back link s → link ≡ root_of s
 held-root at back link missing h = h
 held-root at back link (node l i k r) h = h.1
 
--- the links that nodes hold at i, in the tree that they spell
+-- the links that nodes store at i, in the tree that they form
 abbrev HoldsLinks : (back : Option ℕ) (s l r : Shape) (i k : ℕ) (n : TreeLinks ℕ) → Type 0
 HoldsLinks back s l r i k n = (n.rank ≡ k) × HasParentUnder back s i n.back × (n.lesser ≡ root_of l) × (n.greater ≡ root_of r)
 
@@ -145,7 +145,7 @@ module _ {P T I G : Type 0} (t : Tree T) (c : Chain (SimpleOrdArenaNode P T I G)
       → IsPart (node l i k r) t.shape → HoldsLinks None t.shape l r i k (links_in e.1)
   held_at i e is l r k part = held-part (slots_of c) None (root_of t.shape) t.shape l r i k (links_in e.1) under.held part (rw is refl)
 
-  -- it shows the entry, and the roots of its sides
+  -- it shows the entry and the roots of its sides
   pub shown-under : (i : ℕ) (e : ℕ × SimpleOrdArenaNode P T I G) → entry_at c.entries i ≡ Some e
       → IsNodeAt t i e.0 e.1.t e.1.p_tree0 e.1.p_tree1
   shown-under i e is = record {
@@ -165,7 +165,7 @@ module _ {P T I G : Type 0} (t : Tree T) (c : Chain (SimpleOrdArenaNode P T I G)
       let held = held_at t c under i (e.0, e.1.item) entry p.0 p.2 p.1 p.3 in
       record { lesser_side = p.0; greater_side = p.2; part = subst (λ (k : ℕ). IsPart (node p.0 i k p.2) t.shape) (sym held.0) p.3; has_parent = held.1; lesser_root = held.2; greater_root = held.3 }
 
-  -- where the tree's list has an entry, the arena has a link
+  -- if the tree's list has an entry, the arena has a link
   pub slot-occupied : (i : ℕ) → IsSome (entry_at t.list.entries i) → IsSome (slot a i)
   slot-occupied i some =
       ap is_some (lies.slots i) ∙ sym (is_some-map _ (link_at c.entries i)) ∙ ap is_some (sym (entry_at-link None None c.entries i))

@@ -16,7 +16,7 @@ use Rattle.triple_ord.proofs.Inserting.{entry_at-after, similar-here, IsInsertio
 use Rattle.chain_base.proofs.CallerLemmas.{with_new, roomy_capacity, capacity-vacant, capacity-with_room}
 use Rattle.triple_ord.specs.{Arena.entry_at, Clone.cloned, Clone.refused_clone, Clone.FindsFallible, Entry.InsertsThere, Entry.Awaits, Entry.IsEntryFor}
 use Rattle.triple_ord.specs.{EntryKind.pointer_of_kind, Rekey.Rekeys, Insertion.InsertsNew, Place.behind_key, declared.insert_kind.OrdInsertKind.TheVariants.Normal}
--- lists that are cut at an entry, and lists in the order of their keys
+-- lists cut at an entry, and lists in the order of their keys
 pub use Rattle.triple_ord.proofs.Inserting.{last_of-append, begins, ends, some_last, no_first, no_last, StandsAt, stands, IsLinked, link-read}
 pub use Rattle.triple_ord.proofs.Inserting.{not_before, entry_at-here, from_index-here, with_item-here}
 pub use Rattle.triple_ord.proofs.OrderLaws.{IsInOrder-rest, IsInOrder-back, in_order-one, in_order-more, all_greater, all_less, recursion-map}
@@ -26,7 +26,7 @@ times-without : {T : Type 0} (i : ℕ) (es : List (Entry T)) → times i es ≤ 
 times-without i [] once = refl
 times-without i (e ∷ es) once = grind (arith, common_steps, times-without i es)
 
--- what an entry shows to its own generation, and to others
+-- what an entry shows to its own generation and to others
 pub item_if-own : {T : Type 0} (g : ℕ) (o : Option T) → item_if g (option_map (λ x. (g, x)) o) ≡ o
 item_if-own g o = grind (arith, common_steps)
 
@@ -38,12 +38,12 @@ item_if-found g None there = absurd (cc)
 item_if-found g (Some e) there = (e.1, ap (λ k. Some (k, e.1)) (grind (arith, common_steps)))
 
 module _ {T : Type 0} where
-  -- where the entry at its index, if any, has the generation of one pointer, another finds nothing there
+  -- if the entry at its index, if any, has the generation of p, another pointer finds nothing there
   item_of-other : (a : Tree T) (p q : ℕ × ℕ) → IfSome (entry_at a p.0) (λ e. e.0 ≡ p.1) → q.0 ≡ p.0 → q ≢ p → item_of a q ≡ None
   item_of-other a p q has same apart =
       rw same (item_if-other p.1 q.1 (entry_at a p.0) has (λ era. apart (ap (λ i. (i, q.1)) same ∙ ap (λ g. (p.0, g)) era)))
 
-  -- a change at the index of the pointer that names its entry, if any
+  -- a change at the index of the pointer that names the entry there, if any
   module _ (old new : Tree T) (p : ℕ × ℕ) (found : Option T) where
     pub updates-at : IfSome (entry_at old p.0) (λ e. e.0 ≡ p.1) → entry_at new p.0 ≡ option_map (λ x. (p.1, x)) found
         → ((i : ℕ) → i ≢ p.0 → entry_at new i ≡ entry_at old i) → Updates old new p found
@@ -67,7 +67,7 @@ module _ {T : Type 0} where
       let found = item_if-found p.1 (entry_at old p.0) there in
       rw is (length-without old.list.entries p.0 (rw found.1 refl))
 
-  -- an entry that goes to a gap of the others, with any item
+  -- an entry that moves to a gap of the others, with any item
   module _ {K : Type 0} (key : T → K) (cmp : K → K → Ordering) (old new : Tree T) (p : ℕ × ℕ) (item : T) (distinct : IsDistinct old.list.entries) (there : IsSome (item_of old p))
       (r : Rekeys key cmp old p item new) where
     abbrev moved_entry : Entry T
@@ -118,7 +118,7 @@ module _ {T : Type 0} where
           ];
         }
 
-  -- an insertion of a new entry, where the list was grown for it or not
+  -- an insertion of a new entry, whether or not the list was grown for it
   module _ (old new : Tree T) (room : Chain T) (roomy : room.entries ≡ old.list.entries) (gap : Gap old.list.entries) (item : T) (p : ℕ × ℕ)
       (inserted : IsInsertion room new.list (with_between gap) item p.0 p.1) where
     abbrev entry : Entry T
@@ -142,7 +142,7 @@ module _ {T : Type 0} where
       rw (listed, gap.cut) (length-between gap.front entry gap.back),
     )
 
--- what the calls return of these changes
+-- what the calls return for these changes
 module _ {T : Type 0} where
   module _ (greatest : Option ℕ) (old new : Tree T) (distinct : IsDistinct old.list.entries) where
     module _ {G : Type 0} (number : G → ℕ) (i : ℕ) where
@@ -165,7 +165,7 @@ module _ {T : Type 0} where
     abbrev IsRenewed : Option P → Type 0
     IsRenewed o = OnSome o (new ≡ record old { list = renewed greatest old.list p.0 })
 
-    -- the new pointer, if any, is of the next generation at the same index
+    -- the new pointer, if any, has the next generation and the same index
     abbrev IsNext : Option P → Type 0
     IsNext o = IfSome o (λ q. (numbers q).0 ≡ p.0) × IfSome o (λ q. (numbers q).1 ≡ next_generation greatest old.list.generation)
 
@@ -177,7 +177,7 @@ module _ {T : Type 0} where
     count-renewed None after same = ap count same
     count-renewed (Some q) after same = ap count after ∙ length-with_generation old.list.entries p.0 (next_generation greatest old.list.generation)
 
--- room for one entry more changes neither the entries nor generation and maximum; without a maximum the capacity grows where none is vacant
+-- making room for one entry keeps the entries, the generation and the maximum; without a maximum the capacity grows if no slot is vacant
 module _ {T : Type 0} where
   pub entries-with_room_by : (growth : Growth) (most : ℕ) (c : Chain T) → (with_room_by growth most c).entries ≡ c.entries
   entries-with_room_by growth most c = grind (arith, common_steps)
@@ -190,7 +190,7 @@ module _ {T : Type 0} where
     capacity-with_room_by within some = capacity-vacant most c counted some
     capacity-with_room_by reallocating some = capacity-with_room most c counted unlimited
 
-  -- a new entry keeps generation and maximum, and the capacity that there is with room for it
+  -- a new entry keeps the generation and the maximum, and the capacity after making room for it
   module _ (growth : Growth) (most : ℕ) (old new : Chain T) (place : Entry T → List (Entry T)) (item : T) (i g : ℕ)
       (inserted : IsInsertion (with_room_by growth most old) new place item i g) where
     after : (rest : List ℕ) × (new ≡ with_new (with_room_by growth most old) place item i g rest)
@@ -217,9 +217,9 @@ module _ {P T K : Type 0} (key : T → K) (cmp : K → K → Ordering) (most : �
   inserts-new (Replacing p, None) inserts = absurd inserts
   inserts-new (Replacing p, Some before) inserts = absurd inserts.place
 
--- an insertion through an entry that was asked for is one step over its place
+-- an insertion through a requested entry is one step over its place
 module _ {T K : Type 0} (key : T → K) (cmp : K → K → Ordering) where
-  -- the entry whose item is to be replaced is found by its index
+  -- the entry whose item is replaced is found by its index
   over-here : (es : List (Entry T)) → IsDistinct es → (aim : Aim K) (e : Entry T) → IsPlace key cmp {entries = es} aim (over e) → entry_among es e.index ≡ Some (e.generation, e.item)
   over-here es distinct (at_key k) e at = entry_at-after es e distinct at.gap at.here
   over-here es distinct (beside i Equal) e at = ap (entry_among es) at.0 ∙ at.1
@@ -270,7 +270,7 @@ module _ {T K : Type 0} (key : T → K) (cmp : K → K → Ordering) where
     entry-inserts-new k is there =
         inserts-new key cmp most growth k numbers old item new (shown, before) (entry-inserts-by (behind_key k) is there)
 
-  -- the same by the item's key, told by the pointer and the item that was replaced
+  -- the same by the item's key, as the pointer and the replaced item
   module _ {P I G : Type 0} (numbers : P → ℕ × ℕ) (number : I → ℕ) (growth : Growth) (most : ℕ) (old arena new : Tree T)
       (distinct : IsDistinct old.list.entries) (k : K) (shown : OrdEntryKind P) (put : Entry T → List (Entry T)) (visits : ℕ) (item : T)
       (before : Option T) (p : P) (key_is : k ≡ key item) (pointer_is : p ≡ pointer_of_kind shown)
@@ -288,7 +288,7 @@ module _ {T K : Type 0} (key : T → K) (cmp : K → K → Ordering) where
         go (Replacing q) (Some before) is ins = rw is ins
         go shown before is ins = absurd ins
 
--- a write through a reference that went out, by what pointers find
+-- a write through a reference that was lent, by what pointers find
 module _ {T : Type 0} (a : Tree T) (p : ℕ × ℕ) (item : T) where
   pub found-written : item_of (with_item a p.0 item) p ≡ option_map (λ old. item) (item_of a p)
   found-written = rw (entry_at-with_item_among a.list.entries p.0 item) (go (entry_at a p.0))
@@ -299,7 +299,7 @@ module _ {T : Type 0} (a : Tree T) (p : ℕ × ℕ) (item : T) where
   pub others-written : IsSome (item_of a p) → (q : ℕ × ℕ) → q ≢ p → item_of (with_item a p.0 item) q ≡ item_of a q
   others-written there q apart = (updates-written a p item there).others q apart
 
--- what pointers find after a write, for a caller to cite
+-- what pointers find after a write, to be cited by a caller
 pub ruleset written = (found-written, others-written, count-written)
 
 -- what the searches by key find
@@ -321,7 +321,7 @@ module _ {T K : Type 0} (key : T → K) (cmp : K → K → Ordering) (t : Tree T
     finds-key (Some p) c found =
         finds_here found.0 (entry_at-after t.list.entries found.0 distinct found.2.gap found.2.here) p found.1 Equal found.2.equal
 
--- what pointers find where all entries were moved
+-- what pointers find after all entries were moved
 module _ {T : Type 0} (a : Tree T) (g : ℕ) where
   ended-of : ((i : ℕ) (e : ℕ × T) → entry_at a i ≡ Some e → e.0 ≡ g) → IsOfGeneration a g
   ended-of same p apart = go (entry_at a p.0) refl
@@ -369,7 +369,7 @@ module _ {P Q T U F : Type 0} (numbers_from : Q → ℕ × ℕ) (numbers_to : P 
     pub emptied-transferred : FindsNothing left
     emptied-transferred p = ap (λ (c : Chain U). item_if p.1 (entry_among c.entries p.0)) h.left
 
--- A clone of an ordered arena whose calls each give the item that they are shown.
+-- A clone of an ordered arena whose calls each return the item that they are shown.
 module _ {P T F : Type 0} (numbers : P → ℕ × ℕ) (step : F → P → Bor T → Result T AllocError → F → Type 0)
     (answers : (f : F) (p : P) (u : Bor T) (x : T) (g : F) → step f p u (Ok x) g → x ≡ u.now) where
   clone-cloned : (most : ℕ) (greatest : Option ℕ) (f : F) (source : Tree T) → IsSound most greatest source.list → (old new : Tree T) (last : F)
@@ -383,7 +383,7 @@ module _ {P T F : Type 0} (numbers : P → ℕ × ℕ) (step : F → P → Bor T
       → (last : F) × IsClone numbers (IsShown step) f source old new last → new ≡ cloned source old
   clone-made most greatest f source sound old new made = clone-cloned most greatest f source sound old new made.0 made.1
 
--- where calls refuse only items whose clones may be refused
+-- if calls fail only for fallible items
 module _ {P T F : Type 0} (numbers : P → ℕ × ℕ) (step : F → P → Bor T → Result T AllocError → F → Type 0) (infallible : T → Type 0)
     (refuses : (f : F) (p : P) (u : Bor T) (e : AllocError) (g : F) → step f p u (Err e) g → infallible u.now → ⊥) where
   pub clone-refused_clone : (f : F) (source old new : Tree T) → (last : F) × IsRefusedClone numbers (IsShown step) f source old new last
@@ -397,7 +397,7 @@ module _ {P T F : Type 0} (numbers : P → ℕ × ℕ) (step : F → P → Bor T
             ∙ ap (λ (s : Shape). record { list = taken_over source.list old.list []; shape = s }) h.shape,
       )
 
--- nothing refuses a clone of an arena without entries
+-- cloning an arena without entries never fails
 module _ {T A B : Type 0} (r : Result (Unit {0}) ReallocationError) (source : Tree T) (limit capacity : ℕ) (infallible : T → Type 0)
     (beyond : r ≡ Err BeyondMaxCapacity → limit < greatest_index source.list.entries)
     (memory : r ≡ Err NoMemory → ((capacity < greatest_index source.list.entries) × A) ⊎ (FindsFallible infallible source × B))

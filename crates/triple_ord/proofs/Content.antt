@@ -1,4 +1,4 @@
--- The finite map that an ordered arena is, after changes of its capacity, compressions, removals and recasts; its first and last indexes.
+-- The finite map of an ordered arena after changes of its capacity, compressions, removals and recasts; its first and last indexes.
 use Rattle.std.proofs.Common.{length-take}
 use Rattle.arena_base.specs.{Arena.item_of, Compression.CompressionStep, Compression.IsCompression, Compression.compressed}
 use Rattle.arena_base.specs.Walk.{entries_rising as arena_rising}
@@ -13,7 +13,7 @@ use Rattle.triple_ord.proofs.Words.{greatest-or_none, IsArenaOf, entry_before, r
 use Rattle.triple_ord.proofs.{Bare.link_generation-under, Bare.capacity-under, Bare.option_map-twice, Words.entry_at-with_item_among_other, Words.with_item}
 use Rattle.triple_ord.specs.{Recasting.RecastsItem, Recasting.RecastsNext, Recasting.RecastsItems, SlotWalk.SlotWalkSteps}
 
--- slots that are as many and show the same are the same
+-- two lists of slots of the same length that show the same are equal
 same-slots : {X : Type 0} (xs ys : List (Option X)) → length xs ≡ length ys → ((k : ℕ) → get_or xs k None ≡ get_or ys k None) → xs ≡ ys
 same-slots xs ys long same =
     same_lists xs ys long (λ k d within. get_or_default xs k d None within ∙ (same k ∙ get_or_default ys k None d (omega (arith, within, long))))
@@ -31,7 +31,7 @@ module _ {T : Type 0} where
   take-none : (n : ℕ) → let none : List (Option (ℕ × T)) = [] in take n none ≡ none
   take-none n = grind (arith, common_steps)
 
-  -- the slots of a list within another capacity, where no entry is beyond the old one
+  -- the slots of a list within another capacity, if no entry is beyond the old one
   slots-resized : (es : List (Entry T)) (from n c : ℕ) → ((k : ℕ) → from + c ≤ k → entry_at es k ≡ None)
       → slots_from es from n ≡ take n (slots_from es from c) ++ replicate (n - c) None
   slots-resized es from zero c none = grind (arith, common_steps)
@@ -153,7 +153,7 @@ module _ {P T F : Type 0} (numbers : P → ℕ × ℕ) (step : F → P → T →
           after = content-compressed most greatest t sound u g is.items (omega (arith, items-counted (arena_rising (content_of t) 0) (f, []) (is.last, is.items) calls, many)) is.after;
         }
 
--- What a walk by index gives hangs on the generations at the indexes alone.
+-- What a walk by index returns depends only on the generations at the indexes.
 module _ {X Y : Type 0} where
   -- slots with the same generations
   abbrev IsAlike : List (Option (ℕ × X)) → List (Option (ℕ × Y)) → Type 0
@@ -178,11 +178,11 @@ module _ {X Y : Type 0} where
       go true = ap reverse (pointers-alike 0 (take (w.at + 1) a.slots) (take (w.at + 1) b.slots) (sym (take-map _ (w.at + 1) a.slots) ∙ ap (take (w.at + 1)) alike ∙ take-map _ (w.at + 1) b.slots))
       go false = pointers-alike (w.at + 1) (drop (w.at + 1) a.slots) (drop (w.at + 1) b.slots) (sym (drop-map _ (w.at + 1) a.slots) ∙ ap (drop (w.at + 1)) alike ∙ drop-map _ (w.at + 1) b.slots)
 
-  -- a pointer that finds an item in the one finds an item in the other
+  -- a pointer that finds an item in one finds an item in the other
   there-alike : (g : ℕ) (x : Option (ℕ × X)) (y : Option (ℕ × Y)) → option_map (λ e. e.0) x ≡ option_map (λ e. e.0) y → IsSome (item_if g x) → IsSome (item_if g y)
   there-alike g x y alike some = grind (arith, common_steps)
 
-  -- a step over the one is a step over the other
+  -- a step over one is a step over the other
   module _ {P : Type 0} (numbers : P → ℕ × ℕ) (a : Arena X) (b : Arena Y) (same : (w : Walk) → walk_rest w a ≡ walk_rest w b)
       (there : (p : ℕ × ℕ) → IsSome (item_of a p) → IsSome (item_of b p)) where
     steps-alike : (old new : Walk) (r : Option P) → WalkSteps numbers old a r new → WalkSteps numbers old b r new
@@ -190,7 +190,7 @@ module _ {X Y : Type 0} where
     steps-alike old new (Some p) step =
         record { there = there (numbers p) step.there; first = sym (same old) ∙ (step.first ∙ ap (λ rest. (numbers p) ∷ rest) (same new)); stands = step.stands }
 
--- A walk over the arena under the chain under a tree is one over the tree's entries.
+-- A walk over the arena under a tree's chain is a walk over the tree's entries.
 module _ {P T I G Q : Type 0} (most : ℕ) (greatest : Option ℕ) (t : Tree T) (sound : IsSound most greatest t.list) (numbers : Q → ℕ × ℕ)
     (c : Chain (SimpleOrdArenaNode P T I G)) (a : Arena (Link (SimpleOrdArenaNode P T I G))) (under : IsChainOf t c)
     (laid : IsArenaOf c a) where
@@ -214,9 +214,9 @@ module _ {P T I G Q : Type 0} (most : ℕ) (greatest : Option ℕ) (t : Tree T) 
       told None step = record { step = step; there = tt }
       told (Some p) step = record { step = step; there = rw (item_is most greatest t sound (numbers p)) at step.there }
 
--- A removal, by what a walk by index still gives.
+-- A removal, by what a walk by index still returns.
 module _ {T : Type 0} where
-  -- no pointer has an index before the first slot's
+  -- no pointer has an index below that of the first slot
   first-above : (from : ℕ) (slots : List (Option (ℕ × T))) (p : ℕ × ℕ) (rest : List (ℕ × ℕ)) → pointers_from from slots ≡ p ∷ rest → from ≤ p.0
   first-above from (None ∷ slots) p rest is = omega (arith, first-above (from + 1) slots p rest is)
   first-above from slots p rest is = grind (arith, common_steps)
@@ -228,12 +228,12 @@ module _ {T : Type 0} where
   others-left from (suc k) i g (None ∷ slots) rest at is = others-left (from + 1) k i g slots rest (omega (arith, at)) is
   others-left from k i g slots rest at is = grind (arith, common_steps)
 
-  -- where there is no pointer, no slot has an entry
+  -- if there is no pointer, no slot has an entry
   none-there : (from : ℕ) (slots : List (Option (ℕ × T))) (k : ℕ) → pointers_from from slots ≡ [] → get_or slots k None ≡ None
   none-there from (None ∷ slots) (suc k) is = none-there (from + 1) slots k is
   none-there from slots k is = grind (arith, common_steps)
 
-  -- a walk that had all entries to give, and has none, goes over an arena without entries
+  -- if a walk had every entry left and has none, the arena has no entries
   pub nothing-left : (most : ℕ) (greatest : Option ℕ) (t : Tree T) (rest : List (ℕ × ℕ)) → IsSound most greatest t.list → rest ≡ []
       → rest ≡ pointers (content_of t) → FindsNothing t
   nothing-left most greatest t rest sound none whole p =
@@ -243,7 +243,7 @@ module _ {T : Type 0} where
     slots-removed : (content_of u).slots ≡ set (content_of t).slots i None
     slots-removed = (content_removed most greatest t u i sound removal).slots
 
-    -- a walk that has given the entry gives what it would have given
+    -- a walk that has returned the entry returns the same afterwards
     pub rest-removed : (w : Walk) → walk_rest (walk_from w i) (content_of t) ≡ walk_rest (walk_from w i) (content_of u)
     rest-removed w = sym (go w.falling)
       where
@@ -255,11 +255,11 @@ module _ {T : Type 0} where
         go true = ap (λ slots. reverse (pointers_from 0 (take (i - 1 + 1) slots))) slots-removed ∙ ap (λ slots. reverse (pointers_from 0 slots)) (front i)
         go false = ap (λ slots. pointers_from (i + 1) (drop (i + 1) slots)) slots-removed ∙ ap (pointers_from (i + 1)) (drop-set-lt (i + 1) (content_of t).slots i None (omega arith))
 
-    -- where its rest had all entries, it has all that are left
+    -- if its rest had all entries, it has all that are left
     pub whole-removed : (g : ℕ) (before after : List (ℕ × ℕ)) → before ≡ (i, g) ∷ after → before ≡ pointers (content_of t) → after ≡ pointers (content_of u)
     whole-removed g before after first whole = sym (ap (pointers_from 0) slots-removed ∙ others-left 0 i i g (content_of t).slots after (omega arith) (sym whole ∙ first))
 
--- what is shown to be missing is
+-- what is shown to be missing is missing
 pub vacant_of : {X : Type 0} (o : Option X) → is_some o ≡ false → o ≡ None
 vacant_of o is = grind (arith, common_steps)
 
@@ -267,7 +267,7 @@ module _ {T I : Type 0} (gives : T → Result (Unit {0}) I → T → Type 0) (ol
   abbrev generation_at : Tree T → ℕ → Option ℕ
   generation_at t i = option_map (λ (e : ℕ × T). e.0) (entry_at t.list.entries i)
 
-  -- what is still to come, from index i on
+  -- the rest from index i on
   abbrev rest_from : ℕ → List (ℕ × ℕ)
   rest_from i = pointers_from i (drop i (content_of old).slots)
 
@@ -285,7 +285,7 @@ module _ {T I : Type 0} (gives : T → Result (Unit {0}) I → T → Type 0) (ol
     slots_at : drop i (content_of old).slots ≡ entry_at old.list.entries i ∷ drop (i + 1) (content_of old).slots
     slots_at = drop_more (content_of old).slots i None (omega (arith, length-content, within)) ∙ ap (λ s. s ∷ drop (i + 1) (content_of old).slots) (slot_is most greatest old sound i)
 
-    -- what is still to come, where an entry is next and where none is
+    -- the rest, if an entry is next and if none is
     pointer_at : (o : Option (ℕ × T)) (rest : List (Option (ℕ × T))) (g : ℕ) → option_map (λ (e : ℕ × T). e.0) o ≡ Some g
         → pointers_from i (o ∷ rest) ≡ (i, g) ∷ pointers_from (i + 1) rest
     pointer_at o rest g is = grind (arith, common_steps)
@@ -300,7 +300,7 @@ module _ {T I : Type 0} (gives : T → Result (Unit {0}) I → T → Type 0) (ol
         (sym (b.kept i) ∙ ap (option_map (λ (e : ℕ × T). e.0)) none) in
         record { recast = b.recast; split = b.split ∙ ap (λ ps. b.recast ++ ps) (ap (pointers_from i) slots_at ∙ skipped); calls = b.calls; kept = b.kept }
 
-    -- the pointer of the entry at the index, and those behind it
+    -- the pointer of the entry at the index, and those after it
     next : (e : ℕ × T) → entry_at now.list.entries i ≡ Some e → rest_from i ≡ (i, e.0) ∷ rest_from (i + 1)
     next e is = ap (pointers_from i) slots_at ∙ pointer_at (entry_at old.list.entries i) (drop (i + 1) (content_of old).slots) e.0 (sym (b.kept i) ∙ ap (option_map (λ (e : ℕ × T). e.0)) is)
 

@@ -1,4 +1,4 @@
--- A descent from the root, by a closure or by a key: how it begins, goes down, and ends, and how few entries it visits.
+-- A descent from the root, by a closure or by a key: how it begins, continues and ends, and how few entries it visits.
 use Rattle.std.proofs.{Common.Contains, Math.Pow.pow_mono}
 use Rattle.ord_tree.specs.Laws.{HeightLaw, RankSquareLaw, TightRankLaw, RebuiltHeightLaw}
 use Rattle.triple_ord.proofs.Words.{length-append, ◌≡◌, ◌≢◌, ℕ, false, ◌+◌, ◌-◌, ◌≤◌, List, [], ◌∷◌, ◌++◌, Option, Some, None, IsSome, IfSome, MatchOption, refl, sym, ap, subst, ◌∙◌, arith, inl, inr, max, map, length, append_assoc, Shape}
@@ -23,7 +23,7 @@ IsPart-sides (node l' i' k' r') l r i k part = elim part [
   ]
 ]
 
--- what is true of each is true of each but the last
+-- what holds for each element holds for each but the last
 but_last-push : {X : Type 0} (xs : List X) (x : X) → but_last (xs ++ x ∷ []) ≡ xs
 but_last-push (y ∷ (z ∷ zs)) x = ap (λ l. y ∷ l) (but_last-push (z ∷ zs) x)
 but_last-push xs x = refl
@@ -37,7 +37,7 @@ IfSome-from_match : {X : Type 0} (o : Option X) (P : Type 0) (Q : X → Type 0) 
 IfSome-from_match o P Q is = grind (arith, common_steps)
 
 module _ {T : Type 0} where
-  -- entries whose indexes are these, cut where the indexes are
+  -- entries with these indexes, cut where the indexes are cut
   pub record IsCutAt (es : List (Entry T)) (low : List ℕ) (i : ℕ) (high : List ℕ) : Type 0 where
     pub front : List (Entry T)
     pub entry : Entry T
@@ -62,7 +62,7 @@ module _ {T : Type 0} where
         high_is = rest.high_is;
       }
 
-  -- at the index of a part's root: its sides, and its entries cut at the root's
+  -- at the index of a part's root: its sides, and its entries cut at the root's entry
   pub record IsFacing (i : ℕ) (part : Shape) (middle : List (Entry T)) : Type 0 where
     pub lesser : Shape
     pub rank : ℕ
@@ -99,7 +99,7 @@ module _ {T : Type 0} where
       refl,
     )
 
--- a descent that has come to a link: the entry there
+-- a descent that has come to a link, and the entry there
 module _ {T : Type 0} (t : Tree T) (distinct : IsDistinct t.list.entries) (shown : List (Shown T)) (i : ℕ) (d : IsDescending t.list.entries t.shape shown (Some i)) where
   pub face : IsFacing i d.part d.middle
   face = facing i d.part d.middle d.led d.left
@@ -122,7 +122,7 @@ module _ {T : Type 0} (t : Tree T) (distinct : IsDistinct t.list.entries) (shown
   pub step-few : length shown + 1 ≤ height t.shape
   step-few = omega (arith, d.few, tall)
 
-  -- it is shown, and answered
+  -- the entry is shown and answered
   module _ (o : Ordering) where
     abbrev more : List (Shown T)
     more = shown ++ (step-entry, o) ∷ []
@@ -137,7 +137,7 @@ module _ {T : Type 0} (t : Tree T) (distinct : IsDistinct t.list.entries) (shown
         let all = ap (times j) (map_push (λ s. s.0) shown (step-entry, o)) ∙ times-append j (entries_of shown) (step-entry ∷ []) in
         omega (arith, d.new j, ap (times j) face.cut.cut ∙ times-append j face.cut.front (step-entry ∷ face.cut.back), all)
 
-  -- the descent has met an entry that was answered Equal
+  -- the descent has met an entry that was answered `Equal`
   pub step-met : IsSearch t.list.entries (more Equal)
   step-met =
       record {
@@ -160,7 +160,7 @@ module _ {T : Type 0} (t : Tree T) (distinct : IsDistinct t.list.entries) (shown
     part_here : IsPart (node face.lesser i face.rank face.greater) t.shape
     part_here = rw face.node_is at d.within
 
-    -- the descent goes to a side; the entry stands behind what is left on the lesser side, and before it on the greater one
+    -- the descent goes to a side; the entry is after what is left on the lesser side, and before it on the greater one
     step-lesser : (e : IsDescending t.list.entries t.shape (more Less) lesser) × (first_of e.back ≡ Some step-entry)
     step-lesser = (
       record {
@@ -206,13 +206,13 @@ module _ {T : Type 0} (t : Tree T) (distinct : IsDistinct t.list.entries) (shown
           refl,
         )
 
-    -- where the answer is Equal, it goes on as behind Less
+    -- after `Equal` it goes on as after `Less`
     pub step-side : (o : Ordering) → (e : IsDescending t.list.entries t.shape (more (ordering_then o Less)) (side_of o lesser greater))
         × (first_of e.back ≡ side_of o (Some step-entry) (first_of d.back))
     step-side Greater = step-greater
     step-side o = step-lesser
 
--- a descent that has come to a missing side stops at a gap
+-- a descent that has come to an empty side stops at a gap
 module _ {T : Type 0} (es : List (Entry T)) (shape : Shape) (shown : List (Shown T)) (d : IsDescending es shape shown None) where
   none_left : (part : Shape) (middle : List (Entry T)) → None ≡ root_of part → map (λ e. e.index) middle ≡ walk part → middle ≡ []
   none_left missing [] led left = refl
@@ -231,12 +231,12 @@ module _ {T : Type 0} (es : List (Entry T)) (shape : Shape) (shown : List (Shown
         inr (gap, record { greater_before = d.greater_before; less_after = d.less_after; last_beside = IfSome-from_match (last_of None shown) _ _ d.last_beside });
   }
 
-  -- nothing was shown in an empty list alone
+  -- nothing was shown only in an empty list
   pub descent-empty : (last : Option (Shown T)) → last_of None shown ≡ last → MatchOption (similar_of last) (es ≡ []) (λ a. Unit {0})
   descent-empty None is = let none = rw is at d.last_beside in rw (cut_there, no_last d.front none.0, no_first d.back none.1) refl
   descent-empty (Some s) is = tt
 
--- an answer that isn't Equal is the way that it leads
+-- an answer other than `Equal` is the direction that it leads to
 turned : (o : Ordering) → is_eq o ≡ false → ordering_then o Less ≡ o
 turned o other = grind (arith, common_steps)
 
@@ -291,30 +291,30 @@ module _ {T F : Type 0} (asks : F → Shown T → F → Type 0) (t : Tree T) (di
         last_is = last_more;
       }
 
--- what came with Equal, mapped
+-- what came with `Equal`, mapped
 where_equal-map : {X Y : Type 0} (f : X → Y) (found : Option (X × Ordering))
     → where_equal (option_map (λ a. (f a.0, a.1)) found) ≡ option_map f (where_equal found)
 where_equal-map f found = grind (arith, common_steps)
 
--- what a search for a similar entry says of one for an equal one
+-- a search for a similar entry gives a search for an equal one
 module _ {P T F : Type 0} (numbers : P → ℕ × ℕ) (asks : F → Shown T → F → Type 0) (es : List (Entry T)) (f g : F) (c : ℕ) where
   pub finds_with-similar : (o : Option (P × Ordering)) → FindsSimilarWith asks es f g (option_map (λ a. (numbers a.0, a.1)) o) c
       → FindsWith asks es f g (option_map numbers (where_equal o)) c
   finds_with-similar o search =
       (search.0, search.1, sym (where_equal-map numbers o) ∙ ap where_equal search.2 ∙ where_equal-map pointer search.0)
 
--- a key's order to an entry, by the way down from there
+-- the order of a key to an entry, from the direction taken there
 greater_of : (o : Ordering) → Greater ≡ ordering_then o Less → o ≡ Greater
 greater_of o turn = grind (arith, common_steps)
 
--- no equal entry was met by another answer
+-- an answer other than `Equal` meets no equal entry
 pub unmet : {X : Type 0} (x : X) (o : Ordering) → is_eq o ≡ false → met_next None x o ≡ None
 unmet x o test = grind (arith, common_steps)
 
 pub met_next-map : {X Y : Type 0} (f : X → Y) (met : Option X) (x : X) (o : Ordering) → option_map f (met_next met x o) ≡ met_next (option_map f met) (f x) o
 met_next-map f met x o = grind (arith, common_steps)
 
--- answers that differ were given at two entries
+-- two entries got different answers
 module _ {T : Type 0} (shown : List (Shown T)) where
   pub neighbours_shown : (low high : Option (Entry T)) → IfSome low (λ e. Contains shown (e, Greater)) → IfSome high (λ e. Contains shown (e, Less))
       → present low + present high ≤ length shown
@@ -368,7 +368,7 @@ module _ {T K : Type 0} (key : T → K) (cmp : K → K → Ordering) (t : Tree T
           met_is = rw step.1 (met_step o entry_is);
         })
 
-  -- the way has come to its end
+  -- the descent has come to its end
   module _ (visits : ℕ) (last : Option ((ℕ × ℕ) × Ordering)) (met : Option (ℕ × ℕ)) (d : HasDescendedByKey key cmp t.list.entries t.shape k start None visits last met) where
     abbrev end : Gap t.list.entries
     end = record { front = d.descending.front; back = d.descending.back; cut = cut_there t.list.entries t.shape d.shown d.descending }
@@ -376,7 +376,7 @@ module _ {T K : Type 0} (key : T → K) (cmp : K → K → Ordering) (t : Tree T
     lesser : IfSome (before end) (λ e. order_to key cmp k e ≡ Greater)
     lesser = IfSome_then (before end) d.descending.greater_before (λ e shown. greater_of _ (All-contains Turned d.shown (e, Greater) d.turned shown))
 
-    -- the entry behind the gap is equal, so it is the first of its group
+    -- the entry after the gap is equal, so it is the first of its group
     pub by_key-equal : (p : ℕ × ℕ) → met ≡ Some p → FindsSimilar key cmp t.list.entries k (Some (p, Equal)) (visits - start)
     by_key-equal p is = go (after end) refl d.descending.less_after d.met_is
       where
@@ -390,7 +390,7 @@ module _ {T K : Type 0} (key : T → K) (cmp : K → K → Ordering) (t : Tree T
             let both = told (pointer e) (order_to key cmp k e) (sym is ∙ met_is) in
             (e, rw (both.0, both.1) refl, inl (record { gap = end; here = some; lesser_before = lesser; equal = both.1 }, omega (arith, shown.1, d.count)))
 
-    -- the entry behind the gap, if any, isn't equal, so the gap fits
+    -- the entry after the gap, if any, isn't equal, so the gap fits
     pub by_key-other : met ≡ None → FindsSimilar key cmp t.list.entries k last (visits - start)
     by_key-other is = go (last_of None d.shown) refl
       where
@@ -422,7 +422,7 @@ fib-mono : (m n : ℕ) → m ≤ n → fib m ≤ fib n
 fib-mono m zero least = let same : m ≡ 0 = omega arith in rw same (omega arith)
 fib-mono m (suc n) least = grind (arith, common_steps, fib-mono m n, fib-step n)
 
--- a search that visits no more entries than stand on the longest way down stays within the bounds, by the laws of balance
+-- a search that visits at most as many entries as the longest path down has is within the bounds, by the laws of balance
 pub visits-bounded : HeightLaw → RankSquareLaw → TightRankLaw → RebuiltHeightLaw → VisitsLaw
 visits-bounded height_law square_law tight_law rebuilt_law s c ranked few =
     record {
@@ -441,11 +441,11 @@ module _ {T : Type 0} (t : Tree T) (sound : IsSoundTree t) where
   pub size-listed : size_of t.shape ≡ length t.list.entries
   size-listed = size_of-walk t.shape ∙ ap length sound.listed ∙ length-map t.list.entries (λ e. e.index)
 
-  -- no way down is as long as a machine's number can say
+  -- the longest path down is shorter than a word can count
   pub height-fits : (most : ℕ) (greatest : Option ℕ) → IsSound most greatest t.list → most + 1 < 2 ^ 64 → height t.shape < 2 ^ 64
   height-fits most greatest list fits =
       omega (arith, height-le-size t.shape, size-listed, list.counted, list.within_limit, limit_of-below most t.list.maximum)
 
-  -- what the law says of the tree's list
+  -- the law for the tree's list
   pub within_bounds : VisitsLaw → (c : ℕ) → c ≤ height t.shape → IsWithinBounds (length t.list.entries) t.shape c
   within_bounds law c few = rw (← size-listed) (law t.shape c sound.ranked few)

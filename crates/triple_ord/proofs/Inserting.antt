@@ -1,5 +1,5 @@
--- A list cut at one of its elements: its ends, what an entry's index finds where it stands once, and the gap where a search by a key
--- that answered there puts a new entry.
+-- A list cut at one of its elements: its ends, the entry that an index occurring once finds, and the gap where a search by a key that
+-- ended there puts a new entry.
 use Rattle.std.proofs.Math.Path.{fun_ext}
 use Rattle.triple_ord.proofs.Words.{◌≡◌, ℕ, List, [], ◌∷◌, ◌++◌, Option, Some, None, IsSome, length, refl, ap, arith, inl, inr, eqb_tells, position_of, ◌≢◌, true, false, ◌≤◌, sym, ◌∙◌, ◌⊎◌, append_assoc, is_eq, Ordering, Less, Equal}
 use Rattle.triple_ord.proofs.Words.{common_steps, option_map, Link, Entry, times, IsDistinct, entry_at, link_between, link_at, from_index, Greater, Gap, order_to, IsFirstEqual, StopsAt, IsBeside, FindsKey, FindsSimilar, where_equal, Chain}
@@ -10,7 +10,7 @@ module _ {X : Type 0} where
   last_of-append other [] x ys = refl
   last_of-append other (y ∷ xs) x ys = last_of-append (Some y) xs x ys
 
-  -- what begins a list, and what ends one
+  -- the beginning and the end of a list
   pub begins : (xs : List X) (x : X) → first_of xs ≡ Some x → (ys : List X) × (xs ≡ x ∷ ys)
   begins [] x is = absurd (cc)
   begins (y ∷ ys) x is = (ys, cc)
@@ -36,7 +36,7 @@ module _ {X : Type 0} where
   no_last (x ∷ xs) none = absurd (let last = (some_last x xs).1 in cc)
 
 module _ {T : Type 0} where
-  -- an entry that is there stands at its place
+  -- an existing entry is at its position
   pub record StandsAt (es : List (Entry T)) (i : ℕ) : Type 0 where
     pub front : List (Entry T)
     pub entry : Entry T
@@ -77,7 +77,7 @@ module _ {T : Type 0} where
   entry_link low e high =
       (e.generation, record { item = e.item; prev = option_map (λ e. e.index) low; next = option_map (λ e. e.index) high })
 
-  -- the link of an entry has the indexes of the entries beside it
+  -- the link of an entry has the indexes of its neighbours
   module _ (e : Entry T) (back : List (Entry T)) where
     abbrev IsLinkedBehind : Option (Entry T) → List (Entry T) → Type 0
     IsLinkedBehind o front =
@@ -87,14 +87,14 @@ module _ {T : Type 0} where
     link_here o [] none = grind (arith, common_steps)
     link_here o (f ∷ front) none = grind (arith, common_steps, link_here (Some f) front)
 
-  -- this generation and this link are the entry's
+  -- this generation and this link belong to the entry
   pub record IsLinked (front : List (Entry T)) (e : Entry T) (back : List (Entry T)) (g : ℕ) (l : Link T) : Type 0 where
     pub generation : e.generation ≡ g
     pub item : e.item ≡ l.item
     pub prev : option_map (λ e. e.index) (last_of None front) ≡ l.prev
     pub next : option_map (λ e. e.index) (first_of back) ≡ l.next
 
-  -- an entry of a list in which each index stands once
+  -- an entry of a list in which each index occurs once
   module _ (es : List (Entry T)) (distinct : IsDistinct es) (front : List (Entry T)) (e : Entry T) (back : List (Entry T)) (cut : es ≡ front ++ e ∷ back) where
     pub nowhere_else : times e.index (front ++ back) ≡ 0
     nowhere_else =
@@ -128,7 +128,7 @@ module _ {T : Type 0} where
 pub equal_by : (o : Ordering) → is_eq o ≡ true → o ≡ Equal
 equal_by o test = grind (arith, common_steps)
 
--- a search for a similar key tells whether an equal one is there
+-- a search for a similar key shows whether there is an equal one
 module _ {T K : Type 0} (key : T → K) (cmp : K → K → Ordering) (es : List (Entry T)) (k : K) (c : ℕ) where
   beside-other : (e : Entry T) → IsBeside key cmp es k c e → order_to key cmp k e ≢ Equal
   beside-other e b equal = grind (arith, common_steps, b.1.fits.lesser_before, b.1.fits.greater_after, b.2)
@@ -137,7 +137,7 @@ module _ {T K : Type 0} (key : T → K) (cmp : K → K → Ordering) (es : List 
   pub first-of_equal : (e : Entry T) → (IsFirstEqual key cmp es k e × (1 ≤ c)) ⊎ IsBeside key cmp es k c e → order_to key cmp k e ≡ Equal → IsFirstEqual key cmp es k e × (1 ≤ c)
   first-of_equal e found equal = elim found [ inl first ↦ first | inr beside ↦ absurd (beside-other e beside equal) ]
 
-  -- an entry that doesn't compare equal stands beside a gap that fits
+  -- an entry that doesn't compare equal is beside a gap that fits
   pub stop-of_other : (e : Entry T) → (IsFirstEqual key cmp es k e × (1 ≤ c)) ⊎ IsBeside key cmp es k c e → order_to key cmp k e ≢ Equal → IsBeside key cmp es k c e
   stop-of_other e found other = elim found [ inl first ↦ absurd (other first.0.equal) | inr beside ↦ beside ]
 
@@ -159,7 +159,7 @@ module _ {T K : Type 0} (key : T → K) (cmp : K → K → Ordering) (es : List 
         let beside = stop-of_other found.0 found.2 (λ same. let is : o ≡ Equal = ap (λ a. a.1) found.1 ∙ same in cc) in
         (beside.0, beside.1)
 
--- the entry behind a gap, and the one before it, are found by their indexes, and a new entry beside them goes into the gap
+-- the entries after and before a gap are found by their indexes, and a new entry beside them goes into the gap
 module _ {T : Type 0} (es : List (Entry T)) (e : Entry T) (distinct : IsDistinct es) (gap : Gap es) where
   cut-after : (back : List (Entry T)) → gap.back ≡ e ∷ back → es ≡ gap.front ++ e ∷ back
   cut-after back is = rw (← is) gap.cut
@@ -182,7 +182,7 @@ module _ {T : Type 0} (es : List (Entry T)) (e : Entry T) (distinct : IsDistinct
   pub puts-after : before gap ≡ Some e → (new : Entry T) → insert_after e.index new es ≡ with_between gap new
   puts-after here = let front = ends gap.front e here in puts-behind front.0 front.1
 
--- an insertion by another word for the same place
+-- an insertion by another description of the same place
 module _ {T : Type 0} (c d : Chain T) (place other : Entry T → List (Entry T)) (item : T) (i g : ℕ)
     (same : (new : Entry T) → place new ≡ other new) where
   pub IsInsertion-same : IsInsertion c d place item i g → IsInsertion c d other item i g
@@ -230,7 +230,7 @@ module _ {T K : Type 0} (key : T → K) (cmp : K → K → Ordering) (es : List 
       | inr high ↦ absurd (let less = rw high at b.1.fits.greater_after in cc)
     ]
 
-    -- beside it a new entry stands in a gap that fits
+    -- a new entry beside it is in a gap that fits
     pub similar-placed : is_eq o ≡ false → HasPlace c (put_on o p.0 es)
     similar-placed test =
         let beside = stop-of_other key cmp es k c found.0 found.2 (λ same. not_equal o test (sym ordered ∙ same)) in

@@ -1,4 +1,4 @@
--- An insertion by a key leaves a list in the order of its keys so.
+-- An insertion by a key keeps a list in the order of its keys.
 use Rattle.triple_ord.proofs.Words.{arith, ◌≡◌, ◌≢◌, ℕ, List, [], ◌∷◌, ◌++◌, Option, Some, None, IfSome, Result, Ok, Err, refl, sym, ap, Less, Equal, Greater, Entry, Chain, IsDistinct, after-insertion, with_item_among, IsInsertion, Tree}
 use Rattle.triple_ord.proofs.Words.{Gap, first_of, last_of, before, after, with_between, IsFirstEqual, IsInOrder, Aim, into, over, LiesBehind, subst, ◌∙◌, inl, inr, IfSome_then, IsTotalOrder, alike_right, ordering_reverse, Ordering}
 use Rattle.triple_ord.proofs.{Words.IsPlace, Words.InsertsBy, Words.GoesBy, Words.KeptOrderLaw, Words.OrdEntryKind, Words.New, Words.Replacing, Words.OrdInsertionError, Inserting.begins, Inserting.with_item-here}
@@ -15,7 +15,7 @@ listed-new {T} c d put item i g ins =
     record { entry = record { index = i; generation = g; item = item }; has = refl; listed = ap (λ (x : Chain T). x.entries) (after-insertion c d put item i g ins).1 }
 
 module _ {T K : Type 0} (key : T → K) (cmp : K → K → Ordering) (total : IsTotalOrder cmp) where
-  -- a new entry between one that isn't greater and one that isn't lesser
+  -- a new entry between one that isn't greater and one that isn't smaller
   module _ (e : Entry T) where
     abbrev LiesBetween : List (Entry T) → List (Entry T) → Type 0
     LiesBetween front back = IfSome (last_of None front) (λ f. cmp (key f.item) (key e.item) ≢ Greater)
@@ -29,7 +29,7 @@ module _ {T K : Type 0} (key : T → K) (cmp : K → K → Ordering) (total : Is
     in_order-between (x ∷ (y ∷ front)) back order lies = in_order-more key cmp x y (front ++ e ∷ back) (order [] (front ++ back) x y refl)
         (in_order-between (y ∷ front) back (IsInOrder-rest key cmp x (y ∷ front ++ back) order) lies)
 
-  -- another entry with an equal key in the place of one
+  -- an entry with an equal key in place of another
   module _ (e other : Entry T) (same : cmp (key e.item) (key other.item) ≡ Equal) where
     in_order-instead : (front back : List (Entry T)) → IsInOrder key cmp (front ++ e ∷ back) → IsInOrder key cmp (front ++ other ∷ back)
     in_order-instead [] [] order = in_order-one key cmp other
@@ -42,7 +42,7 @@ module _ {T K : Type 0} (key : T → K) (cmp : K → K → Ordering) (total : Is
         in_order-more key cmp x y (front ++ other ∷ back) (order [] (front ++ e ∷ back) x y refl)
         (in_order-instead (y ∷ front) back (IsInOrder-rest key cmp x (y ∷ front ++ e ∷ back) order))
 
-  -- what is equal to k lies to others as k does
+  -- what is equal to k has the same order to others as k
   module _ (k : K) (item : T) (equal : cmp k (key item) ≡ Equal) where
     behind : (l : K) → cmp k l ≢ Less → cmp l (key item) ≢ Greater
     behind l most more = most ((total.antisymm k l) ∙ ap ordering_reverse (alike_right total k (key item) l equal ∙ more))

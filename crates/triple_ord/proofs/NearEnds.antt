@@ -1,4 +1,4 @@
--- Where the steps from a near hint end: at the far neighbour of the gap where the key belongs.
+-- The steps from a near hint end at the far neighbour of the gap where the key belongs.
 use Rattle.std.proofs.Math.Seq.{drop-append_seam, take-append_seam}
 use Rattle.std.proofs.Common.{drop, take, false}
 use Rattle.std.proofs.lemmas.Bool.Decides.{nat_tests}
@@ -11,7 +11,7 @@ use Rattle.triple_ord.proofs.Stepping.{HasTurned, low-answered, high-answered, l
 use Rattle.triple_ord.specs.{Hint.way_end, Hint.AnswersNear, Steps.EndsNear}
 
 module _ {X : Type 0} where
-  -- lists that are cut at one place
+  -- lists cut at the same position
   same-front : (xs front back front0 back0 : List X) → xs ≡ front ++ back → xs ≡ front0 ++ back0 → length front ≡ length front0 → front ≡ front0
   same-front xs front back front0 back0 cut cut0 same =
       sym (take-append_seam front back) ∙ ap (take (length front)) (sym cut ∙ cut0) ∙ ap (λ n. take n (front0 ++ back0)) same ∙ take-append_seam front0 back0
@@ -30,7 +30,7 @@ module _ {T K : Type 0} (key : T → K) (cmp real : K → K → Ordering) (total
   within : length gap.front ≤ length es
   within = let n = ap length gap.cut in omega (arith, n, length-append gap.front gap.back)
 
-  -- where the entry behind the gap is reached
+  -- the entry after the gap is reached
   module _ (here : order_to key cmp k entry ≡ Less) where
     front-less : (o : Option (Entry T)) → last_of None front ≡ o → IfSome o (λ e. order_to key cmp k e ≡ Greater) → length gap.front ≡ length front
     front-less None none answered =
@@ -55,7 +55,7 @@ module _ {T K : Type 0} (key : T → K) (cmp real : K → K → Ordering) (total
           by Greater from (Some e) is turned f b = grind (arith, common_steps, nat_tests, f, b, from.3, from.4)
           by came from (Some e) is turned f b = absurd (cc)
 
-  -- where the entry before the gap is reached
+  -- the entry before the gap is reached
   module _ (here : order_to key cmp k entry ≡ Greater) where
     front-greater : (o : Option (Entry T)) → first_of back ≡ o → IfSome o (λ e. order_to key cmp k e ≡ Less) → length gap.front ≡ length (front ++ entry ∷ [])
     front-greater None none answered =
@@ -127,7 +127,7 @@ module _ {T K : Type 0} (key : T → K) (cmp : K → K → Ordering) (es : List 
       let more = real-greater _ (greater _ here) (stepping-unequal key cmp es k distinct start i visits came s real total ordered gap fits) in
       found-there Greater more (ends-greater key cmp real total es k lesser greater ordered gap fits start visits s.front s.entry s.back s.cut here same came s.from came_turned)
 
--- what a search from a hint returns, where the steps have an answer and where they leave it open
+-- the result of a search from a hint, if the steps have one and if they leave it open
 module _ {T K : Type 0} (key : T → K) (cmp : K → K → Ordering) (es : List (Entry T)) (k : K) (i num : ℕ) (P : Type 0) (pointer_of : P → ℕ × ℕ) where
   abbrev named_by : Option (P × Ordering) → Option ((ℕ × ℕ) × Ordering)
   named_by found = option_map (λ a. (pointer_of a.0, a.1)) found
@@ -140,6 +140,6 @@ module _ {T K : Type 0} (key : T → K) (cmp : K → K → Ordering) (es : List 
   open-answers None found visits near none = λ ordered there gap fits few. let far = near ordered gap fits in absurd (omega (arith, far, few))
   open-answers (Some a) found visits near none = absurd (cc)
 
-  -- a hint without an entry is none
+  -- a hint without an entry is no hint
   pub missing-answers : (found : Option (P × Ordering)) → is_some (entry_at es i) ≡ false → AnswersNear key cmp es k i num (named_by found)
   missing-answers found missing = λ ordered there gap fits few. absurd (cc)

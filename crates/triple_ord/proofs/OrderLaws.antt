@@ -1,4 +1,4 @@
--- The order of keys, lists in it, and lists in the order of a closure's answers: what searches and insertions by key make of them.
+-- The order of keys, lists in that order, and lists in the order of a closure's answers: how searches and insertions by key treat them.
 use Rattle.ord_tree.specs.Half.{IsHalf, half_rank}
 use Rattle.triple_ord.proofs.Words.{◌≡◌, ◌≢◌, refl, Ordering, Less, Equal, Greater, taken, Ties, Sought, Passed, ◌↔◌, true, false, ◌<◌, ◌≤◌, List, [], ◌∷◌, ◌++◌, IfSome, None, length, sym, ap, subst, ◌∙◌, arith, inl, inr, length-append}
 use Rattle.triple_ord.proofs.Words.{order_to, Fits, IsInOrder, ℕ, Some, ◌/◌, ◌-◌, cases_order, Contains, All-from_recursion, All-contains, AllByRecursion, IsTotalOrder, alike_right, ordering_reverse, is_gt, Entry, Gap, first_of, last_of}
@@ -22,7 +22,7 @@ module _ {K : Type 0} (cmp : K → K → Ordering) (k other : K) where
   taken-equal Sought equal = equal
   taken-equal Passed equal = absurd (passed-unequal equal)
 
--- what stands at a place of the front, and of the back, of a list that is cut in two
+-- the element at a position in the front or in the back of a list cut in two
 module _ {X : Type 0} (P : X → Type 0) where
   in_front : (low high front back : List X) (x : X) → low ++ high ≡ front ++ x ∷ back → AllByRecursion P low → length front < length low
       → P x
@@ -38,7 +38,7 @@ module _ {X : Type 0} (P : X → Type 0) where
   in_back [] [] (z ∷ front) back x cut all within = absurd (cc)
   in_back low high [] back x cut all within = absurd (grind (arith, common_steps))
 
--- in a total order: what is not greater than something lesser is lesser, and what is not less than something greater is greater
+-- in a total order, what isn't greater than something smaller is smaller, and what isn't less than something greater is greater
 module _ {K : Type 0} (cmp : K → K → Ordering) (total : IsTotalOrder cmp) where
   lesser_than : (a b k : K) (o : Ordering) → cmp a b ≡ o → o ≢ Greater → cmp b k ≡ Less → cmp a k ≡ Less
   lesser_than a b k Less is most less = total.trans a b k is less
@@ -58,7 +58,7 @@ module _ {T K : Type 0} (key : T → K) (cmp : K → K → Ordering) where
   pub IsInOrder-rest : (e : Entry T) (es : List (Entry T)) → IsInOrder key cmp (e ∷ es) → IsInOrder key cmp es
   IsInOrder-rest e es order front back f g cut = order (e ∷ front) back f g (ap (λ xs. e ∷ xs) cut)
 
-  -- a list of one entry is in order; one of more, where its first two are and the list from the second on is
+  -- a list of one entry is in order; a longer one is if its first two are and the list from the second on is
   pub in_order-one : (e : Entry T) → IsInOrder key cmp (e ∷ [])
   in_order-one e front back f g cut = absurd (omega (arith, ap length cut, length-append front (f ∷ g ∷ back)))
 
@@ -66,7 +66,7 @@ module _ {T K : Type 0} (key : T → K) (cmp : K → K → Ordering) where
   in_order-more e f es two rest [] back x y cut = grind (arith, common_steps, two)
   in_order-more e f es two rest (z ∷ front) back x y cut = rest front back x y (cc)
 
-  -- where the key of the first is greater than that of the second, or isn't
+  -- the key of the first is greater than that of the second, or isn't
   module _ (e f : Entry T) (es : List (Entry T)) (o : Ordering) (is : o ≡ cmp (key e.item) (key f.item)) where
     pub in_order-step : is_gt o ≡ false → IsInOrder key cmp (e ∷ f ∷ es) ↔ IsInOrder key cmp (f ∷ es)
     in_order-step less = (IsInOrder-rest e (f ∷ es), in_order-more e f es (λ greater. let both = rw (is ∙ greater) at less in cc))
@@ -96,7 +96,7 @@ module _ {T K : Type 0} (key : T → K) (cmp : K → K → Ordering) where
         let next = greater_after cmp total k (key e.item) (key f.item) _ refl (order [] back e f refl) first in
         (first, all_less (f ∷ back) (IsInOrder-rest e (f ∷ back) order) next)
 
-  -- a gap that fits k is its place
+  -- a gap that fits k is the place of k
   module _ (total : IsTotalOrder cmp) (k : K) (es : List (Entry T)) (sorted : IsInOrder key cmp es) (gap : Gap es)
       (fits : Fits key cmp gap k) where
     ordered : IsInOrder key cmp (gap.front ++ gap.back)
@@ -117,7 +117,7 @@ module _ {T K : Type 0} (key : T → K) (cmp : K → K → Ordering) where
       | inr high ↦ let less = All-contains (λ e. order_to key cmp k e ≡ Less) gap.back e place-fits.greater high in cc
     ]
 
-    -- an entry to which k doesn't lie Less stands before the gap, one to which it doesn't lie Greater behind it
+    -- an entry to which k isn't `Less` is before the gap, and one to which k isn't `Greater` is after it
     module _ (front back : List (Entry T)) (e : Entry T) (cut : es ≡ front ++ e ∷ back) where
       pub stands-before : order_to key cmp k e ≢ Less → length front < length gap.front
       stands-before more =
@@ -127,7 +127,7 @@ module _ {T K : Type 0} (key : T → K) (cmp : K → K → Ordering) where
       stands-behind less =
           grind (arith, less, in_front (λ x. order_to key cmp k x ≡ Greater) gap.front gap.back front back e (sym gap.cut ∙ cut) front_greater)
 
-  -- an entry that a search met is there
+  -- an entry found by a search exists
   not_absent : (k : K) (es : List (Entry T)) (e : Entry T) → IsFirstEqual key cmp es k e → IsAbsent key cmp es k → ⊥
   not_absent k es e met absent =
       let back = begins met.gap.back e met.here in
@@ -154,7 +154,7 @@ beside_place key cmp total entries k p order c sorted absent finds = (
   ],
 )
 
--- halves of one size have the same ranks
+-- halves of equal size have the same ranks
 same_half : (s t : Shape) (q : ℕ) → IsHalf q s → IsHalf q t → size_of s ≡ size_of t → ranks_of s ≡ ranks_of t
 same_half missing missing q a b same = refl
 same_half (node l i k r) (node l' i' k' r') q a b same =
@@ -163,7 +163,7 @@ same_half (node l i k r) (node l' i' k' r') q a b same =
     rw (same_half l l' (q - 1) a.2 b.2 lesser, same_half r r' (q - 1) a.3 b.3 greater, a.1 ∙ ap (λ n. half_rank n q) same ∙ sym b.1) refl
 same_half s t q a b same = absurd (omega (arith, same))
 
--- the top rank is one number
+-- the top rank is unique
 same_top : (n m p q : ℕ) → n ≡ m → IsTop n p → IsTop m q → p ≡ q
 same_top n m p q same a b = elim (cases_order a.0 b.0) [
   | inl one ↦ omega (arith, a.1, b.1, one)
@@ -173,12 +173,13 @@ same_top n m p q same a b = elim (cases_order a.0 b.0) [
 pub same_ranks : SameRanksLaw
 same_ranks s t a b same = same_half s t b.0 (subst (λ q. IsHalf q s) (same_top (size_of s) (size_of t) a.0 b.0 same a.1 b.1) a.2) b.2 same
 
--- what is true of each is true of the last
+-- what holds for each element holds for the last
 last_holds : {X : Type 0} (P : X → Type 0) (other : Option X) (xs : List X) → IfSome other P → AllByRecursion P xs → IfSome (last_of other xs) P
 last_holds P other [] is all = is
 last_holds P other (x ∷ xs) is all = last_holds P (Some x) xs all.0 all.1
 
--- of a list whose one part is so throughout, and whose other part isn't, all before one that is so are so, and all behind one
+-- a list whose first part satisfies P and whose second satisfies Q: all before an element with P satisfy P, all after one with Q satisfy
+-- Q
 module _ {X : Type 0} (P Q : X → Type 0) (apart : (x : X) → P x → Q x → ⊥) where
   all_before : (low high front back : List X) → low ++ high ≡ front ++ back → AllByRecursion P low → AllByRecursion Q high
       → IfSome (last_of None front) P → AllByRecursion P front
@@ -201,7 +202,7 @@ module _ {X : Type 0} (P Q : X → Type 0) (apart : (x : X) → P x → Q x → 
   all_behind (y ∷ low) high [] (x ∷ back) cut lows highs first = let same : y ≡ x = cc in absurd (apart x first (subst Q same lows.0))
   all_behind (y ∷ low) high (z ∷ front) back cut lows highs first = all_behind low high front back (cc) lows.1 highs first
 
--- a gap between an entry that is answered Greater and one that is answered Less
+-- a gap between an entry answered `Greater` and one answered `Less`
 module _ {T : Type 0} (answer : Entry T → Ordering) (entries : List (Entry T)) (ordered : AreAnsweredInOrder answer entries) (gap : Gap entries)
     (low : IfSome (before gap) (λ e. answer e ≡ Greater)) (high : IfSome (after gap) (λ e. answer e ≡ Less)) where
   more : AllByRecursion (λ e. answer e ≡ Greater) gap.front
@@ -222,12 +223,12 @@ module _ {T : Type 0} (answer : Entry T → Ordering) (entries : List (Entry T))
     | inr there ↦ let is = All-contains (λ e. answer e ≡ Less) gap.back e (All-from_recursion _ gap.back less) there in cc
   ]
 
--- nothing was found where the last answer isn't Equal
+-- nothing was found if the last answer isn't `Equal`
 not_found : {T : Type 0} (s : Shown T) → s.1 ≢ Equal → option_map pointer (where_equal (Some s)) ≡ None
 not_found s other = grind (arith, common_steps)
 
 module _ {T F : Type 0} (asks : F → Shown T → F → Type 0) (answer : Entry T → Ordering) (fixed : (before after : F) (s : Shown T) → asks before s after → s.1 ≡ answer s.0) where
-  -- each answer is that of its entry
+  -- each answer is the answer of its entry
   told : (f g : F) (shown : List (Shown T)) → FoldsTo asks f shown g → AllByRecursion (λ s. s.1 ≡ answer s.0) shown
   told f g [] folds = tt
   told f g (s ∷ shown) folds = (fixed f folds.0 s folds.1, told folds.0 g shown folds.2)

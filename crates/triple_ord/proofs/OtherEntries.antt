@@ -1,4 +1,4 @@
--- A search for the place of a key among all entries but one: what its answers say, and where it ends.
+-- A search for the place of a key among all entries but one: its answers, and its end.
 use Rattle.triple_ord.proofs.Words.{◌≡◌, ◌≢◌, ℕ, false, ◌+◌, ◌-◌, ◌≤◌, length, List, [], ◌∷◌, ◌++◌, Option, Some, None, IsSome, IfSome, refl, sym, ap, subst, ◌∙◌, arith, common_steps, inl, inr, append_assoc, option_map, cases_eq}
 use Rattle.triple_ord.proofs.Words.{All, AllByRecursion, All-from_recursion, All-contains, FoldsTo, Contains, Contains-push, Link, link_at, entry_at}
 use Rattle.triple_ord.proofs.Words.{Entry, times, IsDistinct, times-append, Shape, Gap, first_of, last_of, present, pointer, order_to, taken, Passed, Ordering, Less, Equal, Greater, Shown, IsDescending, HasDescended, similar_of, is_eq}
@@ -9,7 +9,7 @@ use Rattle.triple_ord.proofs.OrderLaws.{taken-less, taken-greater, passed-unequa
 use Rattle.triple_ord.specs.Around.{last_item, order_behind, AnswersAround, EndsAround, FindsAround}
 use Rattle.chain_base.specs.Chain.{without}
 
--- what each call says, of calls that leave nothing behind
+-- the property of each call, for calls that leave no state
 asked_all : {X : Type 0} (Q : X → Type 0) (xs : List X) (f g : Unit {0}) → FoldsTo {P = Unit {0}} (λ f s g. Q s) f xs g → AllByRecursion Q xs
 asked_all Q [] f g calls = tt
 asked_all Q (x ∷ xs) f g calls = (calls.1, asked_all Q xs calls.0 g calls.2)
@@ -17,7 +17,7 @@ asked_all Q (x ∷ xs) f g calls = (calls.1, asked_all Q xs calls.0 g calls.2)
 present-most : {X : Type 0} (o : Option X) → present o ≤ 1
 present-most o = grind (arith, common_steps)
 
--- no such answer is Equal
+-- no such answer is `Equal`
 pub passed-test : {K : Type 0} (cmp : K → K → Ordering) (k other : K) → is_eq (taken Passed cmp k other) ≡ false
 passed-test cmp k other = grind (arith, common_steps)
 
@@ -38,7 +38,7 @@ module _ {T : Type 0} (es : List (Entry T)) (distinct : IsDistinct es) (i g : �
       go None is = refl
       go (Some f) is = absurd (cc)
 
-  -- the entry before stands at the index that the link names
+  -- the previous entry is at the index that the link names
   before_at : (j : ℕ) → l.prev ≡ Some j → (f : Entry T) × (last_of None front ≡ Some f) × (entry_at es j ≡ Some (f.generation, f.item))
   before_at j some = go (last_of None front) refl (prev_is ∙ some)
     where
@@ -62,7 +62,7 @@ module _ {T K : Type 0} (key : T → K) (cmp : K → K → Ordering) (es : List 
   abbrev Asked : Shown T → Type 0
   Asked s = AnswersAround key cmp es i k s
 
-  -- the answer at the entry to be passed over, and at the one behind
+  -- the answer at the entry that is passed over, and at the one after it
   at_most : (o : Option (Entry T)) → Greater ≡ order_behind key cmp k (option_map (λ e. e.item) o) → IfSome o (λ f. order_to key cmp k f ≢ Less)
   at_most None greater = tt
   at_most (Some f) greater = taken-greater cmp k (key f.item) Passed (sym greater)
@@ -100,7 +100,7 @@ module _ {T K : Type 0} (key : T → K) (cmp : K → K → Ordering) (es : List 
           | inr other ↦ rw (last-kept i d.front e other some) (taken-greater cmp k (key e.item) Passed (sym (greater.other other)))
         ]
 
-    -- the entry that is passed over doesn't stand behind the gap: the entry before the gap answered for it
+    -- the entry that is passed over isn't after the gap: the entry before the gap answered for it
     clash : (f : Entry T) (ys : List (Entry T)) → d.back ≡ f ∷ ys → f.index ≡ i → (o : Option (Entry T)) → last_of None d.front ≡ o
         → Less ≡ order_behind key cmp k (option_map (λ e. e.item) o) → ⊥
     clash f ys is same None none less = cc
@@ -122,7 +122,7 @@ module _ {T K : Type 0} (key : T → K) (cmp : K → K → Ordering) (es : List 
           | inr other ↦ rw (is, first-kept i (f ∷ ys) f other refl) (taken-less cmp k (key f.item) Passed (sym (less.other other)))
         ]
 
-    -- the gap has no more neighbours once the entry is gone
+    -- the gap has at most as many neighbours without the entry
     present-front : (o : Option (Entry T)) → last_of None d.front ≡ o → present (last_of None (without i d.front)) ≤ present o
     present-front None none = rw (no_last d.front none) (omega arith)
     present-front (Some e) some = present-most (last_of None (without i d.front))
@@ -160,7 +160,7 @@ module _ {T K : Type 0} (key : T → K) (cmp : K → K → Ordering) (es : List 
           },
         )
 
-  -- the way has come to its end
+  -- the descent has come to its end
   pub descent-around : (shape : Shape) (before visits : ℕ) (last : Option ((ℕ × ℕ) × Ordering)) → HasDescended {F = Unit {0}} (λ f s g. Asked s) es shape before tt tt None visits last
       → FindsAround key cmp es i k last (visits - before)
   descent-around shape before visits last d =

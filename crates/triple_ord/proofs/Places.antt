@@ -1,4 +1,4 @@
--- The place of an insertion, from what a search answers or from an index.
+-- The place of an insertion, from the answer of a search or from an index.
 use Rattle.triple_ord.proofs.Words.{◌≡◌, ◌≢◌, ◌==◌, if◌then◌else◌, IfNone, is_some, ℕ, ◌+◌, ◌≤◌, false, true, length, List, [], ◌∷◌, ◌++◌, Option, Some, None, IsSome, Result, Ok, Err, IfErr, refl, sym, ap, ◌∙◌, arith, append_assoc, eq-eqb}
 use Rattle.triple_ord.proofs.Words.{after, with_between, FindsSimilar, taken, Ties, Sought, Passed, Aim, alone, at_key, behind_key, beside, Place, into, over, nowhere, IsPlace, aim_of, Growth, within, reallocating, slice_get_cases}
 use Rattle.triple_ord.proofs.Words.{with_room_by, Entry, Chain, entry_at, next_index, IsDistinct, IsSound, IsInsertion, Tree, IsGrown, put_on, put_at, nat_tests, nil_from_length, IfSome_then, option_map, is_eq, Ordering, Less, Equal}
@@ -13,7 +13,7 @@ use Rattle.triple_ord.specs.{declared.error.OrdInsertionError.TheVariants.Beyond
 pub item_here : {T : Type 0} (t : Tree T) (i : ℕ) (x : ℕ × T) → entry_at t.list.entries i ≡ Some x → IsSome (item_of t (i, x.0))
 item_here t i x there = rw (there, eq-eqb x.0 x.0 refl) refl
 
--- a side of the entry that has an index is a gap
+-- a side of the entry with an index is a gap
 module _ {T K : Type 0} (key : T → K) (cmp : K → K → Ordering) (es : List (Entry T)) (distinct : IsDistinct es) (i : ℕ) (there : IsSome (entry_at es i)) where
   pub record OnSide (o : Ordering) : Type 0 where
     pub gap : Gap es
@@ -63,7 +63,7 @@ module _ {P T K : Type 0} (numbers : P → ℕ × ℕ) (key : T → K) (cmp : K 
             seen = record { some = λ some. similar-seen key cmp t.list.entries k distinct (numbers p) o c found; beside = tt };
           }
 
-  -- a place by the order in which equal keys count as lesser lies behind the key
+  -- a place by the order with equal keys counting as smaller lies behind the key
   behind : (k : K) (place : Place t.list.entries) → IsPlace key (taken Passed cmp) (at_key k) place → IsPlace key cmp (behind_key k) place
   behind k (into gap) at = record {
     at_most_before = IfSome_then (before gap) at.lesser_before (λ e lesser. taken-greater cmp k (key e.item) Passed lesser);
@@ -72,7 +72,7 @@ module _ {P T K : Type 0} (numbers : P → ℕ × ℕ) (key : T → K) (cmp : K 
   behind k (over e) at = absurd (passed-unequal cmp k (key e.item) at.equal)
   behind k nowhere at = absurd at
 
-  -- the place by a key, by what the search made of equal keys
+  -- the place by a key, by how the search treats equal keys
   abbrev IsFoundBy : K → ℕ → InsertPlace P → Ties → Type 0
   IsFoundBy k c kept ties = IsFoundPlace numbers key (taken ties cmp) t (at_key k) c kept
 
@@ -94,7 +94,7 @@ module _ {P T K : Type 0} (numbers : P → ℕ × ℕ) (key : T → K) (cmp : K 
           let chosen = behind k f.place f.chosen in
           record { place = f.place; chosen = chosen; keeps = f.keeps; visits = record { seen = f.seen; bounded = bounded; unhinted = unhinted; near = near } }
 
-  -- the entry that has an index: beside it, or in its place
+  -- the entry with an index: beside it, or in place of its item
   module _ (distinct : IsDistinct t.list.entries) (p : P) (i g : ℕ) (item : T) (named : numbers p ≡ (i, g)) (there : entry_at t.list.entries i ≡ Some (g, item)) where
     pub beside-over : IsPlaceBeside numbers key cmp t (beside i Equal) (Some (Replacing p))
     beside-over = (over (record { index = i; generation = g; item = item }), (refl, there), (named, rw named (item_here t i (g, item) there)))
@@ -106,7 +106,7 @@ module _ {P T K : Type 0} (numbers : P → ℕ × ℕ) (key : T → K) (cmp : K 
         let index : (numbers p).0 ≡ i = ap (λ n. n.0) named in
         (into side.gap, side.at, ((rw index some, other), rw index side.puts))
 
-  -- alone, where there is no entry
+  -- as the only entry
   pub alone-here : (length t.list.entries == 0) ≡ true → IsPlaceBeside numbers key cmp t alone (Some (New None))
   alone-here test =
       let is = nil_from_length t.list.entries (grind (arith, nat_tests)) in
@@ -115,7 +115,7 @@ module _ {P T K : Type 0} (numbers : P → ℕ × ℕ) (key : T → K) (cmp : K 
   pub alone-refused : (length t.list.entries == 0) ≡ false → IsPlaceBeside numbers key cmp t alone None
   alone-refused test empty = absurd (let n : length t.list.entries ≡ 0 = ap length empty in grind (arith, nat_tests))
 
--- a place beside an entry, or alone, is a gap
+-- a place beside an entry, or for the only one, is a gap
 module _ {P T : Type 0} (numbers : P → ℕ × ℕ) (t : Tree T) (distinct : IsDistinct t.list.entries) where
   pub put-gap : (at : Option (P × Ordering)) → HasRoomAt numbers at t.list
       → (gap : Gap t.list.entries) × ((new : Entry T) → put_at (λ p. (numbers p).0) at t.list.entries new ≡ with_between gap new)
@@ -126,7 +126,7 @@ module _ {P T : Type 0} (numbers : P → ℕ × ℕ) (t : Tree T) (distinct : Is
       let side = on-side (λ (item : T). tt {0}) (λ k l. Equal) t.list.entries distinct (numbers p).0 can.0 o can.1 in
       (side.gap, side.puts)
 
--- an insertion gives the pointer that was next
+-- an insertion returns the pointer that was next
 module _ {T : Type 0} (c d : Chain T) (put : Entry T → List (Entry T)) (item : T) (i g j h : ℕ) (next : next_index c ≡ Some j)
     (era : h ≡ c.generation) where
   pub insertion-named : IsInsertion c d put item i g → IsInsertion c d put item j h
@@ -134,11 +134,11 @@ module _ {T : Type 0} (c d : Chain T) (put : Entry T → List (Entry T)) (item :
       let index : i ≡ j = let was = ins.next in cc in
       rw (← index, era ∙ sym ins.generation) ins
 
--- a refusal that a `?` passes on
+-- an error that a `?` passes on
 pub err-and : {X E : Type 0} {Q R : E → Type 0} (r : Result X E) → IsErrAnd r Q → ((e : E) → Q e → R e) → IfErr r R
 err-and r has step = grind (arith, common_steps)
 
--- at a gap that is its place a new entry that has no slot is refused
+-- a new entry for a gap that is its place fails without a slot
 module _ {T K : Type 0} (key : T → K) (cmp : K → K → Ordering) (most : ℕ) (aim : Aim K) (old : Tree T) (gap : Gap old.list.entries)
     (at : IsPlace key cmp aim (into gap)) where
   gap-refused : (growth : Growth) (e : OrdInsertionError) → LacksSlot growth most old.list e → IsRefused key cmp most growth aim old e
@@ -159,11 +159,11 @@ module _ {P T K I G : Type 0} (numbers : P → ℕ × ℕ) (key : T → K) (cmp 
       go (into gap) chosen keeps = gap-refused key cmp most (aim_of number kind) old gap chosen growth e lacks
       go place chosen keeps = absurd keeps
 
--- no slot is vacant where no index comes next
+-- no slot is vacant if there is no next index
 pub full : {T : Type 0} (most : ℕ) (greatest : Option ℕ) (c : Chain T) → IsSound most greatest c → next_index c ≡ None → length c.entries ≡ c.capacity
 full most greatest c sound none = grind (arith, common_steps, slice_get_cases c.vacant 0, sound.counted)
 
--- an insertion beside the entry that has an index
+-- an insertion beside the entry with an index
 module _ {T : Type 0} (most : ℕ) (old new : Tree T) (distinct : IsDistinct old.list.entries) (item : T) (i : ℕ) where
   pub record IsBesideDone (o : Ordering) (before : Option T) : Type 0 where
     pub inserts : InsertsBeside most i o old item (Ok before) new

@@ -1,4 +1,4 @@
--- An entry that goes to the place of its key leaves the keys in order, if those of the others are.
+-- Moving an entry to the place of its key leaves the keys in order if those of the others are.
 use Rattle.triple_ord.proofs.Words.{◌≡◌, ◌≢◌, ℕ, List, [], ◌∷◌, refl, sym, ap, subst, ◌∙◌, inl, inr, eqb_tells, IfSome_then, IsTotalOrder, alike_right, ordering_reverse, Ordering, Less, Equal, Greater}
 use Rattle.triple_ord.proofs.Words.{Entry, Tree, IsInOrder, before, after, with_item}
 use Rattle.triple_ord.proofs.Without.{without-written}

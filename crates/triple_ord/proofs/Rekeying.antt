@@ -1,4 +1,4 @@
--- An entry that gets another item and goes to a gap of its list.
+-- An entry that gets another item and moves to a gap of its list.
 use Rattle.std.specs.Ordering.{is_lt}
 use Rattle.triple_ord.proofs.Words.{true, false, ◌≡◌, ◌≢◌, ℕ, ◌+◌, ◌≤◌, List, [], ◌∷◌, ◌++◌, Option, Some, None, IfSome, IsSome, length, refl, sym, ap, subst, ◌∙◌, arith, common_steps, eqb_tells, inl, inr, ◌⊎◌, append_assoc, option_map, IfSome_then}
 use Rattle.triple_ord.proofs.Words.{Entry, Chain, times, IsDistinct, entry_at, times-append, with_item_among, entry_at-with_item_among, entry_at-with_item_among_other, entry_at-without_other, length-without}
@@ -56,7 +56,7 @@ module _ {T K : Type 0} (key : T → K) (cmp : K → K → Ordering) (es : List 
         (entry_at-with_item_among es i item ∙ ap (option_map (λ (x : ℕ × T). (x.0, item))) there)
         ∙ ap (λ (es : List (Entry T)). put_on o e.index es entry) (without-written i es item) ∙ put-left other
 
-    -- or where it stood
+    -- or at its old position
     pub listed-left : e.index ≡ i → with_item_among es i item ≡ put_there
     listed-left same =
         let has : (e.generation, e.item) ≡ (p.1, was) = let at = sym found_here ∙ ap (entry_at es) same ∙ there in cc in
@@ -116,7 +116,7 @@ module _ {T K : Type 0} (key : T → K) (cmp : K → K → Ordering) (old new : 
         seen = ended.seen;
       }
 
-  -- it stays where it stood
+  -- it stays in its place
   pub rekeyed_left : p.0 ≡ q.0 → new ≡ with_item old p.0 item → RekeysCounted key cmp old p item c new
   rekeyed_left same after =
       rekeyed
@@ -128,7 +128,7 @@ module _ {T K : Type 0} (key : T → K) (cmp : K → K → Ordering) (old new : 
     index_other : e.index ≢ p.0
     index_other same = other (sym same ∙ index_is)
 
-    -- it can go beside another
+    -- it can move beside another entry
     pub occupied_there : IsSome (entry_at (without p.0 (with_item old p.0 item).list.entries) q.0)
     occupied_there =
         let back : q.0 ≢ p.0 = λ same. other (sym same) in
@@ -159,7 +159,7 @@ less_by o test = grind (arith, common_steps)
 pub greater_by : (o : Ordering) → is_lt o ≡ false → o ≢ Equal → o ≡ Greater
 greater_by o test unequal = grind (arith, common_steps)
 
--- an entry that stands directly on a side of another already
+-- an entry that is already directly on a side of another
 module _ {T : Type 0} (c : Chain T) (distinct : IsDistinct c.entries) (i q g : ℕ) (l : Link T) (there : link_at c.entries q ≡ Some (g, l)) (apart : q ≢ i) where
   abbrev at : StandsAt c.entries q
   at = stands c.entries q (rw (entry_at-link None None c.entries q, there) refl)
@@ -167,7 +167,7 @@ module _ {T : Type 0} (c : Chain T) (distinct : IsDistinct c.entries) (i q g : �
   linked : IsLinked at.front at.entry at.back g l
   linked = link-read c.entries distinct at.front at.entry at.back at.cut g l (ap (link_at c.entries) at.here ∙ there)
 
-  -- f stands between these parts
+  -- f is between these parts
   module _ (front back : List (Entry T)) (f : Entry T) (here : f.index ≡ i) (cut : c.entries ≡ front ++ f ∷ back) where
     alone : times i (front ++ back) ≡ 0
     alone = ap (λ n. times n (front ++ back)) (sym here) ∙ nowhere_else c.entries distinct front f back cut
@@ -205,7 +205,7 @@ module _ {T : Type 0} (c : Chain T) (distinct : IsDistinct c.entries) (i q g : �
       ap (λ es. record c { entries = es }) (at.cut ∙ ap (λ xs. at.front ++ at.entry ∷ xs) begin.1 ∙ sym put ∙ ap (λ k. insert_after k n.0 ((at.front ++ at.entry ∷ []) ++ begin.0)) at.here
       ∙ sym (put_again (at.front ++ at.entry ∷ []) begin.0 n.0 n.2 cut Greater))
 
--- two pointers are one, or differ
+-- two pointers are equal or differ
 cases_pair : (q p : ℕ × ℕ) → (q ≡ p) ⊎ (q ≢ p)
 cases_pair q p = elim (cases_eq q.0 p.0) [
   | inl a ↦ elim (cases_eq q.1 p.1) [
@@ -215,7 +215,7 @@ cases_pair q p = elim (cases_eq q.0 p.0) [
   | inr a ↦ inr (λ same. a (ap (λ (x : ℕ × ℕ). x.0) same))
 ]
 
--- an entry with the item that it has
+-- an entry with its own item
 module _ {T : Type 0} where
   with_own_item : (es : List (Entry T)) (i g : ℕ) (item : T) → entry_at es i ≡ Some (g, item) → with_item_among es i item ≡ es
   with_own_item [] i g item there = refl
@@ -239,7 +239,7 @@ module _ {T : Type 0} where
   own_item old p item is =
       ap (λ es. record old { list = record old.list { entries = es } }) (sym (with_own_item old.list.entries p.0 p.1 item (entry_of old p item is)))
 
-  -- where a pointer finds what it found, every pointer does
+  -- if a pointer finds what it found before, every pointer does
   pub same-found : (old new : Tree T) (p : ℕ × ℕ) (item : T) → item_of old p ≡ Some item → Updates old new p (Some item) → FindSame old new
   same-found old new p item is updates q = elim (cases_pair q p) [
     | inl same ↦ ap (item_of new) same ∙ updates.changed ∙ sym is ∙ ap (item_of old) (sym same)

@@ -1,4 +1,4 @@
--- Going along a list: walks, forward and back; steps from a hint, and a search that first makes them, with how many entries are visited.
+-- Walking along a list, forward and back; steps from a hint, and a search that first makes them, with the number of entries visited.
 use Rattle.std.proofs.Math.Nat.{pow-le-pow_left}
 use Rattle.triple_ord.proofs.Words.{◌≡◌, ◌≢◌, ℕ, true, false, not, ◌==◌, ◌+◌, ◌≤◌, List, [], ◌∷◌, ◌++◌, Option, Some, None, IsSome, IfSome, length, refl, sym, ap, ◌∙◌, arith, inl, inr, ◌⊎◌, append_assoc, length-append, option_map}
 use Rattle.triple_ord.proofs.Words.{IsTotalOrder, entry_at, link_at, Gap, first_of, last_of, present, order_to, pointer, Fits, FindsSimilar, IsInOrder, is_eq, ordering_index, ordering_reverse, Ordering, Less, Equal, Greater, Link, Entry}
@@ -26,7 +26,7 @@ module _ {T : Type 0} where
     at_entry after =
         rw (← index, ← era, ← same, ← after, follows es front e back distinct cut) (from_index-here es distinct front e back cut)
 
-  -- the entry that is shown at an index, and then the entries from its neighbour on
+  -- the entry shown at an index, and the entries from its neighbour on
   module _ (es : List (Entry T)) (i g : ℕ) (l : Link T) (distinct : IsDistinct es) where
     pub walk-step : Some (g, l) ≡ link_at es i
         → entries_left es (Some i) ≡ record { index = i; generation = g; item = l.item } ∷ entries_left es l.next
@@ -55,7 +55,7 @@ module _ {T : Type 0} where
   pub walk-end : (es : List (Entry T)) (i : ℕ) → None ≡ link_at es i → entries_left es (Some i) ≡ []
   walk-end es i missing = from-absent i es (link-absent es i missing)
 
-  -- A list of entries from its end: each entry's neighbours change places. So a walk back along a list is one along the list from its end.
+  -- A list of entries in reverse: each entry's neighbours change places. So a walk back along a list is a walk along the reversed list.
   times-reverse : (i : ℕ) (es : List (Entry T)) → times i (reverse es) ≡ times i es
   times-reverse i [] = refl
   times-reverse i (e ∷ es) = ap (times i) (reverse-append (e ∷ []) es) ∙ omega (arith, times-reverse i es, times-append i (reverse es) (e ∷ []))
@@ -96,7 +96,7 @@ module _ {T : Type 0} where
     rest-missing false none = ap (map pointer) (walk-end a.list.entries i none)
     rest-missing true none = ap (map pointer) (from-absent i (reverse a.list.entries) (times-reverse i a.list.entries ∙ link-absent a.list.entries i none))
 
--- a gap has a neighbour on each side where there are entries
+-- a gap has a neighbour on each side that has entries
 after-count : {X : Type 0} (back : List X) → (present (first_of back) ≡ 1) ⊎ ((present (first_of back) ≡ 0) × (length back ≡ 0))
 after-count back = grind (arith, common_steps)
 
@@ -125,7 +125,7 @@ module _ {T K : Type 0} (key : T → K) (cmp : K → K → Ordering) (es : List 
         few = omega (arith, all);
       }
 
-  -- the order turned, if there is an entry on this side
+  -- the order has turned, if there is an entry on this side
   abbrev pub HasTurned : Ordering → Ordering → Option ℕ → Type 0
   HasTurned came o beside = IfSome beside (λ j. o ≡ ordering_reverse came)
 
@@ -136,7 +136,7 @@ module _ {T K : Type 0} (key : T → K) (cmp : K → K → Ordering) (es : List 
     abbrev pub IsAnswered : Ordering → Option (Entry T) → Type 0
     IsAnswered o beside = IfSome beside (λ e. order_to key cmp k e ≡ o) × (present beside ≤ visits)
 
-    -- as long as the order stays, each step goes one place further
+    -- as long as the order is the same, each step goes one position further
     place-less : (came : Ordering) → CameHere came → Less ≢ ordering_reverse came → length front + visits ≡ start
     place-less Greater from ahead = absurd (ahead refl)
     place-less came from ahead = omega arith
@@ -145,7 +145,7 @@ module _ {T K : Type 0} (key : T → K) (cmp : K → K → Ordering) (es : List 
     place-greater Less from ahead = absurd (ahead refl)
     place-greater came from ahead = omega arith
 
-    -- where the order turns, the steps came from the entry on the other side; else there is none
+    -- if the order turns, the steps came from the entry on the other side; otherwise there is none
     pub low-answered : (came : Ordering) → CameHere came → (o : Option (Entry T)) → last_of None front ≡ o
         → HasTurned came Less (option_map (λ e. e.index) o) → IsAnswered Greater o
     low-answered came from None is turned = (tt, omega arith)
@@ -206,7 +206,7 @@ module _ {T K : Type 0} (key : T → K) (cmp : K → K → Ordering) (es : List 
       pub named : (pointer s.entry) ≡ (i, generation)
       named = let g = linked.generation in let h = s.here in cc
 
-      -- the steps end with an answer
+      -- the steps end with a result
       pub stepping-settles : (o : Ordering) → o ≡ cmp k (key l.item) → is_eq o ≡ false → HasTurned came o (neighbour_towards l o)
           → FindsSimilar key cmp es k (Some ((i, generation), o)) (visits + 1)
       stepping-settles Less order other turned =
@@ -228,7 +228,7 @@ module _ {T K : Type 0} (key : T → K) (cmp : K → K → Ordering) (es : List 
           let high = stands-behind key real total k es ordered gap fits s.front s.back s.entry s.cut (λ greater. let both = equal in cc) in
           absurd (omega (arith, low, high))
 
-      -- the steps go towards that gap, and this one not beyond its far neighbour, where an order that is taken is not the contrary
+      -- the steps go towards that gap and not beyond its far neighbour, if the order used agrees with the real one
       pub stepping-near : ((other : K) → cmp k other ≡ Less → real k other ≡ Less) → ((other : K) → cmp k other ≡ Greater → real k other ≢ Less)
           → visits + 1 ≤ way_length gap start
       stepping-near lesser greater = by_way came s.from
@@ -253,16 +253,16 @@ module _ {T K : Type 0} (key : T → K) (cmp : K → K → Ordering) (es : List 
               let counted = ap length end.1 ∙ length-append end.0 (from.0 ∷ []) in
               grind (arith, common_steps, from.3, from.4, before, counted, after-count gap.back, cut-gap, cut-here)
 
--- orders that are told apart by a test
+-- orders distinguished by a test
 pub apart : (o p : Ordering) → not (ordering_index o == ordering_index p) ≡ true → o ≢ p
 apart o p test same = grind (arith, common_steps)
 
 pub alike : (o p : Ordering) → not (ordering_index o == ordering_index p) ≡ false → o ≡ p
 alike o p test = grind (arith, common_steps)
 
--- A search that first makes steps from a hint: what it answers, and how many entries it visits.
+-- A search that first makes steps from a hint: its result, and how many entries it visits.
 module _ {T K : Type 0} (key : T → K) (cmp : K → K → Ordering) (es : List (Entry T)) (k : K) where
-  -- a search that visits more has seen no less
+  -- a search with more visits has seen no less
   pub FindsSimilar-more : (found : Option ((ℕ × ℕ) × Ordering)) (c d : ℕ) → c ≤ d → FindsSimilar key cmp es k found c → FindsSimilar key cmp es k found d
   FindsSimilar-more None c d more empty = empty
   FindsSimilar-more (Some a) c d more found = (found.0, found.1, seen found.2)
@@ -275,13 +275,13 @@ module _ {T K : Type 0} (key : T → K) (cmp : K → K → Ordering) (es : List 
     abbrev named_by : Option (P × Ordering) → Option ((ℕ × ℕ) × Ordering)
     named_by found = option_map (λ a. (pointer_of a.0, a.1)) found
 
-    -- where the steps have an answer, it is the search's
+    -- if the steps have a result, it is the search's
     pub settled-similar : (found : Option (P × Ordering)) → Settles key cmp es k (named_by found) visits → is_some found ≡ true
         → FindsSimilar key cmp es k (named_by found) visits
     settled-similar (Some a) settled some = settled
     settled-similar None settled some = absurd (cc)
 
-  -- the steps leave it open only where the hint is too far away
+  -- the steps leave it open only if the hint is too far away
   module _ {X : Type 0} (i num visits : ℕ) where
     pub settled-near : (found : Option X) → IsNear key cmp es k i num found visits → is_some found ≡ true → IsNearHint key cmp es k i num visits
     settled-near None near some = absurd (cc)
@@ -291,7 +291,7 @@ module _ {T K : Type 0} (key : T → K) (cmp : K → K → Ordering) (es : List 
     open-near None c near none = λ ordered there gap fits few. let far = near ordered gap fits in absurd (omega (arith, far, few))
     open-near (Some x) c near none = absurd (cc)
 
--- no visit at all is within the bounds
+-- zero visits are within the bounds
 pub unvisited : (n : ℕ) (shape : Shape) → IsWithinBounds n shape 0
 unvisited n shape = record {
   ranked = λ some. let four : 2 ^ 2 ≤ (n + 1) ^ 2 = pow-le-pow_left {n = 2} {m = n + 1} (omega (arith, some)) 2 in omega (arith, four);
@@ -304,6 +304,6 @@ pub hinted-whole : (n : ℕ) (shape : Shape) (num steps c : ℕ) → steps ≤ n
 hinted-whole n shape num steps c few within more bounded =
     record { steps = steps; search = c - steps; sum = omega (arith, more); few = few; within = within; bounded = bounded }
 
--- where the hint has an entry, nothing is claimed of a hint without one
+-- if the hint has an entry, nothing is claimed about a hint without one
 pub named-unhinted : {X : Type 0} (P : Type 0) (o : Option X) → true ≡ is_some o → IfNone o P
 named-unhinted P o there = grind (arith, common_steps)

@@ -1,4 +1,4 @@
--- A list without the entry at an index: its ends, its parts, and how often an index stands in it.
+-- A list without the entry at an index: its ends, its parts, and how often an index occurs in it.
 use Rattle.triple_ord.proofs.Words.{◌≡◌, ◌≢◌, ℕ, ◌+◌, ◌≤◌, List, [], ◌∷◌, ◌++◌, Some, None, refl, sym, ap, ◌∙◌, arith, common_steps, eqb_tells, inl, inr}
 use Rattle.triple_ord.proofs.Words.{Entry, times, times-append, with_item_among, first_of, last_of}
 use Rattle.triple_ord.proofs.Inserting.{ends, last_of-append}

@@ -1,4 +1,4 @@
--- The words of std and of the definitions that the proofs of this crate speak with.
+-- The names from std and from the definitions that the proofs of this crate use.
 pub use Rattle.std.proofs.Common.{◌≡◌, ◌≢◌, ◌↔◌, ℕ, inl, inr, List, [], ◌∷◌, ◌++◌, Option, Some, None, IfSome, refl, sym, ap, subst, ◌∙◌}
 pub use Rattle.std.proofs.Common.{append_assoc, length, IsSome, is_some, ◌⊎◌, map, zero, suc, ◌+◌, ◌-◌, ◌^◌, ◌<◌, ◌≤◌, arith, true, false}
 pub use Rattle.std.proofs.Common.{Bool, slice_get, length-append, IfNone, OnSome, Ok, if◌then◌else◌, Result, Err, Bor, get_or, take, drop}

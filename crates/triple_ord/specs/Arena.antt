@@ -1,12 +1,12 @@
--- An ordered arena as its callers see it: what pointers find in it, and its entries in order. A pointer is the pair of its
--- index and its generation.
+-- An ordered arena as its callers see it: what pointers find in it, and its entries in order. A pointer is the pair of its index and its
+-- generation.
 use Rattle.std.specs.{Prelude.◌≡◌, Prelude.◌≢◌, Prelude.ℕ, Prelude.◌+◌, Prelude.List, Prelude.Option, Prelude.None, Prelude.IsSomeAnd, Prelude.length, Prelude.map, Prelude.slice_get, declared.cmp.Ordering.Ordering}
 use Rattle.chain_base.specs.Chain.{entry_at as entry_among, item_of as item_among}
 use Rattle.ord_tree.specs.Tree.{Tree}
 use Rattle.triple_ord.specs.Search.{pointer}
 
 module _ {T : Type 0} where
-  -- the item that the pointer names; none where it names no entry
+  -- the item that the pointer names, if any
   abbrev pub item_of : Tree T → ℕ × ℕ → Option T
   item_of a p = item_among a.list.entries p
 
@@ -22,30 +22,31 @@ module _ {T : Type 0} where
   abbrev pub pointers : Tree T → List (ℕ × ℕ)
   pointers a = map pointer a.list.entries
 
-  -- how many entries there are
+  -- the number of entries
   abbrev pub count : Tree T → ℕ
   count a = length a.list.entries
 
-  -- from old to new, a pointer finds this now, and every other pointer finds what it found
+  -- from old to new, p comes to find `found`, and every other pointer finds what it found before
   pub record Updates (old new : Tree T) (p : ℕ × ℕ) (found : Option T) : Type 0 where
     pub changed : item_of new p ≡ found
     pub others : (q : ℕ × ℕ) → q ≢ p → item_of new q ≡ item_of old q
 
-  -- every pointer finds in both the same
+  -- every pointer finds the same in both
   abbrev pub FindSame : Tree T → Tree T → Type 0
   FindSame old new = (p : ℕ × ℕ) → item_of new p ≡ item_of old p
 
-  -- from old to new, the entry of p has the pointer q: p finds nothing more, and every third pointer finds what it found
+  -- from old to new, the entry of p gets the pointer q: p no longer finds anything, unless it equals q, and all other pointers find the
+  -- same
   pub record Renews (old new : Tree T) (p q : ℕ × ℕ) : Type 0 where
     pub found : item_of new q ≡ item_of old p
     pub ended : q ≢ p → item_of new p ≡ None
     pub others : (r : ℕ × ℕ) → r ≢ p → r ≢ q → item_of new r ≡ item_of old r
 
-  -- all entries have the generation g: a pointer of another one finds nothing
+  -- all entries have the generation g: a pointer with another generation finds nothing
   abbrev pub IsOfGeneration : Tree T → ℕ → Type 0
   IsOfGeneration a g = (p : ℕ × ℕ) → p.1 ≢ g → item_of a p ≡ None
 
-  -- the pointers of the indexes 1, 2 and so on, with generation g, find these items in turn, and no other pointer finds anything
+  -- the pointers with the indexes 1, 2 and so on and generation g find these items in turn; no other pointer finds anything
   pub record IsNumbered (a : Tree T) (g : ℕ) (found : List T) : Type 0 where
     pub inside : (k : ℕ) → item_of a (k + 1, g) ≡ slice_get found k
     pub outside : (k : ℕ) → item_of a (0, k) ≡ None
@@ -55,6 +56,6 @@ module _ {T : Type 0} where
   abbrev pub FindsNothing : Tree T → Type 0
   FindsNothing a = (p : ℕ × ℕ) → item_of a p ≡ None
 
--- the pointer finds an item, and k lies so to its key
+-- the pointer finds an item, and `order` is the order of k to its key
 abbrev pub FindsBy : {T K : Type 0} → (T → K) → (K → K → Ordering) → Tree T → K → ℕ × ℕ → Ordering → Type 0
 FindsBy key cmp a k p order = IsSomeAnd (item_of a p) (λ item. cmp k (key item) ≡ order)

@@ -1,5 +1,4 @@
--- What the calls of an ordered arena do to the finite map that it is. The impl of `ArenaTrait` cites these laws; no public clause
--- does.
+-- How the calls of an ordered arena change its finite map. The impl of `ArenaTrait` cites these laws; no public clause does.
 use Rattle.std.proofs.Common.{◌≡◌, ◌≢◌, ℕ, zero, suc, ◌+◌, ◌<◌, ◌≤◌, length, count_by, is_some, cond, replicate, Option, None, List, [], ◌∷◌, get_or, set, refl, sym, ap, ◌∙◌, arith, inl, inr}
 use Rattle.std.proofs.{lemmas.Bool.Decides.eqb_tells, lemmas.Bool.Decides.leb_tells, lemmas.List.Sums.sum_by-cons}
 use Rattle.std.specs.Option.{option_map}
@@ -18,7 +17,7 @@ module _ {T : Type 0} where
   length-slots es from zero = refl
   length-slots es from (suc n) = ap suc (length-slots es (from + 1) n)
 
-  -- a slot has the entry of its index
+  -- a slot holds the entry of its index
   pub slots-within : (es : List (Entry T)) (from n k : ℕ) → k < n → get_or (slots_from es from n) k None ≡ entry_at es (from + k)
   slots-within es from (suc n) zero h = ap (entry_at es) (let e : from ≡ from + 0 = omega arith in e)
   slots-within es from (suc n) (suc k) h =
@@ -30,14 +29,14 @@ module _ {T : Type 0} where
   slots-beyond es from (suc n) zero h = absurd (omega (arith, h))
   slots-beyond es from (suc n) (suc k) h = slots-beyond es (from + 1) n k (omega (arith, h))
 
-  -- lists that have the same entries at these indexes have the same slots
+  -- lists with the same entries at these indexes have the same slots
   pub slots-alike : (es fs : List (Entry T)) (from n : ℕ) → ((i : ℕ) → from ≤ i → i < from + n → entry_at fs i ≡ entry_at es i)
       → slots_from fs from n ≡ slots_from es from n
   slots-alike es fs from zero same = refl
   slots-alike es fs from (suc n) same = ap (λ s. s ∷ slots_from fs (from + 1) n) (same from (omega arith) (omega arith))
       ∙ ap (λ ss. entry_at es from ∷ ss) (slots-alike es fs (from + 1) n (λ i least most. same i (omega (arith, least)) (omega (arith, most))))
 
-  -- the slots of fs, which is es but that `h` was done to what stands at index i; nothing is made of nothing
+  -- the slots of fs, which equals es except that `h` was applied at index i, and only to an entry
   module _ (h : Option (ℕ × T) → Option (ℕ × T)) (i : ℕ) (es fs : List (Entry T)) (here : entry_at fs i ≡ h (entry_at es i))
       (others : (k : ℕ) → k ≢ i → entry_at fs k ≡ entry_at es k) where
     slots-changed_from : (from n k : ℕ) → i ≡ from + k → slots_from fs from n ≡ set (slots_from es from n) k (h (get_or (slots_from es from n) k None))
@@ -67,7 +66,7 @@ module _ {T : Type 0} where
   pub capacity_is : (t : Tree T) → arena_capacity (content_of t) ≡ t.list.capacity
   capacity_is t = omega (arith, length-slots t.list.entries 1 t.list.capacity)
 
-  -- an index beyond the capacity has no entry, nor has index 0
+  -- neither index 0 nor an index beyond the capacity has an entry
   pub outside : (most : ℕ) (greatest : Option ℕ) (t : Tree T) → IsSound most greatest t.list → (i : ℕ)
       → ((0 < i) → (i ≤ t.list.capacity) → ⊥) → entry_at t.list.entries i ≡ None
   outside most greatest t sound i out = elim (eqb_tells (times i t.list.entries) 0) [
@@ -111,7 +110,7 @@ module _ {T : Type 0} where
       let count : suc t.list.capacity ≡ length (content_of t).slots = ap suc (sym (length-slots t.list.entries 1 t.list.capacity)) in
       rw is (record { slots = ap (λ ss. None ∷ ss) (slots-empty 1 t.list.capacity) ∙ ap (λ n. replicate n None) count; generation = refl; maximum = refl })
 
-  -- an index has as many entries as it shows: one or none
+  -- an index has as many entries as its slot shows, one or none
   times-shown : (es : List (Entry T)) (i : ℕ) → IsDistinct es → cond (is_some (entry_at es i)) 1 0 ≡ times i es
   times-shown [] i distinct = refl
   times-shown (e ∷ es) i distinct = elim (eqb_tells e.index i) [
@@ -119,7 +118,7 @@ module _ {T : Type 0} where
     | inr h ↦ rw h.0 (omega (arith, times-shown es i (λ k. omega (arith, distinct k))))
   ]
 
-  -- so the slots up to an index have as many entries as there are lesser indexes
+  -- so the slots up to an index have as many entries as there are smaller indexes
   pub slots-counted : (es : List (Entry T)) → IsDistinct es → (from n : ℕ) → lesser es from + count_by is_some (slots_from es from n) ≡ lesser es (from + n)
   slots-counted es distinct from zero = let at : from + 0 ≡ from = omega arith in rw at (omega arith)
   slots-counted es distinct from (suc n) =
@@ -141,7 +140,7 @@ module _ {T : Type 0} where
         | inr z ↦ absurd (let inside = sound.within 0 (omega (arith, z.1)) in let above : 0 < 0 = inside.0 in omega (arith, above))
       ]
 
-  -- what is true of every arena
+  -- true of every arena
   pub lawful_is : (most : ℕ) (greatest : Option ℕ) (t : Tree T) → IsSound most greatest t.list → IsLawful most greatest (content_of t)
   lawful_is most greatest t sound =
       record {
@@ -152,6 +151,6 @@ module _ {T : Type 0} where
         entries_lawful = λ i. rw (slot_is most greatest t sound i) (sound.entries_lawful i);
       }
 
-  -- the capacity is within what indexes can name
+  -- the capacity is at most the greatest index
   pub capacity-within : (most : ℕ) (greatest : Option ℕ) (t : Tree T) → IsSound most greatest t.list → arena_capacity (content_of t) ≤ most
   capacity-within most greatest t sound = rw (capacity_is t) (omega (arith, sound.within_limit, limit_of-below most t.list.maximum))

@@ -1,4 +1,4 @@
--- How far a descent from the root of a tree has come. No public clause cites this file.
+-- The state of a descent from the root of a tree. No public clause cites this file.
 use Rattle.std.specs.{List.All, List.FoldsTo, Option.option_map, Ordering.ordering_then}
 use Rattle.std.specs.Prelude.{◌≡◌, ◌≢◌, ℕ, ◌+◌, ◌-◌, ◌≤◌, ◌⊎◌, List, ◌++◌, Option, Some, None, IfSome, MatchOption, Contains, length, map}
 use Rattle.std.specs.declared.cmp.Ordering.{Ordering, TheVariants.Less, TheVariants.Equal, TheVariants.Greater}
@@ -12,7 +12,7 @@ pub record IsNodeAt {T : Type 0} (t : Tree T) (i generation : ℕ) (item : T) (l
   pub lesser_root : (l r : Shape) (k : ℕ) → IsPart (node l i k r) t.shape → lesser ≡ root_of l
   pub greater_root : (l r : Shape) (k : ℕ) → IsPart (node l i k r) t.shape → greater ≡ root_of r
 
--- the side on which a descent goes on that was answered so
+-- the side on which a descent goes on after this answer
 abbrev pub side_of : {X : Type 0} → Ordering → X → X → X
 side_of Greater lesser greater = greater
 side_of o lesser greater = lesser
@@ -27,15 +27,15 @@ pub record IsCompared {T K : Type 0} (key : T → K) (cmp : K → K → Ordering
   pub order_is : order ≡ cmp k (key item)
   pub next_is : next ≡ side_of order lesser greater
 
--- an equal entry behind all that is left, after one that was answered so
+-- the equal entry directly after everything that is left, if any, once x got this answer
 abbrev pub met_next : {X : Type 0} → Option X → X → Ordering → Option X
 met_next met x Less = None
 met_next met x Equal = Some x
 met_next met x Greater = met
 
 module _ {T : Type 0} where
-  -- a descent has come to this link, after these answers: what hangs there is all that is left, the entry before it was answered
-  -- Greater and the one after it Less, one of the two last, and nothing that is left was shown yet
+  -- A descent has come to this link after these answers. The part at the link is all that is left. The entry before it was answered
+  -- `Greater` and the one after it `Less`, one of the two last. Nothing that is left has been shown yet.
   pub record IsDescending (entries : List (Entry T)) (shape : Shape) (shown : List (Shown T)) (link : Option ℕ) : Type 0 where
     pub part : Shape
     pub within : IsPart part shape
@@ -53,7 +53,7 @@ module _ {T : Type 0} where
     pub inside : All (λ s. Contains entries s.0) shown
     pub no_equal : All (λ s. s.1 ≢ Equal) shown
 
-  -- the calls so far took f to g, and the descent has come to this link after so many, added to the visits from before it
+  -- the calls so far took f to g, and the descent has come to this link; its visits are added to those from before
   pub record HasDescended {F : Type 0} (asks : F → Shown T → F → Type 0) (entries : List (Entry T)) (shape : Shape) (before : ℕ) (f g : F)
       (link : Option ℕ) (visits : ℕ) (last : Option ((ℕ × ℕ) × Ordering)) : Type 0 where
     pub shown : List (Shown T)
@@ -62,9 +62,8 @@ module _ {T : Type 0} where
     pub count : visits ≡ before + length shown
     pub last_is : last ≡ similar_of (last_of None shown)
 
-  -- The comparisons with k so far have led to this link, after so many visits, added to those from before; where k is equal the way led
-  -- to the lesser side. The entry that was shown last, with the order of k to its key, and
-  -- the one behind all that is left, where it is equal.
+  -- The comparisons with k so far have led to this link, to the lesser side at an equal key. The visits are added to those from before.
+  -- `last` is the entry shown last with the order of k to its key, and `met` the entry after everything that is left, if it is equal.
   pub record HasDescendedByKey {K : Type 0} (key : T → K) (cmp : K → K → Ordering) (entries : List (Entry T)) (shape : Shape) (k : K)
       (before : ℕ) (link : Option ℕ) (visits : ℕ) (last : Option ((ℕ × ℕ) × Ordering)) (met : Option (ℕ × ℕ)) : Type 0 where
     pub shown : List (Shown T)
@@ -74,7 +73,7 @@ module _ {T : Type 0} where
     pub last_is : last ≡ option_map (λ s. (pointer s.0, order_to key cmp k s.0)) (last_of None shown)
     pub met_is : met ≡ where_equal (option_map (λ e. (pointer e, order_to key cmp k e)) (first_of descending.back))
 
-  -- a search for k from the root, begun after so many visits, has come to this end
+  -- a search for k from the root has ended with this result; its visits are added to those from before
   pub record HasEndedByKey {K : Type 0} (key : T → K) (cmp : K → K → Ordering) (t : Tree T) (k : K) (before : ℕ) (found : Option ((ℕ × ℕ) × Ordering)) (visits : ℕ) : Type 0 where
     pub similar : FindsSimilar key cmp t.list.entries k found (visits - before)
     pub few : visits ≤ before + height t.shape

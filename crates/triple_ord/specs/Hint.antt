@@ -1,32 +1,32 @@
--- How near a hint is: how many entries there are from the one that it names to the gap where a key belongs.
+-- The distance of a hint: the number of entries from the hint to the gap where a key belongs.
 use Rattle.std.specs.{Prelude.◌≡◌, Prelude.Option, Option.option_map, Option.option_or, Prelude.ℕ, Prelude.◌+◌, Prelude.◌-◌, Prelude.◌≤◌, Prelude.◌==◌, Prelude.nat_lt, Prelude.if◌then◌else◌, Prelude.List, Prelude.[], Prelude.◌∷◌, Prelude.length, Prelude.IsSome, declared.cmp.Ordering.Ordering}
 use Rattle.chain_base.specs.Chain.{Entry, entry_at}
 use Rattle.triple_ord.specs.{Gap.Gap, Gap.before, Gap.after, Gap.present, Order.IsInOrder, Search.Fits, Search.pointer, Search.order_to}
 
 module _ {T : Type 0} where
-  -- how many entries stand before the one with this index
+  -- the number of entries before the one with this index
   abbrev pub position_of : List (Entry T) → ℕ → ℕ
   position_of [] i = 0
   position_of (e ∷ es) i = if e.index == i then 0 else position_of es i + 1
 
-  -- How many entries there are from the one at this place to the far neighbour of a gap, both counted: from a place before the gap
-  -- to the entry after it, from a place behind the gap to the entry before it, and to the end of the list where there is none.
+  -- The number of entries from the one at this position to the far neighbour of a gap, both counted. From a position before the gap that
+  -- is the entry after it, from one behind the gap the entry before it, and without it the end of the list.
   abbrev pub way_length : {entries : List (Entry T)} → Gap entries → ℕ → ℕ
   way_length gap at = if nat_lt at (length gap.front) then length gap.front + present (after gap) - at
       else at + 1 - (length gap.front - present (before gap))
 
-  -- the entry at which that way ends: the far neighbour, or the end of the list where there is none
+  -- the entry at the end of that stretch: the far neighbour, or the end of the list if there is none
   abbrev pub way_end : {entries : List (Entry T)} → Gap entries → ℕ → Option (Entry T)
   way_end gap at = if nat_lt at (length gap.front) then option_or (after gap) (before gap) else option_or (before gap) (after gap)
 
--- On a list in the order of its keys, with a gap that fits k, a search from the entry with index i makes c visits: no more than there
--- are entries from there to the far neighbour of the gap, where these are no more than num.
+-- On a list in the order of its keys, with a gap that fits k, a search from the entry at index i makes at most as many visits as there
+-- are entries from there to the gap's far neighbour, if these are at most num.
 abbrev pub IsNearHint : {T K : Type 0} → (T → K) → (K → K → Ordering) → List (Entry T) → K → ℕ → ℕ → ℕ → Type 0
 IsNearHint key cmp entries k i num c = IsInOrder key cmp entries → IsSome (entry_at entries i) → (gap : Gap entries) → Fits key cmp gap k
     → way_length gap (position_of entries i) ≤ num → c ≤ way_length gap (position_of entries i)
 
--- On a list in the order of its keys, with a gap that fits k, a search from the entry with index i returns the entry at which the way to
--- the gap ends, where the way has no more entries than num.
+-- On a list in the order of its keys, with a gap that fits k, a search from the entry at index i returns the entry at the end of the
+-- stretch to the gap, if the stretch has at most num entries.
 abbrev pub AnswersNear : {T K : Type 0} → (T → K) → (K → K → Ordering) → List (Entry T) → K → ℕ → ℕ → Option ((ℕ × ℕ) × Ordering) → Type 0
 AnswersNear key cmp entries k i num found = IsInOrder key cmp entries → IsSome (entry_at entries i) → (gap : Gap entries) → Fits key cmp gap k
     → way_length gap (position_of entries i) ≤ num

@@ -1,4 +1,4 @@
--- What a contract sees of an entry of an insertion.
+-- What contracts see of an entry of an insertion.
 use Rattle.std.specs.declared.{alloc.Allocator.Ghosts as AllocatorGhosts, cmp.PartialEq.Ghosts as PartialEqGhosts}
 use Rattle.std.specs.{Borrow.GName, Borrow.Fml, Borrow.RattleType, Borrow.MutBor, Borrow.RestsIfErr, Prelude.◌≡◌, Prelude.ℕ, Prelude.List, Prelude.Result}
 use Rattle.arena_base.specs.declared.ptr.{BasePtr.Ghosts as PtrGhosts, BasePtrGen.Ghosts as PtrGenGhosts, BasePtrInx.Ghosts as PtrInxGhosts}
@@ -10,7 +10,7 @@ module _ {P T A Inx Gen : Type 0}
     {ptr : PtrGhosts P Inx Gen} {ptr_eq : PartialEqGhosts P}
     {inx : PtrInxGhosts Inx} {inx_eq : PartialEqGhosts Inx}
     {gen : PtrGenGhosts Gen} {gen_eq : PartialEqGhosts Gen} where
-  -- the arena, as it is now
+  -- the arena in its current state
   abbrev pub entry_arena : SimpleOrdArenaInsertEntry P T A Inx Gen ptr ptr_eq inx inx_eq gen gen_eq → Tree T
   entry_arena e = e.arena.now
 
@@ -18,19 +18,19 @@ module _ {P T A Inx Gen : Type 0}
   abbrev pub entry_lender : SimpleOrdArenaInsertEntry P T A Inx Gen ptr ptr_eq inx inx_eq gen gen_eq → GName
   entry_lender e = e.arena.ghost_name
 
-  -- the pointer that it shows, and whether the entry is new
+  -- the pointer that the entry shows, and whether the entry is new
   abbrev pub entry_shown : SimpleOrdArenaInsertEntry P T A Inx Gen ptr ptr_eq inx inx_eq gen gen_eq → OrdEntryKind P
   entry_shown e = e.prepared.shown
 
-  -- the list with a new entry where it goes
+  -- the list with a new entry at its place
   abbrev pub entry_put : (P → ℕ × ℕ) → SimpleOrdArenaInsertEntry P T A Inx Gen ptr ptr_eq inx inx_eq gen gen_eq → Entry T → List (Entry T)
   entry_put numbers e = put_at (λ p. (numbers p).0) e.prepared.at e.arena.now.list.entries
 
-  -- how many entries the search for its place visited
+  -- the number of entries that the search for its place visited
   abbrev pub entry_visits : SimpleOrdArenaInsertEntry P T A Inx Gen ptr ptr_eq inx inx_eq gen gen_eq → ℕ
   entry_visits e = e.prepared.visits
 
--- where there is no entry, the arena behind m stays
+-- if the call fails, the arena behind m is unchanged
 module _ (P T A Inx Gen : RattleType)
     (ptr : PtrGhosts P.Denot Inx.Denot Gen.Denot) (ptr_eq : PartialEqGhosts P.Denot)
     (inx : PtrInxGhosts Inx.Denot) (inx_eq : PartialEqGhosts Inx.Denot)

@@ -1,4 +1,4 @@
--- What an insertion does: one step over its place.
+-- What an insertion does: a single step once its place is known.
 use Rattle.std.specs.{Prelude.◌≡◌, Prelude.◌≢◌, Prelude.ℕ, Prelude.Option, Prelude.Some, Prelude.None, Prelude.Result, Prelude.Ok, Prelude.Err, Prelude.length, declared.cmp.Ordering.Ordering, declared.cmp.Ordering.TheVariants.Equal}
 use Rattle.chain_base.specs.{Chain.Entry, Chain.Chain, Chain.chain_limit, Chain.with_room, Insert.IsInsertion}
 use Rattle.ord_tree.specs.Tree.{Tree, IsGrown, with_item}
@@ -6,36 +6,36 @@ use Rattle.triple_ord.specs.declared.error.OrdInsertionError.TheVariants.{Failed
 use Rattle.triple_ord.specs.{declared.entry_kind.OrdEntryKind.OrdEntryKind, declared.entry_kind.OrdEntryKind.TheVariants.New, declared.entry_kind.OrdEntryKind.TheVariants.Replacing, declared.error.OrdInsertionError.OrdInsertionError}
 use Rattle.triple_ord.specs.{Place.Aim, Place.at_key, Place.beside, Place.into, Place.over, Place.nowhere, Place.IsPlace, Gap.Gap, Gap.with_between, Search.pointer}
 
--- whether an insertion keeps within the capacity, or grows where no slot is vacant
+-- whether an insertion stays within the capacity, or grows if no slot is vacant
 pub data Growth : Type 0 where
   within : Growth
   reallocating : Growth
 
 module _ {T : Type 0} where
-  -- the list as an insertion finds it that needs a slot: grown, where it may grow and no slot is vacant
+  -- the list before an insertion that needs a slot: grown, if that is allowed and no slot is vacant
   abbrev pub with_room_by : Growth → ℕ → Chain T → Chain T
   with_room_by within most c = c
   with_room_by reallocating most c = with_room most c
 
-  -- no slot is to be had: none is vacant within the capacity; the length is at the limit; or memory is refused to a growth that is
-  -- needed and allowed
+  -- There is no slot: none is vacant within the capacity, or the length is at the limit, or a growth that is needed and allowed fails for
+  -- lack of memory.
   abbrev pub LacksSlot : Growth → ℕ → Chain T → OrdInsertionError → Type 0
   LacksSlot within most c NotWithinCapacity = length c.entries ≡ c.capacity
   LacksSlot reallocating most c BeyondMaxCapacity = length c.entries ≡ chain_limit most c
   LacksSlot reallocating most c AllocError = (length c.entries ≢ chain_limit most c) × (length c.entries ≡ c.capacity)
   LacksSlot growth most c refusal = ⊥
 
--- the key of an item, the order of keys, the greatest index that an entry may have; how the insertion gets its slot, and what it
--- goes by
+-- The parameters: the key of an item, the order of keys, the greatest index of an entry, how the insertion gets its slot, and what it
+-- goes by.
 module _ {T K : Type 0} (key : T → K) (cmp : K → K → Ordering) (most : ℕ) (growth : Growth) (aim : Aim K) where
-  -- a new entry goes into the gap that is its place, under the next pointer; the shape takes it up
+  -- a new entry goes into the gap that is its place, under the next pointer, and into the shape
   pub record InsertsNew (old : Tree T) (item : T) (p : ℕ × ℕ) (new : Tree T) : Type 0 where
     pub gap : Gap old.list.entries
     pub place : IsPlace key cmp aim (into gap)
     pub inserted : IsInsertion (with_room_by growth most old.list) new.list (with_between gap) item p.0 p.1
     pub grown : IsGrown old.shape new.shape
 
-  -- the entry that is the place keeps its pointer and its place in the list, and gets the item; all else stays
+  -- the entry that is the place keeps its pointer and its position and gets the item; everything else stays
   pub record Replaces (old : Tree T) (item : T) (p : ℕ × ℕ) (before : T) (new : Tree T) : Type 0 where
     pub entry : Entry T
     pub place : IsPlace key cmp {entries = old.list.entries} aim (over entry)
@@ -43,46 +43,47 @@ module _ {T K : Type 0} (key : T → K) (cmp : K → K → Ordering) (most : ℕ
     pub taken : before ≡ entry.item
     pub after : new ≡ with_item old entry.index item
 
-  -- there is no place, or its place is a gap and no slot is to be had
+  -- there is no place, or the place is a gap and there is no slot
   abbrev pub IsRefused : Tree T → OrdInsertionError → Type 0
   IsRefused old FailedOrdRequirement = IsPlace key cmp {entries = old.list.entries} aim nowhere
   IsRefused old refusal = (gap : Gap old.list.entries) × IsPlace key cmp aim (into gap) × LacksSlot growth most old.list refusal
 
-  -- a refusal changes nothing
+  -- a failed insertion changes nothing
   pub record Refuses (old : Tree T) (refusal : OrdInsertionError) (new : Tree T) : Type 0 where
     pub refused : IsRefused old refusal
     pub after : new ≡ old
 
-  -- An insertion, by its result: whether the entry is new, its pointer, of which `numbers` reads index and generation, and the item
-  -- that was replaced. A replacement is never refused.
+  -- An insertion, by its result: whether the entry is new, its pointer, of which `numbers` reads index and generation, and the replaced
+  -- item. A replacement never fails.
   abbrev pub InsertsBy : {P : Type 0} → (P → ℕ × ℕ) → Tree T → T → Result (OrdEntryKind P × Option T) OrdInsertionError → Tree T → Type 0
   InsertsBy numbers old item (Ok (New p, None)) new = InsertsNew old item (numbers p) new
   InsertsBy numbers old item (Ok (Replacing p, Some before)) new = Replaces old item (numbers p) before new
   InsertsBy numbers old item (Ok answer) new = ⊥
   InsertsBy numbers old item (Err refusal) new = Refuses old refusal new
 
--- a result that tells by the item that was replaced whether the entry is new
+-- a result in which a replaced item, if any, shows whether the entry is new
 abbrev pub told : {P T : Type 0} → Result (P × Option T) OrdInsertionError → Result (OrdEntryKind P × Option T) OrdInsertionError
 told (Ok (p, None)) = Ok (New p, None)
 told (Ok (p, Some before)) = Ok (Replacing p, Some before)
 told (Err refusal) = Err refusal
 
 module _ {T K : Type 0} (key : T → K) (cmp : K → K → Ordering) (most : ℕ) where
-  -- an insertion by the item's key that may grow, and one that keeps within the capacity
+  -- an insertion by the item's key that may grow, and one that stays within the capacity
   abbrev pub Inserts : {P : Type 0} → (P → ℕ × ℕ) → Tree T → T → Result (P × Option T) OrdInsertionError → Tree T → Type 0
   Inserts numbers old item answer new = InsertsBy key cmp most reallocating (at_key (key item)) numbers old item (told answer) new
 
   abbrev pub InsertsWithin : {P : Type 0} → (P → ℕ × ℕ) → Tree T → T → Result (P × Option T) OrdInsertionError → Tree T → Type 0
   InsertsWithin numbers old item answer new = InsertsBy key cmp most within (at_key (key item)) numbers old item (told answer) new
 
--- an item without a key, as an insertion that compares none sees it
+-- an item without a key, for an insertion that compares none
 abbrev keyless : {T : Type 0} → T → Unit {0}
 keyless item = tt
 
 abbrev alike : Unit {0} → Unit {0} → Ordering
 alike k l = Equal
 
--- An insertion beside the entry with an index, or in its place, that may grow: by the item that was replaced. No key is compared.
+-- An insertion beside the entry with an index, or in place of its item, that may grow; the result has the replaced item. No key is
+-- compared.
 module _ {T : Type 0} (most : ℕ) (i : ℕ) (order : Ordering) where
   abbrev pub InsertsBeside : Tree T → T → Result (Option T) OrdInsertionError → Tree T → Type 0
   InsertsBeside old item (Ok None) new = (p : ℕ × ℕ) × InsertsNew keyless alike most reallocating (beside i order) old item p new

@@ -1,13 +1,13 @@
--- Where an entry stands in the shape.
+-- The place of an entry in the shape.
 use Rattle.std.specs.Prelude.{◌≡◌, ℕ, ◌⊎◌, Option}
 use Rattle.ord_tree.specs.{Parents.HasParent, Shape.Shape, Shape.missing, Shape.node, Shape.root_of}
 
--- a shape is a part of another: the whole, or a part of one of its sides
+-- `part` is part of the other shape: the whole, or part of one of its sides
 abbrev pub IsPart : Shape → Shape → Type 0
 IsPart part missing = part ≡ missing
 IsPart part (node l i k r) = (part ≡ node l i k r) ⊎ IsPart part l ⊎ IsPart part r
 
--- the node of index i stands in the shape under this parent, over sides with these roots, and has this rank
+-- the node of index i is in the shape with this parent, sides with these roots, and this rank
 pub record IsNodeIn (shape : Shape) (i : ℕ) (parent lesser greater : Option ℕ) (rank : ℕ) : Type 0 where
   pub lesser_side : Shape
   pub greater_side : Shape

@@ -1,4 +1,4 @@
--- When a list is in the order of its keys.
+-- Lists in the order of their keys.
 use Rattle.std.specs.{declared.cmp.Ordering.Ordering, declared.cmp.Ordering.TheVariants.Greater, Prelude.◌≡◌, Prelude.◌≢◌, Prelude.List, Prelude.◌∷◌, Prelude.◌++◌}
 use Rattle.chain_base.specs.Chain.{Entry}
 
@@ -7,6 +7,6 @@ abbrev pub IsInOrder : {T K : Type 0} → (T → K) → (K → K → Ordering) �
 IsInOrder {T} key cmp entries =
     (front back : List (Entry T)) (e f : Entry T) → entries ≡ front ++ e ∷ f ∷ back → cmp (key e.item) (key f.item) ≢ Greater
 
--- each call leaves the key of the item as it is
+-- each call keeps the key of the item
 abbrev pub KeepsKeys : {P T K F : Type 0} → (T → K) → (F → P → T → P → T → F → Type 0) → Type 0
 KeepsKeys {P} {T} {K} {F} key step = (f g : F) (p q : P) (before after : T) → step f p before q after g → key after ≡ key before

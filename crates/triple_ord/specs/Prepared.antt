@@ -1,4 +1,4 @@
--- The place of an insertion as the arena keeps it: beside an entry, or an entry's pointer. No public clause cites this file.
+-- The place of an insertion as the arena stores it: beside an entry, or the pointer of an entry. No public clause cites this file.
 use Rattle.std.specs.Prelude.{◌≡◌, ◌≢◌, ℕ, Option, Some, None, IsSome, length}
 use Rattle.std.{proofs.Props.props, specs.declared.cmp.Ordering.Ordering, specs.declared.cmp.Ordering.TheVariants.Equal}
 use Rattle.chain_base.specs.Chain.{Entry, Chain, entry_at, next_index}
@@ -13,12 +13,12 @@ use Rattle.triple_ord.specs.declared.entry_kind.OrdEntryKind.TheVariants as show
 abbrev pub index_in : {P : Type 0} → (P → ℕ × ℕ) → P → ℕ
 index_in numbers p = (numbers p).0
 
--- a place beside an entry, by the number of what names the entry
+-- a place beside an entry, with the number of the entry's name
 abbrev pub by_number : {I : Type 0} → (I → ℕ) → Option (I × Ordering) → Option (ℕ × Ordering)
 by_number number None = None
 by_number number (Some a) = Some (number a.0, a.1)
 
--- the kind of an insertion that searches by a key, and of one that searches from a hint, by what the search makes of equal keys
+-- the kinds of insertion that search by a key, from the root and from a hint, by how the search treats equal keys
 abbrev pub kind_by : {P K I G : Type 0} → Ties → K → OrdInsertKind P K I G
 kind_by Sought k = Normal k
 kind_by Passed k = Nonhereditary k
@@ -28,26 +28,26 @@ kind_near Sought i num k = Linear i num k
 kind_near Passed i num k = NonhereditaryLinear i num k
 
 module _ {P T : Type 0} (numbers : P → ℕ × ℕ) where
-  -- a new entry can stand there: alone, where there is none, or on a side of the entry that has the pointer's index
+  -- there is a place for a new entry: as the only one, or on a side of the entry with the pointer's index
   abbrev pub HasRoomAt : Option (P × Ordering) → Chain T → Type 0
   HasRoomAt None c = length c.entries ≡ 0
   HasRoomAt (Some at) c = IsSome (entry_at c.entries (index_in numbers at.0)) × (at.1 ≢ Equal)
 
-  -- this is how the place is kept
+  -- the arena stores the place in this form
   abbrev pub Keeps : (t : Tree T) → InsertPlace P → Place t.list.entries → Type 0
   Keeps t (New at) (into gap) = HasRoomAt at t.list × ((x : Entry T) → put_at (index_in numbers) at t.list.entries x ≡ with_between gap x)
   Keeps t (Replacing p) (over e) = (numbers p ≡ pointer e) × IsSome (item_of t (numbers p))
   Keeps t kept place = ⊥
 
   module _ {K : Type 0} (key : T → K) (cmp : K → K → Ordering) (t : Tree T) where
-    -- a place by a key, as a search with c visits found it
+    -- a place by a key, as found by a search with c visits
     pub record IsFoundPlace (aim : Aim K) (c : ℕ) (kept : InsertPlace P) : Type 0 where
       pub place : Place t.list.entries
       pub chosen : IsPlace key cmp aim place
       pub keeps : Keeps t kept place
       pub seen : HasSeen place c
 
-    -- a place that needs no search, or none where there is no such place
+    -- a place that needs no search, or nothing if there is no such place
     abbrev pub IsPlaceBeside : Aim K → Option (InsertPlace P) → Type 0
     IsPlaceBeside aim None = IsPlace key cmp {entries = t.list.entries} aim nowhere
     IsPlaceBeside aim (Some kept) = (place : Place t.list.entries) × IsPlace key cmp aim place × Keeps t kept place
@@ -59,12 +59,12 @@ module _ {P T : Type 0} (numbers : P → ℕ × ℕ) where
       pub keeps : Keeps t kept place
       pub visits : VisitsFor key cmp number kind t place c
 
-  -- an item can go there without memory: beside an entry, under the next pointer; or in the place of an item that the pointer finds
+  -- an item can go there without memory: beside an entry, under the next pointer, or in place of the item that the pointer finds
   abbrev pub IsReady : OrdEntryKind P → Option (P × Ordering) → Tree T → Type 0
   IsReady (shown.New p) at t = HasRoomAt at t.list × (next_index t.list ≡ Some (numbers p).0) × ((numbers p).1 ≡ t.list.generation)
   IsReady (shown.Replacing p) at t = IsSome (item_of t (numbers p))
 
-  -- each is a fact, and no datum
+  -- each of these is a proposition
   pub HasRoomAt-prop : (at : Option (P × Ordering)) (c : Chain T) → IsProp (HasRoomAt at c)
   HasRoomAt-prop None c = hlevel props
   HasRoomAt-prop (Some at) c = hlevel props

@@ -1,10 +1,10 @@
--- The refusals of insertions, by those of the tree.
+-- The errors of insertions, by those of the tree.
 use Rattle.arena_base.specs.declared.error.InsertionError.{InsertionError}
 use Rattle.triple_ord.specs.declared.error.OrdInsertionError.TheVariants.{NotWithinCapacity, BeyondMaxCapacity, AllocError}
 use Rattle.triple_ord.specs.declared.error.OrdInsertionError.{OrdInsertionError}
 use Rattle.arena_base.specs.declared.error.InsertionError.TheVariants as tree
 
--- the refusal of an insertion where the tree refuses
+-- the insertion's error for an error of the tree
 abbrev pub refusal_of : InsertionError → OrdInsertionError
 refusal_of tree.NotWithinCapacity = NotWithinCapacity
 refusal_of tree.BeyondMaxCapacity = BeyondMaxCapacity

@@ -1,10 +1,10 @@
--- An entry that goes to the place of its key, with another item or with the one that it has.
+-- An entry that moves to the place of its key, with a new item or its own.
 use Rattle.std.specs.{Prelude.◌≡◌, Prelude.ℕ, Prelude.◌≤◌, Prelude.◌⊎◌, declared.cmp.Ordering.Ordering}
 use Rattle.chain_base.specs.Chain.{without}
 use Rattle.ord_tree.specs.{Tree.Tree, Tree.with_item, Move.IsRearranged}
 use Rattle.triple_ord.specs.{Gap.Gap, Gap.with_between, Gap.neighbour_count, Place.LiesBehind, Order.IsInOrder}
 
--- The entry of p has the item now, and stands in a gap of the other entries that lies behind the item's key. Nothing else changes.
+-- The entry of p has the item, and is in a gap of the other entries that lies behind the item's key. Nothing else changes.
 pub record Rekeys {T K : Type 0} (key : T → K) (cmp : K → K → Ordering) (old : Tree T) (p : ℕ × ℕ) (item : T) (new : Tree T) : Type 0 where
   pub gap : Gap (without p.0 old.list.entries)
   pub place : LiesBehind key cmp gap (key item)
@@ -12,13 +12,13 @@ pub record Rekeys {T K : Type 0} (key : T → K) (cmp : K → K → Ordering) (o
   pub kept : new.list ≡ record old.list { entries = new.list.entries }
   pub shape : (new.shape ≡ old.shape) ⊎ IsRearranged old.shape new.shape
 
--- The same, by a search for the gap with c visits: it has seen the keys of the entries beside the gap.
+-- The same, by a search for the gap with c visits, which has seen the keys of the entries beside the gap.
 pub record RekeysCounted {T K : Type 0} (key : T → K) (cmp : K → K → Ordering) (old : Tree T) (p : ℕ × ℕ) (item : T) (c : ℕ) (new : Tree T) : Type 0 where
   pub rekeys : Rekeys key cmp old p item new
   pub seen : neighbour_count rekeys.gap ≤ c
 
--- If the other entries are in the order of their keys, then all are afterwards, whatever key the entry had before; so if all were, also
--- if the item of the entry was written over since.
+-- If the other entries are in the order of their keys, all entries are afterwards, whatever key the entry had. This also holds if the
+-- item of the entry was written over since all entries were in order.
 pub record RekeyOrderLaw {T K : Type 0} (key : T → K) (cmp : K → K → Ordering) : Type 0 where
   pub restored : (old new : Tree T) (p : ℕ × ℕ) (item : T)
       → IsInOrder key cmp (without p.0 old.list.entries) → Rekeys key cmp old p item new → IsInOrder key cmp new.list.entries

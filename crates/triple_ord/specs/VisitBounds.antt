@@ -1,21 +1,21 @@
--- How few entries a search visits.
+-- Bounds on the entries that a search visits.
 use Rattle.std.specs.Prelude.{◌≡◌, ℕ, ◌+◌, ◌^◌, ◌<◌, ◌≤◌}
 use Rattle.ord_tree.specs.{Half.IsRebuilt, Numbers.fib, Numbers.HasDigits, Ranks.IsRanked, Ranks.IsTight}
 use Rattle.ord_tree.specs.Shape.{Shape, size_of, height}
 
--- the bounds on the visits c of a search among n entries that hang in this shape
+-- the bounds on the visits c of a search among n entries in this shape
 pub record IsWithinBounds (n : ℕ) (shape : Shape) (c : ℕ) : Type 0 where
-  -- in any shape that keeps the rank rules, as every arena's does
+  -- in any shape that obeys the rank rules, as every arena's does
   pub ranked : 0 < n → 2 ^ (c + 1) ≤ (n + 1) ^ 2
-  -- in a tight shape: so it is while only insertions have come
+  -- in a tight shape, which it is while only insertions have come
   pub tight : IsTight shape → fib (c + 2) ≤ n + 1
-  -- in a shape just rebuilt: as many as n has binary digits
+  -- in a rebuilt shape: at most as many as n has binary digits
   pub rebuilt : IsRebuilt shape → (digits : ℕ) → HasDigits n digits → c ≤ digits
   -- in an empty list
   pub empty : n ≡ 0 → c ≡ 0
 
--- The bounds on the visits c of a search that first makes steps from a hint: at most num of them, and no more than there are
--- entries; to them it adds those of a whole search, or none.
+-- The bounds on the visits c of a search that first makes steps from a hint: at most num steps, and at most as many as there are entries.
+-- The visits of a whole search, or none, are added to them.
 pub record IsWithinHintedBounds (n : ℕ) (shape : Shape) (num c : ℕ) : Type 0 where
   pub steps : ℕ
   pub search : ℕ
@@ -24,6 +24,6 @@ pub record IsWithinHintedBounds (n : ℕ) (shape : Shape) (num c : ℕ) : Type 0
   pub within : steps ≤ n
   pub bounded : IsWithinBounds n shape search
 
--- a search that visits no more entries than stand on the longest way down stays within the bounds
+-- a search that visits at most as many entries as the longest path down has is within the bounds
 abbrev pub VisitsLaw : Type 0
 VisitsLaw = (s : Shape) (c : ℕ) → IsRanked s → c ≤ height s → IsWithinBounds (size_of s) s c

@@ -1,13 +1,13 @@
--- Going through a list of entries.
+-- Walking through a list of entries.
 use Rattle.std.specs.Prelude.{◌≡◌, ℕ, List, [], Option, Some, None, length}
 use Rattle.chain_base.specs.Chain.{Entry, IsDistinct, from_index}
 
--- the entries from the one with this index on; without an index none is left
+-- the entries from the one with this index on; none without an index
 abbrev pub entries_left : {T : Type 0} → List (Entry T) → Option ℕ → List (Entry T)
 entries_left es None = []
 entries_left es (Some i) = from_index es i
 
--- a walk has come to this index, and knows how many entries are left; no two entries have one index
+-- a walk has come to this index and knows how many entries are left; no two entries have the same index
 pub record IsWalking {T : Type 0} (es : List (Entry T)) (at : Option ℕ) (left : ℕ) : Type 0 where
   pub distinct : IsDistinct es
   pub counted : left ≡ length (entries_left es at)

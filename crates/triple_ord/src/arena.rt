@@ -43,12 +43,11 @@ use std::alloc::{Allocator, Global};
 use std::marker::Model;
 pub use walk::OrderedPtrAdvancer;
 
-/// Entries in the order of their keys, each found at once by its pointer, and by its key in a time logarithmic in their number.
+/// Entries in the order of their keys. An entry is found in O(1) by its pointer, and in O(log n) by its key.
 ///
-/// An entry keeps its pointer while others come and go. The arena keeps its entries in one list, over which a rank-balanced tree
-/// stands (Haeupler, Sen and Tarjan, "Rank-balanced trees", 2015). Nothing is assumed of the order of the keys: an arena whose
-/// keys were misplaced is as safe as any, and a search in it meets an entry with an equal key, or stops between two neighbours
-/// of which the first has a lesser key and the second a greater one.
+/// An entry keeps its pointer while others come and go. The entries form one list, with a rank-balanced tree over it (Haeupler, Sen and
+/// Tarjan, "Rank-balanced trees", 2015). Nothing is assumed of the order of the keys. If it is broken, a search is as safe as ever: it
+/// finds an entry with an equal key, or stops between two neighbours, the first with a smaller key and the second with a greater one.
 #[derive(Drop)]
 pub struct SimpleOrdArena<P: BasePtr, T, A: Allocator = Global> {
     tree: OrdTree<P, T, A>,
@@ -65,21 +64,21 @@ impl<P: BasePtr, T, A: Allocator> Model for SimpleOrdArena<P, T, A> {
 }
 
 impl<P: BasePtr, T, A: Allocator> SimpleOrdArena<P, T, A> {
-    /// How many entries there is room for before the arena has to grow.
+    /// Returns how many entries the arena holds without growing.
     pub fn capacity(&self) -> usize
         ensures { result ≡ self.now.list.capacity }
     {
         self.tree.chain().capacity()
     }
 
-    /// The maximum that was set. The capacity never goes beyond it, nor beyond what the pointers' indexes can name.
+    /// Returns the maximum that was set, if any. The capacity never exceeds it, nor what the pointers' indexes can name.
     pub fn max_capacity(&self) -> Option<usize>
         ensures { result ≡ self.now.list.maximum }
     {
         self.tree.chain().max_capacity()
     }
 
-    /// How many entries there are.
+    /// Returns the number of entries.
     pub fn len(&self) -> usize
         ensures value { result ≡ length self.now.list.entries }
         ensures sound { IsSound P.Inx.most P.Gen.greatest self.now.list }
@@ -88,14 +87,14 @@ impl<P: BasePtr, T, A: Allocator> SimpleOrdArena<P, T, A> {
         self.tree.len()
     }
 
-    /// Whether there is no entry.
+    /// Returns whether there are no entries.
     pub fn is_empty(&self) -> bool
         ensures { result ≡ (length self.now.list.entries == 0) }
     {
         self.tree.is_empty()
     }
 
-    /// The generation that the next entry gets.
+    /// Returns the generation of the next entry.
     pub fn generation(&self) -> P::Gen
         ensures value { P.Gen.number result ≡ self.now.list.generation }
         ensures lawful { IsLawfulGeneration P.Gen.greatest self.now.list.generation }
@@ -103,7 +102,7 @@ impl<P: BasePtr, T, A: Allocator> SimpleOrdArena<P, T, A> {
         self.tree.chain().generation()
     }
 
-    /// Sets the generation that the next entry gets, and leaves each entry its own.
+    /// Sets the generation of the next entry. Existing entries keep theirs.
     pub fn set_generation(&mut self, generation: P::Gen)
         requires { IsLawfulGeneration P.Gen.greatest (P.Gen.number generation) }
         ensures { self.new
@@ -114,8 +113,7 @@ impl<P: BasePtr, T, A: Allocator> SimpleOrdArena<P, T, A> {
         self.tree.set_generation(generation);
     }
 
-    /// Raises the generation that the next entry gets, and leaves each entry its own. The result says whether the generations
-    /// began again.
+    /// Raises the generation of the next entry. Existing entries keep theirs. The result says whether the generation overflowed.
     pub fn inc_generation(&mut self) -> InvalidationOption<()>
         ensures after { self.new
             ≡ record self.old { list = raised P.Gen.greatest self.old.list } }

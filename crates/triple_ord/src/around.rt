@@ -1,8 +1,8 @@
-//! The way down to the place of a key, past an entry that is about to leave its place.
+//! The descent to the place of a key, past an entry that is about to move.
 //!
-//! The tree still holds that entry, whose key says nothing of its place: it may be the old one, or one that was written over. So the
-//! entry before it answers for it. If that lies before the key, what hangs on the lesser side does too; else nothing behind can be the
-//! place.
+//! The tree still holds that entry, but its key says nothing about its place: it may be the old key, or one written over it. So the
+//! entry's predecessor answers for it. If the predecessor is before the place of the key, so is the whole lesser side; otherwise the
+//! place isn't on the greater side.
 ghost use Rattle.std.specs.Prelude.{◌≡◌, ◌+◌, ◌-◌, ◌^◌, ◌<◌, ◌≤◌, IsSome, length};
 ghost use Rattle.std.specs.Option.{option_map, option_copied};
 ghost use Rattle.chain_base.specs.Chain.{entry_at, IsDistinct};
@@ -17,8 +17,8 @@ use arena_base::BasePtr;
 use std::alloc::Allocator;
 use std::cmp::Ordering;
 
-/// Goes down from the root by a key, behind all entries whose key is at most it, as if the entry at the index `passed` weren't there.
-/// Returns the entry that it was shown last, with the side of it on which the place lies.
+/// Descends from the root to the place behind all entries whose key is at most `k`, as if the entry at the index `passed` weren't there.
+/// Returns the entry shown last and the side of it on which the place is.
 pub(crate) fn descend_around<P: BasePtr, T: SimpleOrdItem, A: Allocator>(
     probe: &mut Probe<'_, P, T, A>,
     passed: P::Inx,
@@ -42,8 +42,8 @@ pub(crate) fn descend_around<P: BasePtr, T: SimpleOrdItem, A: Allocator>(
     last
 }
 
-// Compares a key with that of the entry at an index, or with that of the entry before the one that is passed: the entry's pointer, how
-// the key lies to it, and where the search goes on.
+// Compares a key with that of the entry at an index, or with its predecessor's if that entry is passed over. Returns the entry's pointer,
+// the order of the key, and where the search goes on.
 #[inline(always)]
 fn compare_around<P: BasePtr, T: SimpleOrdItem, A: Allocator>(
     probe: &mut Probe<'_, P, T, A>,
@@ -72,7 +72,7 @@ fn compare_around<P: BasePtr, T: SimpleOrdItem, A: Allocator>(
     (P::_from_raw(i, generation), order, next)
 }
 
-// How a key lies to the item that stands before it, if there is one: an equal key counts as lesser.
+// The order of a key to the item before it, if any. An equal key counts as smaller.
 fn lies_behind<T: SimpleOrdItem>(k: &T::Key, previous: Option<&T>) -> Ordering
     ensures { result ≡ order_behind T.key_of T.Key.cmp k.now (option_copied previous.entry) }
 {

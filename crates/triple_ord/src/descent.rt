@@ -1,4 +1,4 @@
-//! The way down from the root.
+//! The descent from the root.
 ghost use Rattle.std.specs.Prelude.{◌≡◌, ℕ, Some, IsSome, ◌+◌, ◌-◌, ◌^◌, ◌<◌, ◌≤◌, length};
 ghost use Rattle.std.specs.Option.{option_map};
 ghost use Rattle.chain_base.specs.Chain.{entry_at, IsDistinct};
@@ -17,7 +17,7 @@ use ord_tree::laws::{height_law, rank_square_law, rebuilt_height_law, tight_rank
 use std::alloc::Allocator;
 use std::cmp::Ordering;
 
-/// Goes down from the root by the closure's answers, and returns the entry that it showed last with the answer that it got.
+/// Descends from the root by the closure's answers. Returns the entry shown last, with its answer.
 pub(crate) fn descend<P: BasePtr, T, F: FnMut(P, &T) -> Ordering, A: Allocator>(
     probe: &mut Probe<'_, P, T, A>,
     f: &mut F,
@@ -48,8 +48,8 @@ pub(crate) fn descend<P: BasePtr, T, F: FnMut(P, &T) -> Ordering, A: Allocator>(
     last
 }
 
-/// Goes down from the root by a key: to the lesser side at an equal key that is sought, so that the entry behind the gap where the way
-/// ends is the first of its group. Where that entry is equal, it is the result, else the one that was shown last.
+/// Descends from the root by a key. At an equal key that is sought it takes the lesser side, so the entry after the final gap is the
+/// first of its group. If that entry is equal, it is the result; otherwise the entry shown last is.
 #[inline(always)]
 pub(crate) fn descend_by_key<P: BasePtr, T: SimpleOrdItem, A: Allocator>(
     probe: &mut Probe<'_, P, T, A>,
@@ -103,7 +103,7 @@ fn descend_in_group<P: BasePtr, T: SimpleOrdItem, A: Allocator>(
     ensures counted { probe.old.visits ≤ probe.new.visits }
 {
     let mut last = Some((p, Ordering::Equal));
-    // the entry behind all that is left, where it is equal
+    // The entry after everything that is left, if it is equal.
     let mut met = Some(p);
     let mut at = lesser;
     while let Some(i) = at {
@@ -118,7 +118,7 @@ fn descend_in_group<P: BasePtr, T: SimpleOrdItem, A: Allocator>(
     }
 }
 
-// Compares a key with that of the entry at an index: the entry's pointer, how the key lies to its key, and where the search goes on.
+// Compares a key with that of the entry at an index. Returns the entry's pointer, the order of the key, and where the search goes on.
 #[inline(always)]
 fn compare<P: BasePtr, T: SimpleOrdItem, A: Allocator>(
     probe: &mut Probe<'_, P, T, A>,
@@ -140,7 +140,7 @@ fn compare<P: BasePtr, T: SimpleOrdItem, A: Allocator>(
     (P::_from_raw(i, generation), order, next)
 }
 
-// The side on which what is sought lies: the greater one behind an entry that was answered Greater, else the lesser one.
+// The side on which the search goes on: the greater one of an entry that was answered `Greater`, else the lesser one.
 //
 // Both links of a node are read before one is chosen, so the choice is a conditional move and not a branch. The test for a leaf uses both
 // links. Without it the compiler selects the address first, and the read waits for the comparison of the keys.
@@ -159,7 +159,7 @@ pub(crate) fn towards<P: BasePtr>(
     if order.is_gt() { greater } else { lesser }
 }
 
-// The equal entry behind all that is left, if any, after one step more: an entry that was answered Greater stands before it.
+// The equal entry after everything that is left, if any, after one more step. `Greater` keeps it: the shown entry is before what is left.
 fn met_behind<P: Copy>(met: Option<P>, p: P, order: Ordering) -> Option<P>
     ensures { result ≡ met_next met p order }
 {
@@ -170,7 +170,7 @@ fn met_behind<P: Copy>(met: Option<P>, p: P, order: Ordering) -> Option<P>
     }
 }
 
-// The laws of balance bound a search by the longest way down. It does nothing; its contract is the law.
+// The laws of balance bound a search by the longest path down. The function does nothing; its contract is the law.
 pub(crate) fn visits_law()
     ensures { VisitsLaw }
 {

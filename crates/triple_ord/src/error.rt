@@ -1,20 +1,20 @@
-//! The refusals of insertions into an ordered arena.
+//! The errors of insertions into an ordered arena.
 use arena_base::InsertionError;
 use thiserror::Error;
 
-/// Why an insertion was refused. Nothing has changed then, and an item that was handed in is dropped.
+/// Why an insertion failed. The arena is unchanged, and an item that was passed is dropped.
 #[derive(Debug, Clone, Copy, PartialEq, Eq, Drop, Error)]
 pub enum OrdInsertionError {
-    /// The place that was named isn't there: the arena was to be empty and isn't, or an index has no entry.
+    /// The requested place doesn't exist: the arena should be empty and isn't, or there is no entry at the index.
     #[error("the place of the insertion isn't there")]
     FailedOrdRequirement,
-    /// There is no vacant slot, and the call doesn't grow.
+    /// No slot is vacant, and the call doesn't grow.
     #[error("no room within the capacity")]
     NotWithinCapacity,
-    /// There is no vacant slot, and the capacity is at its maximum.
+    /// No slot is vacant, and the capacity is at its maximum.
     #[error("no room within the maximum capacity")]
     BeyondMaxCapacity,
-    /// There is no vacant slot, and the memory for more was refused.
+    /// No slot is vacant, and growing failed.
     #[error("out of memory")]
     AllocError,
 }

@@ -5,37 +5,37 @@ ghost use Rattle.triple_ord.specs.Place.{kind_now};
 use arena_base::BasePtr;
 use std::cmp::Ordering;
 
-/// How an insertion finds its place. Into an arena without entries each kind but `Manual` puts the item alone.
+/// How an insertion finds its place. In an arena without entries every kind but `Manual` inserts the item as the only entry.
 #[derive(Debug, Clone, PartialEq, Eq, Drop)]
 pub enum OrdInsertKind<P: BasePtr, K> {
-    /// Into an arena without entries. It is refused where there is an entry.
+    /// As the only entry. Fails if there are entries.
     Empty,
-    /// By a key: the item of an entry with an equal key whose previous entry, if any, has a lesser one is replaced; else a new entry goes
-    /// into a gap that fits.
+    /// By a key: if the search finds an entry with an equal key whose predecessor, if any, has a smaller one, its item is replaced.
+    /// Otherwise a new entry goes into a gap that fits.
     Normal(K),
-    /// By a key, always as a new entry: into a gap whose entry before, if any, has a key at most this one, and whose entry after, if
-    /// any, a greater one. So with the keys in order, entries with equal keys stay in the order of their insertion.
+    /// By a key, always as a new entry. In its gap the entry before, if any, has a key at most this one, and the entry after, if any, a
+    /// greater one. So if the keys are in order, entries with equal keys keep their insertion order.
     Nonhereditary(K),
-    /// `Normal`, with a search that makes at most `num` steps from the entry at the index `p_init` first.
+    /// `Normal`, with a search that first makes at most `num` steps from the entry at the index `p_init`.
     Linear {
-        /// The index of the entry from which the steps go.
+        /// The index of the entry where the steps start.
         p_init: P::Inx,
-        /// How many steps there are at most.
+        /// The maximum number of steps.
         num: usize,
         /// The key.
         k: K,
     },
-    /// `Nonhereditary`, with a search that makes at most `num` steps from the entry at the index `p_init` first.
+    /// `Nonhereditary`, with a search that first makes at most `num` steps from the entry at the index `p_init`.
     NonhereditaryLinear {
-        /// The index of the entry from which the steps go.
+        /// The index of the entry where the steps start.
         p_init: P::Inx,
-        /// How many steps there are at most.
+        /// The maximum number of steps.
         num: usize,
         /// The key.
         k: K,
     },
-    /// Beside the entry at an index, whatever its key: `Less` puts a new entry directly before it, `Greater` directly after it, and
-    /// `Equal` replaces its item. It is refused where the index has no entry.
+    /// Beside the entry at an index, whatever its key: `Less` inserts a new entry directly before it, `Greater` directly after it, and
+    /// `Equal` replaces its item. Fails if there is no entry at the index.
     Manual {
         /// The index of the entry.
         p_target: P::Inx,
@@ -45,7 +45,7 @@ pub enum OrdInsertKind<P: BasePtr, K> {
 }
 
 impl<P: BasePtr, K> OrdInsertKind<P, K> {
-    /// The same kind, with a reference to its key.
+    /// Returns the same kind with a reference to its key.
     pub fn as_ref(&self) -> OrdInsertKind<P, &K>
         ensures { kind_now result ≡ self.now }
     {

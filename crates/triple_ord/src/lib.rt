@@ -1,4 +1,4 @@
-//! Ordered arenas: entries that are found by a stable pointer at once and by their key in logarithmic time.
+//! Ordered arenas: an entry is found in O(1) by a stable pointer, and in O(log n) by its key.
 #![tactic(auto)]
 
 mod arena;

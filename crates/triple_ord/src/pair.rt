@@ -9,7 +9,7 @@ use std::{fmt, mem};
 
 /// A key with a value that doesn't count in the order of an ordered arena.
 ///
-/// The value can be written, the key can't: there is no `k_mut`. Pairs compare by their keys, then by their values.
+/// The value can be written, but not the key: there is no `k_mut`. Pairs compare by their keys, then by their values.
 #[derive(Clone, Copy, Hash, PartialEq, Eq, PartialOrd, Ord, Drop)]
 pub struct OrdPair<K, V> {
     k: K,
@@ -37,28 +37,28 @@ impl<K: Ord, V> SimpleOrdItem for OrdPair<K, V> {
 impl<K, V> OrdPair<K, V> {
     ghost use Rattle.triple_ord.specs.contracts.pair.OrdPair.{the_row};
 
-    /// The pair of the key `k` and the value `v`.
+    /// Creates the pair of the key `k` and the value `v`.
     pub fn new(k: K, v: V) -> Self
         ensures { result ≡ (k, v) }
     {
         OrdPair { k, v }
     }
 
-    /// The key.
+    /// Returns the key.
     pub fn k(&self) -> &K
         ensures { result.now ≡ self.now.0 }
     {
         &self.k
     }
 
-    /// The value.
+    /// Returns the value.
     pub fn v(&self) -> &V
         ensures { result.now ≡ self.now.1 }
     {
         &self.v
     }
 
-    /// The value, to be written. The key stays.
+    /// Returns the value for writing. The key stays.
     pub fn v_mut(&mut self) -> &mut V
         ensures* writes_back { sem 𝓛
             (Lends (the_row K.row V.row) V.row self.entry result (λ v. (self.old.0, v))) }
@@ -67,7 +67,7 @@ impl<K, V> OrdPair<K, V> {
         &mut self.v
     }
 
-    /// The key and the value.
+    /// Returns the key and the value.
     pub fn k_v(&self) -> (&K, &V)
         ensures key { result.0.now ≡ self.now.0 }
         ensures value { result.1.now ≡ self.now.1 }
@@ -75,7 +75,7 @@ impl<K, V> OrdPair<K, V> {
         (&self.k, &self.v)
     }
 
-    /// The key, and the value to be written. The key stays.
+    /// Returns the key, and the value for writing. The key stays.
     pub fn k_v_mut(&mut self) -> (&K, &mut V)
         ensures* writes_back { sem 𝓛
             (Lends (the_row K.row V.row) V.row self.entry result.1 (λ v. (self.old.0, v))) }
@@ -85,7 +85,7 @@ impl<K, V> OrdPair<K, V> {
         (&self.k, &mut self.v)
     }
 
-    // Puts another key in the place of the key, which is returned. An arena does so where it moves the entry.
+    // Replaces the key and returns the old one. An arena does so when it moves the entry.
     pub(crate) fn replace_k(&mut self, k: K) -> K
         ensures before { result ≡ self.old.0 }
         ensures after { self.new ≡ (k, self.old.1) }
@@ -93,7 +93,7 @@ impl<K, V> OrdPair<K, V> {
         mem::replace(&mut self.k, k)
     }
 
-    /// The key and the value, taken out.
+    /// Returns the key and the value, and consumes the pair.
     pub fn into_k_v(self) -> (K, V)
         ensures { result ≡ (self.0, self.1) }
     {
@@ -108,7 +108,7 @@ impl<K: fmt::Debug, V: fmt::Debug> fmt::Debug for OrdPair<K, V> {
     }
 }
 
-/// The value is recast; the key stays.
+/// Recasts the value; the key stays.
 impl<I, K, V: Recast<I>> Recast<I> for OrdPair<K, V> {
     ghost recast_gives = { λ gives old result new.
         (new.0 ≡ old.0) × V.recast_gives gives old.1 result new.1 };

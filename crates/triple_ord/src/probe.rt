@@ -1,4 +1,4 @@
-//! `Probe`: what a search sees of an arena, entry by entry, each one counted.
+//! `Probe`: how a search sees an arena, one entry at a time, each counted.
 ghost use Rattle.std.specs.Prelude.{◌≡◌, ◌+◌, ◌<◌, ◌^◌, List, ◌∷◌, ◌++◌, Some, IsSome};
 ghost use Rattle.std.specs.Option.{option_map, option_copied};
 ghost use Rattle.chain_base.specs.Chain.{Entry, entry_at, link_at, IsDistinct};
@@ -13,8 +13,7 @@ use chain_base::LinkNoGen;
 use ord_tree::{OrdTree, SimpleOrdArenaNode};
 use std::alloc::Allocator;
 
-/// Shows the entries of a tree to a search. A search is handed a probe and never the tree, and each entry that it sees is
-/// counted.
+/// Shows the entries of a tree to a search. A search gets a probe and never the tree, so each entry that it sees is counted.
 #[derive(Drop)]
 pub(crate) struct Probe<'a, P: BasePtr, T, A: Allocator> {
     tree: &'a OrdTree<P, T, A>,
@@ -28,24 +27,24 @@ impl<'a, P: BasePtr, T, A: Allocator> Probe<'a, P, T, A> {
         ensures none { result.visits ≡ 0 }
         ensures distinct { IsDistinct tree.now.list.entries }
     {
-        // with its length a tree tells what holds of every tree
+        // For the prover: the tree is sound.
         let _ = tree.len();
         Probe { tree, visits: 0 }
     }
 
-    /// The index at which a descent begins, `None` where there is no entry.
+    /// Returns the index at which a descent starts, or `None` if there are no entries.
     pub fn root(&self) -> Option<P::Inx>
         ensures root { option_map P.Inx.number result ≡ root_of self.now.tree.now.shape }
         ensures distinct { IsDistinct self.now.tree.now.list.entries }
         ensures sound { IsSoundTree self.now.tree.now }
         ensures few { height self.now.tree.now.shape < 2 ^ 64 }
     {
-        // with its length a tree tells what holds of every tree
+        // For the prover: the tree is sound.
         let _ = self.tree.len();
         self.tree.root()
     }
 
-    /// How many entries were shown.
+    /// Returns the number of entries shown.
     pub fn visits(&self) -> Visits
         ensures { result ≡ self.now.visits }
     {
@@ -83,8 +82,8 @@ impl<'a, P: BasePtr, T, A: Allocator> Probe<'a, P, T, A> {
         self.look(i)
     }
 
-    /// Shows, in place of the item of the entry at the index, that of the entry before it in the list, if there is one. One entry is
-    /// counted. Of the entry at the index itself it tells the generation and the roots of its sides.
+    /// Shows the item of the predecessor, if any, of the entry at the index, in place of its own. Counts one entry. Of the entry itself
+    /// it returns the generation and the roots of its sides.
     pub fn show_previous(
         &mut self,
         i: P::Inx,
@@ -109,7 +108,7 @@ impl<'a, P: BasePtr, T, A: Allocator> Probe<'a, P, T, A> {
         (generation, &link.t, previous)
     }
 
-    // The item of the entry at the index, not counted yet.
+    // The item of the entry at the index, not yet counted.
     fn item_at(&self, i: P::Inx) -> &'a T
         requires { IsSome (entry_at self.now.tree.now.list.entries (P.Inx.number i)) }
         ensures { option_map (λ e. e.1) (entry_at self.now.tree.now.list.entries (P.Inx.number i))
@@ -119,7 +118,7 @@ impl<'a, P: BasePtr, T, A: Allocator> Probe<'a, P, T, A> {
         &link.t.t
     }
 
-    // The entry at the index, not counted yet.
+    // The entry at the index, not yet counted.
     fn look(&self, i: P::Inx) -> (P::Gen, &'a LinkNoGen<P, SimpleOrdArenaNode<P, T>>)
         requires { IsSome (entry_at self.now.tree.now.list.entries (P.Inx.number i)) }
         ensures shown { IsNodeAt self.now.tree.now (P.Inx.number i)

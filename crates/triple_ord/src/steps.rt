@@ -1,4 +1,4 @@
-//! The steps along the list from a hint.
+//! Steps along the list from a hint.
 ghost use Rattle.std.specs.Prelude.{◌≡◌, ◌≤◌, IsSome, length};
 ghost use Rattle.std.specs.Option.{option_map};
 ghost use Rattle.chain_base.specs.Chain.{entry_at, IsDistinct};
@@ -13,13 +13,13 @@ use chain_base::LinkNoGen;
 use std::alloc::Allocator;
 use std::cmp::Ordering;
 
-/// Steps along the list from the entry at an index to where the key lies, and returns as a search for a similar key does, or
-/// `None` where the steps leave that open.
+/// Steps along the list from the entry at an index to the place of the key. Returns what a search for a similar key does, or `None` if
+/// the steps leave the result open.
 ///
-/// Each step compares the key with an entry's: Less leads to the previous entry, Greater to the next. An entry at which the order turns
-/// ends the steps with a result, and so does an end of the list. At an equal key that is sought, which may not be the first of its
-/// group, and after `num` comparisons they end without.
-// Inlined, so that an insertion with the hint `num: 1` has no loop left of it.
+/// Each step compares the key with that of an entry: `Less` leads to the previous entry, `Greater` to the next. The steps end with a
+/// result where the order turns, and at an end of the list. They end without one after `num` comparisons, and at an equal key that is
+/// sought, since it may not be the first of its group.
+// Inlined, so that an insertion with the hint `num: 1` has no loop.
 #[inline(always)]
 pub(crate) fn step_along<P: BasePtr, T: SimpleOrdItem, A: Allocator>(
     probe: &mut Probe<'_, P, T, A>,
@@ -42,7 +42,7 @@ pub(crate) fn step_along<P: BasePtr, T: SimpleOrdItem, A: Allocator>(
     ensures tree { probe.new.tree.now ≡ probe.old.tree.now }
 {
     let mut at = p_init;
-    // the order at the entry before, Equal where there is none
+    // The order at the previous entry, `Equal` at the start.
     let mut came = Ordering::Equal;
     for _step in 0..num {
         let (generation, link) = probe.show_link(at);
@@ -60,7 +60,7 @@ pub(crate) fn step_along<P: BasePtr, T: SimpleOrdItem, A: Allocator>(
     None
 }
 
-// The entry's neighbour on the side on which the key lies. There is none behind an end of the list, and none for an equal key.
+// The entry's neighbour towards the key. There is none beyond an end of the list, and none for an equal key.
 #[inline(always)]
 fn towards<P: BasePtr, T>(link: &LinkNoGen<P, T>, order: Ordering) -> Option<P::Inx>
     ensures { option_map P.Inx.number result ≡ neighbour_towards link.now order }

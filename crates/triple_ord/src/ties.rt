@@ -1,20 +1,20 @@
-//! `Ties`: what a search by key makes of an equal key.
+//! `Ties`: how a search by key treats an equal key.
 ghost use Rattle.std.specs.Prelude.{◌≡◌};
 ghost use Rattle.triple_ord.specs.Ties.{taken};
 
 use std::cmp::Ordering;
 
-/// What a search by key makes of an entry with an equal key.
+/// How a search by key treats entries with an equal key.
 #[derive(Clone, Copy)]
 pub(crate) enum Ties {
-    /// The first of them is looked for.
+    /// It looks for the first of them.
     Sought,
-    /// They count as lesser: the search goes behind the last of them.
+    /// They count as smaller: the search goes behind the last of them.
     Passed,
 }
 
 impl Ties {
-    /// How a key lies to an entry's, for such a search.
+    /// Returns the order of a key to an entry's key, for such a search.
     pub fn order<K: Ord>(self, k: &K, other: &K) -> Ordering
         ensures { result ≡ taken self K.cmp k.now other.now }
     {

@@ -1,9 +1,9 @@
-//! `Visits`: how many entries a search was shown.
+//! `Visits`: the number of entries that a search was shown.
 ghost use Rattle.std.specs.Prelude.{◌≡◌};
 
 use std::marker::Model;
 
-/// How many entries a search was shown, an entry that was shown again counted again.
+/// The number of entries that a search was shown. An entry that is shown again counts again.
 ///
 /// For a search by key it is the number of entries whose keys were compared.
 #[derive(Debug, Clone, Copy, PartialEq, Eq)]
@@ -22,14 +22,14 @@ impl Model for Visits {
 }
 
 impl Visits {
-    // So many visits.
+    // A number of visits.
     pub(crate) fn new(count: u128) -> Self
         ensures { result ≡ count }
     {
         Visits { count }
     }
 
-    /// The number of visits.
+    /// Returns the number of visits.
     pub fn count(&self) -> u128
         ensures { result ≡ self.now }
     {

@@ -1,5 +1,5 @@
-//! Tests of `triple_ord`, as a program that depends on it sees it: the worked examples, each call in turn, refused memory, what else no
-//! clause can say, and the uses of `triple_ord_uses`, run.
+//! Tests of `triple_ord` from the outside: worked examples, every call, failing memory, what no clause can say, and the uses of
+//! `triple_ord_uses`.
 #![tactic(auto)]
 
 #[cfg(test)]

@@ -1,4 +1,4 @@
-//! Arenas of keys, as a program sees them. Helpers answer what they find, and a test compares it.
+//! Arenas of keys, seen from the outside. Helpers return what they find, and a test compares it.
 ghost use Rattle.std.proofs.Common.{rules};
 ghost use Rattle.std.specs.Cmp.{partial_order_from_own_ties};
 ghost use Rattle.std.specs.Cmp.Rules.{comparing};
@@ -32,7 +32,7 @@ use triple_ord::{OrdInsertionError, OrdPair, SimpleOrdArena, SimpleOrdItem, laws
 
 type Keys<A = Global> = SimpleOrdArena<P0, OrdPair<u64, ()>, A>;
 
-/// An arena with these keys, inserted in this order. One that is refused is missing, which each test would tell.
+/// An arena with these keys, inserted in this order. If an insertion fails, the key is missing, which each test would notice.
 fn keys(alloc: Global, list: &[u64]) -> Keys {
     let mut a = Keys::new(alloc);
     for k in list {
@@ -46,12 +46,12 @@ fn five(alloc: Global) -> Keys {
     keys(alloc, &[50, 30, 70, 60, 10])
 }
 
-/// The pointer of an entry that no removal came before.
+/// The pointer of an entry inserted before any removal.
 fn at(index: u32) -> P0 {
     P0::_from_raw(index, 2)
 }
 
-/// The rank of the entry at an index, 0 where there is none.
+/// The rank of the entry at an index, 0 if there is none.
 fn rank_at(a: &Keys, index: u32) -> u8 {
     match a.get_inx_node(index) {
         Some((_, node)) => node.t.rank,
@@ -59,7 +59,7 @@ fn rank_at(a: &Keys, index: u32) -> u8 {
     }
 }
 
-/// Whether the entries in order stand at these indexes, each with this rank.
+/// Whether the entries in order have these indexes and ranks.
 fn has_ranks(a: &Keys, wanted: &[(u32, u8)]) -> bool {
     let mut left = wanted.iter();
     for (p, _) in a {
@@ -82,14 +82,14 @@ fn has_keys<A: Allocator>(a: &Keys<A>, wanted: &[u64]) -> bool {
     left.next().is_none()
 }
 
-/// Writes a key into the entry of a pointer, whatever the order.
+/// Writes a key into the entry of a pointer, regardless of the order.
 fn write_key(a: &mut Keys, p: P0, key: u64) {
     if let Some(pair) = a.get_mut(p) {
         *pair = OrdPair::new(key, ());
     }
 }
 
-/// Where a search for a key ends, after how many visits.
+/// The result of a search for a similar key, and its visits.
 fn similar_key(a: &Keys, key: u64) -> (Option<(P0, Ordering)>, u128) {
     let (similar, visits) = a.find_similar_key_counted(&key);
     (similar, visits.count())
@@ -104,7 +104,7 @@ fn five_keys(rt: HostRuntime) {
     assert!(rt; has_ranks(&a, &[(5, 1), (2, 2), (1, 3), (4, 1), (3, 2)]));
 }
 
-/// The ranks of the keys 1 to 7 that come in order.
+/// The indexes and ranks of the keys 1 to 7, inserted in order.
 const SEVEN: [(u32, u8); 7] = [(1, 1), (2, 2), (3, 1), (4, 3), (5, 1), (6, 2), (7, 1)];
 
 #[test]
@@ -117,7 +117,7 @@ fn keys_in_order(rt: HostRuntime) {
     assert!(rt; has_ranks(&seven, SEVEN.as_slice()));
 }
 
-/// A key that counts the comparisons in which it stands first.
+/// A key that counts the comparisons of which it is the first operand.
 #[derive(Clone, Copy)]
 #[derive_where(PartialEq, Eq)]
 struct Counting<'a> {
@@ -151,7 +151,7 @@ impl PartialOrd for Counting<'_> {
     }
 }
 
-/// An item that is nothing but its key.
+/// An item that consists only of its key.
 #[derive(Drop)]
 struct Sole<'a> {
     key: Counting<'a>,
@@ -167,7 +167,7 @@ impl<'a> SimpleOrdItem for Sole<'a> {
     }
 }
 
-/// How many comparisons there were since the last time.
+/// The number of comparisons since the last call.
 fn taken(comparisons: &Cell<u128>) -> u128 {
     comparisons.replace(0)
 }
@@ -175,12 +175,12 @@ fn taken(comparisons: &Cell<u128>) -> u128 {
 /// Keys that count their comparisons.
 type CountingKeys<'a> = SimpleOrdArena<PN, Sole<'a>>;
 
-/// Inserts a key, and tells whether that went well.
+/// Inserts a key and returns whether that succeeded.
 fn is_inserted<'a>(a: &mut CountingKeys<'a>, key: Counting<'a>) -> bool {
     a.insert(Sole { key }).is_ok()
 }
 
-/// Five keys, none of whose comparisons is counted yet.
+/// Five keys whose comparisons are counted from now on.
 fn five_counting_keys(alloc: Global, comparisons: &Cell<u128>) -> CountingKeys<'_> {
     let mut a = SimpleOrdArena::new(alloc);
     for key in &[50u64, 30, 70, 60, 10] {
@@ -191,10 +191,10 @@ fn five_counting_keys(alloc: Global, comparisons: &Cell<u128>) -> CountingKeys<'
     a
 }
 
-/// The keys of five entries, and some between and beside them.
+/// The keys of five entries, and some other keys.
 const SOUGHT: [u64; 9] = [50, 30, 70, 60, 10, 53, 40, 5, 99];
 
-/// The visits of a search for a key, if it compares as often, with the count and without.
+/// The visits of a search for a key, if it makes as many comparisons, with the count and without.
 fn find_key_compares(a: &CountingKeys, wanted: &Counting) -> Option<u128> {
     let (found, visits) = a.find_key_counted(wanted);
     let compared = taken(wanted.comparisons);
@@ -207,7 +207,7 @@ fn find_key_compares(a: &CountingKeys, wanted: &Counting) -> Option<u128> {
     }
 }
 
-/// The same of a search for a similar key.
+/// The same for a search for a similar key.
 fn find_similar_key_compares(a: &CountingKeys, wanted: &Counting) -> Option<u128> {
     let (similar, visits) = a.find_similar_key_counted(wanted);
     let compared = taken(wanted.comparisons);
@@ -238,7 +238,7 @@ fn visits_are_comparisons(rt: HostRuntime) {
     assert!(rt; a.len() == 9);
 }
 
-/// Whether a search for a key from a hint compares once a visit, with the count and without.
+/// Whether a search for a key from a hint makes one comparison per visit, with the count and without.
 fn find_key_linear_compares(a: &CountingKeys, hint: u32, num: usize, wanted: &Counting) -> bool {
     let p = PN::_from_raw(hint, ());
     let (found, visits) = a.find_key_linear_counted(p, num, wanted);
@@ -248,7 +248,7 @@ fn find_key_linear_compares(a: &CountingKeys, hint: u32, num: usize, wanted: &Co
     plain == found && (compared, compared_again) == (visits.count(), compared)
 }
 
-/// The same of a search for a similar key.
+/// The same for a search for a similar key.
 fn find_similar_key_linear_compares(
     a: &CountingKeys,
     hint: u32,
@@ -262,7 +262,7 @@ fn find_similar_key_linear_compares(
     plain == similar && (compared, compared_again) == (visits.count(), compared)
 }
 
-/// Whether both searches for a key from any hint compare once a visit.
+/// Whether both searches for a key from any hint make one comparison per visit.
 fn steps_compare(a: &CountingKeys, wanted: &Counting) -> bool {
     for hint in 0u32..7 {
         for num in [0, 1, 2, 3, usize::MAX] {
@@ -313,16 +313,16 @@ fn a_pair_hashes_as_its_parts(rt: HostRuntime) {
     assert!(rt; of_pair.finish() == of_parts.finish());
 }
 
-/// Keys under pointers of eight bits, which name 254 entries.
+/// Keys with 8-bit pointers, which name 254 entries.
 type SmallKeys = SimpleOrdArena<P8, OrdPair<u64, ()>>;
 
-/// Inserts a key. Tells whether it replaced one, or the refusal.
+/// Inserts a key. Returns whether it replaced one, or the error.
 fn is_replaced(a: &mut SmallKeys, key: u64) -> Result<bool, OrdInsertionError> {
     let (_, before) = a.insert(OrdPair::new(key, ()))?;
     Ok(before.is_some())
 }
 
-/// Inserts new keys up to a capacity, and tells whether the arena has it from the first of them on.
+/// Inserts new keys up to a capacity. Returns whether the arena has this capacity from the first of them on.
 fn grows_to(a: &mut SmallKeys, capacity: usize) -> bool {
     for n in a.len()..capacity {
         let key = (n as u64).wrapping_mul(77) % 254;

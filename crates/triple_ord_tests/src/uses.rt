@@ -11,7 +11,7 @@ use triple_ord_uses::rounds::{
 };
 use triple_ord_uses::scheduler::{Jobs, cancel, cancel_all, next, pop, replace, schedule};
 
-// Whether a job is written over, and gone once it is cancelled.
+// Whether a job is overwritten, and gone after it is cancelled.
 fn is_cancelled_once(jobs: &mut Jobs, early: P0) -> bool {
     replace(jobs, early, 7)
         && next(jobs) == Some((early, 30, 7))
@@ -37,7 +37,7 @@ fn jobs_come_by_deadline_and_leave_when_they_are_cancelled(rt: HostRuntime) {
     assert!(rt; has_none(&mut jobs));
 }
 
-// Jobs 1, 2 and 3 of the deadlines 10, 20 and 30, in this order or the other way round, and the pointer of the first.
+// Jobs 1, 2 and 3 with the deadlines 10, 20 and 30, added in this order or in reverse, and the pointer of the first.
 fn three_jobs(alloc: Global, is_reversed: bool) -> Result<(Jobs, P0), OrdInsertionError> {
     let mut jobs = Jobs::new(alloc);
     let mut first = P0::invalid();
@@ -51,13 +51,13 @@ fn three_jobs(alloc: Global, is_reversed: bool) -> Result<(Jobs, P0), OrdInserti
     Ok((jobs, first))
 }
 
-// A job with its deadline.
+// A job and its deadline.
 fn job_of(found: Option<(P0, u64, u64)>) -> Option<(u64, u64)> {
     let (_, deadline, job) = found?;
     Some((deadline, job))
 }
 
-// Whether a round that has given the first job goes on to the second, where the first is cancelled meanwhile.
+// Whether a round that has returned the first job goes on to the second after the first is cancelled.
 fn goes_on_behind(round: &mut OrderedPtrAdvancer<P0>, jobs: &mut Jobs, first: P0) -> bool {
     next_of_round(round, jobs) == Some((first, 10, 1))
         && cancel(jobs, first)
@@ -65,14 +65,14 @@ fn goes_on_behind(round: &mut OrderedPtrAdvancer<P0>, jobs: &mut Jobs, first: P0
         && job_of(next_of_round(round, jobs)) == Some((20, 2))
 }
 
-// Whether it gives the third job as its last, where a drain takes the second meanwhile.
+// Whether the round returns the third job as its last after a drain takes the second.
 fn ends_behind(round: &mut OrderedPtrAdvancer<P0>, jobs: &mut Jobs) -> bool {
     job_of(first_of_drain(jobs)) == Some((20, 2))
         && job_of(next_of_round(round, jobs)) == Some((30, 3))
         && next_of_round(round, jobs).is_none()
 }
 
-// Whether the third job is the last, and the only one.
+// Whether the third job is the last and only one.
 fn has_the_third_alone(jobs: &mut Jobs) -> bool {
     last_job(jobs) == Some((30, 3)) && last_job(jobs).is_none() && first_of_drain(jobs).is_none()
 }
@@ -86,20 +86,20 @@ fn rounds_go_on_over_changes(rt: HostRuntime) {
     assert!(rt; has_the_third_alone(&mut jobs));
 }
 
-// Whether a walk by index gives the third job, which came first, and then the second.
+// Whether a walk by index returns the third job, which was added first, and then the second.
 fn goes_by_index(walk: &mut PtrAdvancer<P0>, jobs: &Jobs, late: P0) -> bool {
     next_by_index(walk, jobs) == Some((late, 30, 3))
         && job_of(next_by_index(walk, jobs)) == Some((20, 2))
 }
 
-// Whether it gives the first job as its last, where a drain by index takes the third meanwhile.
+// Whether the walk returns the first job as its last after a drain by index takes the third.
 fn ends_by_index(walk: &mut PtrAdvancer<P0>, jobs: &mut Jobs) -> bool {
     job_of(least_of_drain(jobs)) == Some((30, 3))
         && job_of(next_by_index(walk, jobs)) == Some((10, 1))
         && next_by_index(walk, jobs).is_none()
 }
 
-// Whether the second job has the least index, and whoever takes it leaves none.
+// Whether the second job has the least index, and taking it leaves none.
 fn has_the_second_first(jobs: &mut Jobs) -> bool {
     job_of(least_job(jobs)) == Some((20, 2))
         && least_job(jobs).is_none()
@@ -115,7 +115,7 @@ fn jobs_are_met_by_index(rt: HostRuntime) {
     assert!(rt; has_the_second_first(&mut jobs));
 }
 
-// A book of a page for each ten of its number.
+// A book with one page for each ten of its number.
 fn book(number: u64) -> Book {
     Book {
         number,
@@ -123,7 +123,7 @@ fn book(number: u64) -> Book {
     }
 }
 
-// Gives the book 500 the number 100, and tells whether it is found by that alone, and under a new pointer.
+// Gives the book 500 the number 100. Returns whether it is found only by that number, and under a new pointer.
 fn is_renumbered(catalogue: &mut Catalogue, p: BookPtr) -> Result<bool, OrdInsertionError> {
     let moved = renumber(catalogue, p, 100)?;
     let is_moved = find(catalogue, 500).is_none() && find(catalogue, 100) == moved;
@@ -151,7 +151,7 @@ fn books_are_found_by_number_and_by_pointer(rt: HostRuntime) {
     assert!(rt; has_books(&mut catalogue));
 }
 
-// Adds two jobs of the deadline 30, and tells the pointer of the second, where the first comes first.
+// Adds two jobs with the deadline 30. Returns the pointer of the second if the first comes first.
 fn two_jobs(jobs: &mut Jobs) -> Option<P0> {
     let first = add(jobs, OrdPair::new(30, 1)).ok()?;
     let second = add(jobs, OrdPair::new(30, 2)).ok()?;
@@ -159,21 +159,21 @@ fn two_jobs(jobs: &mut Jobs) -> Option<P0> {
     if comes_first { Some(second) } else { None }
 }
 
-// Whether a job of the deadline 30 would replace one, and not of 40; and one goes behind the second job, and none behind nothing.
+// Whether a job with the deadline 30 would replace one and a job with 40 wouldn't, and whether a job goes only behind an existing one.
 fn are_told(jobs: &mut Jobs, second: P0) -> Result<bool, OrdInsertionError> {
     let replaces = would_replace(jobs, 30)? && !would_replace(jobs, 40)?;
     let is_put = put_behind(jobs, second, OrdPair::new(5, 3))?;
     Ok(replaces && is_put && !put_behind(jobs, P0::invalid(), OrdPair::new(5, 3))?)
 }
 
-// Adds a job, and tells whether another of its deadline, sought from there, replaces it.
+// Adds a job. Returns whether another one with its deadline, searched from there, replaces it.
 fn is_replaced(jobs: &mut Jobs) -> Result<bool, OrdInsertionError> {
     let third = schedule_within(jobs, 90, 4)?;
     let replaced = add_near(jobs, third, OrdPair::new(90, 5))?;
     Ok(replaced == (third, Some(OrdPair::new(90, 4))))
 }
 
-// Whether a job comes back where there is no room and can't be, and where there is none within the capacity.
+// Whether a job is returned if there is no room and can't be, and if there is none within the capacity.
 fn are_refused(jobs: &mut Jobs) -> bool {
     let refused = (OrdPair::new(7, 7), OrdInsertionError::BeyondMaxCapacity);
     add(jobs, OrdPair::new(7, 7)) == Err(refused)

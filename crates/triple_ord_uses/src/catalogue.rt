@@ -1,4 +1,4 @@
-//! A catalogue of books by number, with an item type and a pointer type of its own.
+//! A catalogue of books by number, with its own item type and pointer type.
 
 ghost use Rattle.std.specs.Prelude.{◌≡◌, ◌≢◌, ◌+◌, ℕ, false, Some, IfOk, OnErr, IfSome, IsSomeAnd, is_some, refl, if◌then◌else◌};
 ghost use Rattle.std.specs.Option.{option_map};
@@ -8,7 +8,7 @@ use std::alloc::Global;
 use std::marker::Model;
 use triple_ord::{BasePtr, OrdInsertionError, Ptr, SimpleOrdArena, SimpleOrdItem};
 
-/// The pointer of a book: a type of its own, so that no other pointer is taken for one.
+/// The pointer of a book: its own type, so that no other pointer is mistaken for it.
 #[derive(Clone, Copy, PartialEq, Eq, PartialOrd, Ord, Hash, Debug)]
 pub struct BookPtr {
     inx: u32,
@@ -56,7 +56,7 @@ impl BasePtr for BookPtr {
 
 impl Ptr for BookPtr {}
 
-/// A book: its number, by which it is found, and how many pages it has.
+/// A book: its number, by which it is found, and its number of pages.
 #[derive(Clone, Copy, PartialEq, Eq, Debug)]
 pub struct Book {
     pub number: u64,
@@ -76,7 +76,7 @@ impl SimpleOrdItem for Book {
 /// Books by number.
 pub type Catalogue = SimpleOrdArena<BookPtr, Book>;
 
-/// Puts a book into the index, in the place of the one of its number, if there is one.
+/// Adds a book to the catalogue, replacing the one with its number, if any.
 pub fn put(catalogue: &mut Catalogue, book: Book) -> Result<BookPtr, OrdInsertionError>
     ensures finds { IfOk result (λ p. item_of catalogue.new p ≡ Some book) }
     ensures others { IfOk result (λ p. (q : ℕ × ℕ) → q ≢ p
@@ -87,14 +87,14 @@ pub fn put(catalogue: &mut Catalogue, book: Book) -> Result<BookPtr, OrdInsertio
     Ok(p)
 }
 
-/// How many pages a book has.
+/// Returns the number of pages of a book.
 pub fn pages(catalogue: &Catalogue, p: BookPtr) -> Option<u64>
     ensures { result ≡ option_map (λ r. r.pages) (item_of catalogue.now p) }
 {
     Some(catalogue.get(p)?.pages)
 }
 
-/// The pointer of a book with this number.
+/// Returns the pointer of a book with this number.
 pub fn find(catalogue: &Catalogue, number: u64) -> Option<BookPtr>
     ensures { IfSome result
         (λ p. IsSomeAnd (item_of catalogue.now p) (λ book. book.number ≡ number)) }
@@ -102,8 +102,8 @@ pub fn find(catalogue: &Catalogue, number: u64) -> Option<BookPtr>
     catalogue.find_key(&number)
 }
 
-/// Gives a book another number, and so another pointer, or `None` where the pointer named no book. A book that had the number
-/// already is replaced. Where the new place is refused, the book is gone.
+/// Gives a book another number, and returns its new pointer, or `None` if the old pointer names no book. A book that already has the
+/// number is replaced. On `Err` the book is gone.
 pub fn renumber(
     catalogue: &mut Catalogue,
     p: BookPtr,
@@ -121,7 +121,7 @@ pub fn renumber(
     Ok(Some(q))
 }
 
-/// Takes the first book out, if there is one.
+/// Removes the first book, if any, and returns it.
 pub fn take_first(catalogue: &mut Catalogue) -> Option<Book>
     ensures count { count catalogue.old
         ≡ (if is_some result then count catalogue.new + 1 else count catalogue.new) }

@@ -1,4 +1,4 @@
-//! Jobs that come back where they are refused, several jobs of one deadline, and jobs beside a job.
+//! Jobs that are returned if their insertion fails, several jobs with the same deadline, and jobs next to a given job.
 
 ghost use Rattle.std.specs.Prelude.{◌≡◌, ◌≢◌, ◌+◌, ℕ, Some, None, IfOk, OnOk, IfErr, OnErr, if◌then◌else◌};
 ghost use Rattle.triple_ord.specs.Arena.{item_of, count, FindSame};
@@ -7,7 +7,7 @@ use crate::scheduler::Jobs;
 use std::cmp::Ordering;
 use triple_ord::{BasePtr, OrdEntryKind, OrdInsertKind, OrdInsertionError, OrdPair, P0};
 
-/// Puts a job on the list beside those of the same deadline; where it is refused the job comes back.
+/// Adds a job behind those with the same deadline. On `Err` the job is returned.
 pub fn add(
     jobs: &mut Jobs,
     job: OrdPair<u64, u64>,
@@ -28,7 +28,7 @@ pub fn add(
     }
 }
 
-// Behind all jobs of the same deadline or an earlier one, with a search that compares the last deadline first.
+// Behind all jobs with the same or an earlier deadline, with a search that compares the last deadline first.
 fn from_the_last<'k>(jobs: &Jobs, deadline: &'k u64) -> OrdInsertKind<P0, &'k u64> {
     match jobs.last() {
         Some(last) => OrdInsertKind::NonhereditaryLinear {
@@ -40,7 +40,7 @@ fn from_the_last<'k>(jobs: &Jobs, deadline: &'k u64) -> OrdInsertKind<P0, &'k u6
     }
 }
 
-/// Puts a job on the list as `add` does. Its place is found in O(1) if it is due last, else in O(log n).
+/// Adds a job as `add` does. Its place is found in O(1) if it is due last, else in O(log n).
 pub fn append(
     jobs: &mut Jobs,
     job: OrdPair<u64, u64>,
@@ -62,7 +62,7 @@ pub fn append(
     }
 }
 
-/// Puts a job on the list where there is room, by a hint: the pointer of a job of about the same deadline.
+/// Adds a job within the capacity, with a hint: the pointer of a job with a similar deadline.
 pub fn add_near(
     jobs: &mut Jobs,
     hint: P0,
@@ -83,7 +83,7 @@ pub fn add_near(
     Ok((p, entry.insert(job)))
 }
 
-/// Puts a job on the list where there is room.
+/// Adds a job within the capacity.
 pub fn schedule_within(jobs: &mut Jobs, deadline: u64, job: u64) -> Result<P0, OrdInsertionError>
     ensures finds { IfOk result (λ p. item_of jobs.new p ≡ Some (deadline, job)) }
     ensures others { IfOk result (λ p. (q : ℕ × ℕ) → q ≢ p
@@ -94,7 +94,7 @@ pub fn schedule_within(jobs: &mut Jobs, deadline: u64, job: u64) -> Result<P0, O
     Ok(p)
 }
 
-/// Whether a job of this deadline would replace one. Room for it is made, and nothing else changes.
+/// Returns whether a job with this deadline would replace one. Makes room for it; nothing else changes.
 pub fn would_replace(jobs: &mut Jobs, deadline: u64) -> Result<bool, OrdInsertionError>
     ensures found { FindSame jobs.old jobs.new }
     ensures count { count jobs.new ≡ count jobs.old }
@@ -103,7 +103,7 @@ pub fn would_replace(jobs: &mut Jobs, deadline: u64) -> Result<bool, OrdInsertio
     Ok(matches!(entry.ptr(), OrdEntryKind::Replacing(_)))
 }
 
-/// Puts a job directly behind another, whatever their deadlines; returns whether the pointer's index has one.
+/// Puts a job directly behind another, whatever their deadlines. Returns whether there is a job at the pointer's index.
 pub fn put_behind(jobs: &mut Jobs, p: P0, job: OrdPair<u64, u64>) -> Result<bool, OrdInsertionError>
     ensures count { IfOk result
         (λ put. count jobs.new ≡ (if put then count jobs.old + 1 else count jobs.old)) }

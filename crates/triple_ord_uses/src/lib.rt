@@ -1,4 +1,4 @@
-//! Uses of `triple_ord`, as a caller writes them: each with the clauses that its user wants, proved from the contracts alone.
+//! Uses of `triple_ord` as a caller writes them, each with the clauses that its user needs, proved from the contracts alone.
 #![tactic(auto)]
 
 pub mod catalogue;

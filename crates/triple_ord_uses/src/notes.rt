@@ -1,4 +1,4 @@
-//! Notes by their time, with an item that owns text: how such an item says what a clone of it is.
+//! Notes by time, with an item that owns text: how such an item defines what its clone is.
 
 ghost use Rattle.std.specs.Prelude.{◌≡◌, ℕ, Some, IfOk, OnErr};
 ghost use Rattle.triple_ord.specs.Arena.{item_of, count, FindSame};
@@ -14,8 +14,8 @@ pub struct Note {
     text: String,
 }
 
-// In clauses a note is its time and the bytes of its text; how much room the text has says nothing of it. So a clone, whose text
-// may have another capacity, is the same note.
+// In clauses a note is its time and the bytes of its text; the capacity of the text doesn't count. So a clone, whose text may have
+// another capacity, is the same note.
 impl Model for Note {
     ghost use Rattle.std.specs.Prelude.{ℕ, List, string_bytes};
 
@@ -48,7 +48,7 @@ impl SimpleOrdItem for Note {
 /// Notes by time.
 pub type Notes = SimpleOrdArena<P0, Note>;
 
-/// Puts a note down.
+/// Adds a note.
 pub fn put(notes: &mut Notes, note: Note) -> Result<P0, OrdInsertionError>
     ensures finds { IfOk result (λ p. item_of notes.new p ≡ Some note) }
     ensures refused { OnErr result (notes.new ≡ notes.old) }
@@ -57,7 +57,7 @@ pub fn put(notes: &mut Notes, note: Note) -> Result<P0, OrdInsertionError>
     Ok(p)
 }
 
-/// A copy of all notes, in which each pointer finds the same note.
+/// Returns a copy of all notes, in which each pointer finds the same note.
 pub fn copy(notes: &Notes) -> Result<Notes, AllocError>
     ensures found { IfOk result (λ all. FindSame notes.now all) }
     ensures count { IfOk result (λ all. count all ≡ count notes.now) }

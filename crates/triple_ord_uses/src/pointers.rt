@@ -25,7 +25,7 @@ pub fn hash_of<P: Ptr>(p: P) -> u64 {
     hasher.finish()
 }
 
-/// Formats a pointer and its index for a log. `Err` if memory is refused.
+/// Formats a pointer and its index for a log. Returns `Err` if there is no memory.
 pub fn text_of<P: Ptr, A: Allocator>(alloc: A, p: P) -> Result<String<A>, AllocError> {
     let i = p.inx();
     format!(in alloc; "{p:?} at {i:?}")

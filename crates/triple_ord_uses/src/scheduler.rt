@@ -1,4 +1,4 @@
-//! A scheduler: jobs by deadline, each named by the pointer that it got.
+//! A scheduler: jobs by deadline, each named by its pointer.
 
 ghost use Rattle.std.specs.Prelude.{◌≡◌, ◌≢◌, false, ◌+◌, ℕ, Some, None, IfOk, OnErr, IfSome, OnSome, IsSome, is_some, if◌then◌else◌};
 ghost use Rattle.std.specs.Option.{option_map};
@@ -10,7 +10,7 @@ use triple_ord::{OrdInsertionError, OrdPair, P0, SimpleOrdArena};
 /// Jobs by deadline; a job is a number.
 pub type Jobs = SimpleOrdArena<P0, OrdPair<u64, u64>>;
 
-/// Puts a job on the list, and returns the pointer by which it is found.
+/// Adds a job and returns its pointer.
 pub fn schedule(jobs: &mut Jobs, deadline: u64, job: u64) -> Result<P0, OrdInsertionError>
     ensures finds { IfOk result (λ p. item_of jobs.new p ≡ Some (deadline, job)) }
     ensures others { IfOk result (λ p. (q : ℕ × ℕ) → q ≢ p
@@ -21,7 +21,7 @@ pub fn schedule(jobs: &mut Jobs, deadline: u64, job: u64) -> Result<P0, OrdInser
     Ok(p)
 }
 
-/// Takes a job off the list; returns whether the pointer named one.
+/// Removes a job. Returns whether the pointer named one.
 pub fn cancel(jobs: &mut Jobs, p: P0) -> bool
     ensures cancelled { result ≡ is_some (item_of jobs.old p) }
     ensures gone { item_of jobs.new p ≡ None }
@@ -31,7 +31,7 @@ pub fn cancel(jobs: &mut Jobs, p: P0) -> bool
     jobs.remove(p).allow().is_some()
 }
 
-/// Puts another job in the place of one; returns whether the pointer named one. The number of jobs stays.
+/// Replaces a job by another. Returns whether the pointer named one. The number of jobs stays.
 #[tactic(auto, using(triple_ord::proofs::CallerLemmas::written))]
 pub fn replace(jobs: &mut Jobs, p: P0, job: u64) -> bool
     ensures replaced { result ≡ is_some (item_of jobs.old p) }
@@ -49,7 +49,7 @@ pub fn replace(jobs: &mut Jobs, p: P0, job: u64) -> bool
     }
 }
 
-/// The first job of the list with its deadline, and its pointer.
+/// Returns the first job with its pointer and its deadline.
 pub fn next(jobs: &Jobs) -> Option<(P0, u64, u64)>
     ensures finds { IfSome result (λ n. item_of jobs.now n.0 ≡ Some (n.1, n.2)) }
     ensures none { is_some result ≡ false → count jobs.now ≡ 0 }
@@ -59,7 +59,7 @@ pub fn next(jobs: &Jobs) -> Option<(P0, u64, u64)>
     Some((p, *pair.k(), *pair.v()))
 }
 
-/// Takes the first job off the list; returns the pointer that it had, its deadline and the job.
+/// Removes the first job. Returns its pointer, its deadline and the job.
 pub fn pop(jobs: &mut Jobs) -> Option<(P0, u64, u64)>
     ensures found { IfSome result (λ n. item_of jobs.old n.0 ≡ Some (n.1, n.2)) }
     ensures gone { IfSome result (λ n. Updates jobs.old jobs.new n.0 None) }
@@ -70,7 +70,7 @@ pub fn pop(jobs: &mut Jobs) -> Option<(P0, u64, u64)>
     Some((p, *pair.k(), *pair.v()))
 }
 
-/// Takes all jobs off the list.
+/// Removes all jobs.
 pub fn cancel_all(jobs: &mut Jobs)
     ensures gone { FindsNothing jobs.new }
     ensures count { count jobs.new ≡ 0 }

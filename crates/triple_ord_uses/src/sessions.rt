@@ -1,4 +1,4 @@
-//! Sessions by deadline: each is named by a token, ends at its deadline unless it is touched before, and keeps its token when it is.
+//! Sessions by deadline. Each is named by a token and ends at its deadline unless it is touched before; touching keeps the token.
 
 ghost use Rattle.std.specs.Prelude.{◌≡◌, ◌≢◌, ◌+◌, ◌-◌, ◌≤◌, ℕ, Some, None, IfOk, OnErr, IfSome, IfNone, is_some, map};
 ghost use Rattle.std.specs.Option.{option_map};
@@ -13,7 +13,7 @@ use triple_ord::{OrdInsertKind, OrdInsertionError, OrdPair, P0, SimpleOrdArena};
 /// Users by the deadline of their session. Sessions may end at the same time.
 pub type Sessions = SimpleOrdArena<P0, OrdPair<u64, u64>>;
 
-/// Opens a session of a user until a deadline, and returns its token.
+/// Opens a session of a user until a deadline and returns its token.
 pub fn open(sessions: &mut Sessions, deadline: u64, user: u64) -> Result<P0, OrdInsertionError>
     ensures opened { IfOk result
         (λ token. item_of sessions.new token ≡ Some (deadline, user)) }
@@ -27,7 +27,7 @@ pub fn open(sessions: &mut Sessions, deadline: u64, user: u64) -> Result<P0, Ord
     Ok(token)
 }
 
-/// Lets a session go on until another deadline. Its token stays valid. Returns whether the token names a session.
+/// Moves the deadline of a session. Its token stays valid. Returns whether the token names a session.
 pub fn touch(sessions: &mut Sessions, token: P0, deadline: u64) -> bool
     ensures named { result ≡ is_some (item_of sessions.old token) }
     ensures touched { item_of sessions.new token
@@ -42,7 +42,7 @@ pub fn touch(sessions: &mut Sessions, token: P0, deadline: u64) -> bool
     sessions.rekey_pair(token, deadline).is_ok()
 }
 
-/// Gives a session to another user until another deadline, and returns the user that it had. `None` if the token names no session.
+/// Gives a session another user and another deadline, and returns the old user, or `None` if the token names no session.
 pub fn hand_over(sessions: &mut Sessions, token: P0, deadline: u64, user: u64) -> Option<u64>
     ensures before { result
         ≡ option_map (λ session. session.1) (item_of sessions.old token) }
@@ -58,7 +58,7 @@ pub fn hand_over(sessions: &mut Sessions, token: P0, deadline: u64, user: u64) -
     }
 }
 
-/// Ends a session earlier than its deadline says, by so much. Returns whether the token names a session.
+/// Shortens a session by `by`. Returns whether the token names a session.
 #[tactic(auto, using(triple_ord::proofs::CallerLemmas::written))]
 pub fn shorten(sessions: &mut Sessions, token: P0, by: u64) -> bool
     ensures named { result ≡ is_some (item_of sessions.old token) }
@@ -90,8 +90,7 @@ pub fn expire_one(sessions: &mut Sessions, now: u64) -> Option<u64>
     Some(*session.v())
 }
 
-/// Moves all sessions to the least indexes, which gives each another token, and leaves none its user. The deadlines stay, in their
-/// order.
+/// Moves all sessions to the least indexes, which gives each a new token, and removes its user. The deadlines stay, in the same order.
 pub fn forget_users(sessions: &mut Sessions)
     ensures deadlines { map (λ s. s.0) (items sessions.new) ≡ map (λ s. s.0) (items sessions.old) }
     ensures count { count sessions.new ≡ count sessions.old }

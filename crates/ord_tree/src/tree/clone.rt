@@ -1,4 +1,4 @@
-//! Taking over the pointers, the order and the shape of another tree.
+//! Cloning another tree: its pointers, its order and its shape.
 
 ghost use Rattle.std.specs.Prelude.{◌≡◌, ◌<◌, ◌↔◌, ◌⊎◌, OnOk, OnErr};
 ghost use Rattle.chain_base.specs.Chain.{chain_limit, greatest_index};
@@ -13,16 +13,22 @@ use chain_base::{ChainArena, LinkNoGen};
 use std::alloc::{AllocError, Allocator};
 
 impl<P: BasePtr, T: Drop, A: Allocator> OrdTree<P, T, A> {
-    /// Makes this tree a clone of the source, with items that `map` makes: it has the source's pointers in the source's order, the
-    /// source's shape and its generation, and its own old entries are dropped.
+    /// Makes this tree a clone of `source` with items made by `map`. It gets the source's pointers, order, shape and generation; its own
+    /// entries are dropped.
     ///
-    /// For each entry of the source, by rising index, `map` is called with its pointer and a reference to its item. The capacity
-    /// grows to the source's greatest index, where it is less, before anything else changes; the maximum stays, and all vacant slots
-    /// count as never used. It goes through the slots of both once.
+    /// Calls `map` for each source entry, by rising index, with its pointer and a reference to its item. If the capacity is less than the
+    /// source's greatest index, it first grows to that index. The maximum stays, and the free list is ascending, as if no slot had been
+    /// used.
     ///
-    /// It is refused with `BeyondMaxCapacity` where that index is beyond this tree's limit, and with `AllocError` where the capacity
-    /// would grow and memory is refused. Nothing changes then, and `map` isn't called. The first item for which `map` is refused
-    /// memory ends the call with `AllocError`: the tree is empty then, with the source's generation and the capacity of a clone.
+    /// # Errors
+    ///
+    /// - `BeyondMaxCapacity`: the source's greatest index is beyond this tree's limit. The tree is unchanged, and `map` isn't called.
+    /// - `AllocError`: growing failed, with the same effect; or `map` failed, which ends the calls. In the latter case the tree is empty,
+    ///   with the source's generation and the capacity of a clone.
+    ///
+    /// # Complexity
+    ///
+    /// One pass over the slots of both trees.
     pub fn try_clone_from_with<
         U,
         B: Allocator + Copy,
@@ -45,10 +51,10 @@ impl<P: BasePtr, T: Drop, A: Allocator> OrdTree<P, T, A> {
         self.clone_by(source, &mut calls)
     }
 
-    /// Makes this tree a clone of the source as `try_clone_from_with` does, where `map` has the place of the closure.
+    /// Makes this tree a clone of `source` as `try_clone_from_with` does, with `map` in place of the closure.
     ///
-    /// `map` is left in the state after the call for the last entry, or after the call that was refused; it is unchanged if the growth
-    /// is refused or the index is beyond the limit.
+    /// `map` is left in the state after its last call, for the last entry or the one at which it failed. It is unchanged if growing
+    /// failed or the index is beyond the limit.
     pub fn clone_by<U, B: Allocator + Copy, M: CloneEntry<P, U, T>>(
         &mut self,
         source: &OrdTree<P, U, B>,
@@ -67,13 +73,13 @@ impl<P: BasePtr, T: Drop, A: Allocator> OrdTree<P, T, A> {
             × (self.new ≡ self.old) × (map.new ≡ map.old))
             ⊎ IsRefusedClone P.numbers M.step map.old source.now self.old self.new map.new }
     {
-        // The invariant of the source's list is needed: each of its indexes is above 0.
+        // For the prover: the source's list is sound, so each of its indexes is above 0.
         let _ = source.chain.len();
         let mut node = CloneNode { map };
         let cloned = self.chain.clone_by(&source.chain, &mut node);
         match cloned {
             Ok(()) => self.root = source.root,
-            // An item was refused, or nothing changed.
+            // `map` failed, or nothing changed.
             Err(_) => if self.chain.is_empty() {
                 self.root = None;
             },
@@ -83,15 +89,22 @@ impl<P: BasePtr, T: Drop, A: Allocator> OrdTree<P, T, A> {
 }
 
 impl<P: BasePtr, T, A: Allocator + Copy> OrdTree<P, T, A> {
-    /// Makes a chain a clone of the list, with items that `map` makes: it has the tree's pointers in their order and its generation,
-    /// and its own old entries are dropped.
+    /// Makes `chain` a clone of the list with items made by `map`. It gets the tree's pointers, order and generation; its own entries are
+    /// dropped.
     ///
-    /// For each entry, by rising index, `map` is called with its pointer and a reference to its item. The chain's capacity grows to
-    /// the tree's greatest index, where it is less, before anything else changes; its maximum stays, and all its vacant slots count as
-    /// never used. It goes through the slots of both once.
+    /// Calls `map` for each entry, by rising index, with its pointer and a reference to its item. If the chain's capacity is less than
+    /// the tree's greatest index, it first grows to that index. The chain's maximum stays, and its free list is ascending, as if no slot
+    /// had been used.
     ///
-    /// It is refused with `BeyondMaxCapacity` where that index is beyond the chain's limit, and with `AllocError` where its capacity
-    /// would grow and memory is refused. Nothing changes then, and `map` isn't called.
+    /// # Errors
+    ///
+    /// The chain is unchanged, and `map` isn't called.
+    /// - `BeyondMaxCapacity`: the tree's greatest index is beyond the chain's limit.
+    /// - `AllocError`: growing failed.
+    ///
+    /// # Complexity
+    ///
+    /// One pass over the slots of both.
     pub fn clone_to_chain_arena<U: Drop, B: Allocator, F: FnMut(P, &T) -> U + Drop>(
         &self,
         chain: &mut ChainArena<P, U, B>,
@@ -113,7 +126,7 @@ impl<P: BasePtr, T, A: Allocator + Copy> OrdTree<P, T, A> {
     }
 }
 
-/// Makes what the items of a clone are made by, where it is shown the items of nodes.
+/// Adapts a maker of items to the nodes of a tree: it is shown only their items.
 #[doc(hidden)]
 #[derive(Drop)]
 pub struct ShowItem<M> {
@@ -139,7 +152,7 @@ impl<P: BasePtr, T, U, M: CloneEntry<P, T, U>> CloneEntry<
     }
 }
 
-/// Makes the node of a clone, which has the links and the rank of the source's.
+/// Makes the node of a clone, with the links and the rank of the source's node.
 #[doc(hidden)]
 #[derive(Drop)]
 pub struct CloneNode<'a, M> {

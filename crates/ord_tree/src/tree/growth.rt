@@ -1,4 +1,4 @@
-//! Making a tree, and changing its capacity.
+//! Creating a tree, and changing its capacity.
 
 ghost use Rattle.std.specs.Prelude.{◌≡◌, ◌<◌, ◌↔◌, ◌⊎◌, max, length, IsSome, IsOk, IsErr, IfOk, OnOk, IfErr, OnErr};
 ghost use Rattle.chain_base.specs.Chain.{new_chain, with_capacity, with_room, greatest_index, next_index, chain_limit};
@@ -10,7 +10,7 @@ use chain_base::ChainArena;
 use std::alloc::{AllocError, Allocator};
 
 impl<P: BasePtr, T, A: Allocator> OrdTree<P, T, A> {
-    /// An empty tree with capacity 0 and no maximum, which takes no memory until it grows.
+    /// Creates an empty tree with capacity 0 and no maximum. It takes no memory until it grows.
     pub fn new(alloc: A) -> Self
     where
         A: Copy,
@@ -22,7 +22,7 @@ impl<P: BasePtr, T, A: Allocator> OrdTree<P, T, A> {
         }
     }
 
-    /// An empty tree with room for `n` entries. It fails where memory is refused, or the pointers' indexes can't name so many.
+    /// Creates an empty tree with room for `n` entries. Fails if there is no memory, or if the pointers' indexes can't name so many.
     pub fn with_min_capacity(alloc: A, n: usize) -> Result<Self, AllocError>
     where
         A: Copy,
@@ -41,10 +41,14 @@ impl<P: BasePtr, T, A: Allocator> OrdTree<P, T, A> {
         })
     }
 
-    /// Makes the capacity the greater of `n` and the greatest index with an entry. All vacant slots then count as never used.
+    /// Makes the capacity the greater of `n` and the greatest index with an entry. The free list is then ascending, as if no slot had
+    /// been used.
     ///
-    /// It is refused where `n` is beyond the maximum or the greatest index, or where the capacity would grow and memory is
-    /// refused. Nothing changes then.
+    /// # Errors
+    ///
+    /// The tree is unchanged.
+    /// - `BeyondMaxCapacity`: `n` is beyond the maximum or the greatest index.
+    /// - `AllocError`: growing failed.
     pub fn reallocate_min_capacity(&mut self, n: usize) -> Result<(), ReallocationError>
         ensures ok { OnOk result (self.new ≡ record self.old {
           list = with_capacity self.old.list (max n (greatest_index self.old.list.entries));
@@ -57,12 +61,16 @@ impl<P: BasePtr, T, A: Allocator> OrdTree<P, T, A> {
         self.chain.reallocate_min_capacity(n)
     }
 
-    /// Sees to it that a slot is vacant: where none is, it grows. The next insertion takes the slot that it would have taken after
-    /// growing by itself, and needs no memory.
+    /// Makes room for one more entry: if no slot is vacant, the tree grows. The next insertion then takes no memory, and takes the slot
+    /// that it would have taken after growing by itself.
     ///
-    /// A growth makes the capacity twice as great, at least 4, and at most its limit, in O(capacity). It is refused with
-    /// `BeyondMaxCapacity` where no slot is vacant and the capacity is at the limit, and with `AllocError` where none is and memory
-    /// is refused. Nothing changes then.
+    /// Growing doubles the capacity, to at least 4 and at most the limit, in O(capacity).
+    ///
+    /// # Errors
+    ///
+    /// The tree is unchanged.
+    /// - `BeyondMaxCapacity`: no slot is vacant, and the capacity is at the limit.
+    /// - `AllocError`: no slot is vacant, and growing failed.
     #[inline(always)]
     pub fn make_room(&mut self) -> Result<(), InsertionError>
         ensures ok { OnOk result
@@ -82,7 +90,7 @@ impl<P: BasePtr, T, A: Allocator> OrdTree<P, T, A> {
         self.chain.make_room()
     }
 
-    /// Sets a maximum of the capacity. It is refused where the capacity is already greater, and nothing changes then.
+    /// Sets a maximum for the capacity. On `Err` the capacity is already greater, and the tree is unchanged.
     pub fn set_max_capacity(&mut self, n: usize) -> Result<(), MaxCapacityReductionError>
         ensures ok { OnOk result
             (self.new ≡ record self.old { list = record self.old.list { maximum = Some n } }) }

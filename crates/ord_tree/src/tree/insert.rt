@@ -1,4 +1,4 @@
-//! Adding entries.
+//! Inserting entries.
 
 ghost use Rattle.std.specs.Prelude.{◌≡◌, ◌↔◌, ◌⊎◌, ℕ, ◌+◌, List, Option, Some, option_map, IsSomeAnd, MatchOption, IsErr, IfOk, OnOk, IfErr, OnErr, length};
 ghost use Rattle.chain_base.specs.Chain.{IsDistinct, IsOccupied, chain_limit, with_room};
@@ -25,11 +25,15 @@ use std::alloc::Allocator;
 use std::cmp::Ordering;
 
 impl<P: BasePtr, T: Drop, A: Allocator> OrdTree<P, T, A> {
-    /// Inserts an item directly before (`Less`) or after (`Greater`) the entry at an index, or alone (`None`) where there is no
-    /// entry, into the slot that was freed last, else the least that was never used.
+    /// Inserts an item directly before (`Less`) or after (`Greater`) the entry at an index, or as the only entry (`None`), and returns
+    /// its pointer.
     ///
-    /// Its generation is the arena's. It is refused where no slot is vacant; the item is then dropped, and nothing else changes.
-    /// It takes no memory.
+    /// It takes the slot freed last, or else the least one never used, and has the arena's generation. Takes no memory.
+    ///
+    /// # Errors
+    ///
+    /// The tree is unchanged and `t` is dropped.
+    /// - `NotWithinCapacity`: no slot is vacant.
     #[inline(always)]
     pub fn insert_within_capacity(
         &mut self,
@@ -57,10 +61,15 @@ impl<P: BasePtr, T: Drop, A: Allocator> OrdTree<P, T, A> {
         Ok(p)
     }
 
-    /// Inserts an item as `insert_within_capacity` does, and grows first where no slot is vacant.
+    /// Inserts an item as `insert_within_capacity` does, growing first if no slot is vacant.
     ///
-    /// A growth makes the capacity twice as great, at least 4, and at most its limit. It is refused where the capacity is at the
-    /// limit or memory is refused; the item is then dropped, and nothing else changes.
+    /// Growing doubles the capacity, to at least 4 and at most the limit.
+    ///
+    /// # Errors
+    ///
+    /// The tree is unchanged and `t` is dropped.
+    /// - `BeyondMaxCapacity`: no slot is vacant, and the capacity is at the limit.
+    /// - `AllocError`: growing failed.
     pub fn insert_reallocating(
         &mut self,
         at: Option<(P::Inx, Ordering)>,
@@ -91,7 +100,7 @@ fn parent_in<I: Copy>(branch: Option<Branch<I>>) -> Option<I>
     Some(branch?.parent)
 }
 
-// The place in the chain that is named.
+// The place in the chain that `at` names.
 pub(super) fn kind_of<P: BasePtr>(at: Option<(P::Inx, Ordering)>) -> LinkInsertKind<P>
     ensures { result ≡ kind_at at }
 {
@@ -112,7 +121,7 @@ pub(super) fn side_of(ordering: Ordering) -> Side
     }
 }
 
-// The entry directly before or after the one at an index that has one.
+// The entry directly before or after an occupied index.
 pub(super) fn neighbour<P: BasePtr, T, A: Allocator>(
     chain: &ChainArena<P, SimpleOrdArenaNode<P, T>, A>,
     i: NodeInx<P::Inx>,
@@ -129,8 +138,8 @@ pub(super) fn neighbour<P: BasePtr, T, A: Allocator>(
     }
 }
 
-// The branch of a new leaf that is to stand on that side of the entry at an index that has one: there where nothing
-// hangs, else under its neighbour on that side, of which the facing side is free then.
+// The branch for a new leaf on that side of an occupied index: that side itself if it is empty, else the facing side of the neighbour
+// there, which is then empty.
 fn branch_on<P: BasePtr, T, A: Allocator>(
     chain: &ChainArena<P, SimpleOrdArenaNode<P, T>, A>,
     i: NodeInx<P::Inx>,
@@ -155,7 +164,7 @@ fn branch_on<P: BasePtr, T, A: Allocator>(
     })
 }
 
-// The branch of a new leaf that is to stand before or after an entry, or alone.
+// The branch for a new leaf before or after an entry, or none for the only entry.
 fn branch_at<P: BasePtr, T, A: Allocator>(
     chain: &ChainArena<P, SimpleOrdArenaNode<P, T>, A>,
     at: Option<(P::Inx, Ordering)>,
@@ -171,7 +180,7 @@ fn branch_at<P: BasePtr, T, A: Allocator>(
     }
 }
 
-// Lets the tree over a chain have the new leaf x, on its branch or alone.
+// Adds the new leaf x to the tree over a chain, on its branch or as the root.
 #[inline(always)]
 fn grow<P: BasePtr, T, A: Allocator>(
     chain: &mut ChainArena<P, SimpleOrdArenaNode<P, T>, A>,

@@ -24,7 +24,7 @@ use std::cmp::Ordering;
 impl<P: BasePtr, T, A: Allocator> OrdTree<P, T, A> {
     /// Moves the entry at `i` directly before (`Less`) or after (`Greater`) another entry. It keeps its pointer and its item.
     ///
-    /// The other entries keep their order. Beside its own neighbour the entry stays where it is.
+    /// The other entries keep their order. If the entry is already at that place, the list is unchanged.
     ///
     /// # Complexity
     ///
@@ -60,8 +60,8 @@ impl<P: BasePtr, T, A: Allocator> OrdTree<P, T, A> {
     }
 }
 
-// The branch of a leaf x that stands in the list directly beside y, on that side, and not yet in the tree: there where nothing
-// hangs, else under the neighbour of x on that side, of which the facing side is free then.
+// The branch for a leaf x that is in the list directly beside y, on that side, but not yet in the tree: that side of y if it is empty,
+// else the facing side of x's neighbour on that side, which is then empty.
 fn branch_across<P: BasePtr, T, A: Allocator>(
     chain: &ChainArena<P, SimpleOrdArenaNode<P, T>, A>,
     y: NodeInx<P::Inx>,

@@ -1,4 +1,4 @@
-//! Moving all entries, and building the tree anew over the list.
+//! Moving all entries, and rebuilding the tree over the list.
 
 ghost use Rattle.std.specs.Prelude.{◌≡◌, ◌<◌, ◌↔◌, OnOk, OnErr, length};
 ghost use Rattle.std.specs.Option.{option_map};
@@ -21,13 +21,14 @@ use chain_base::{ChainArena, MapTaken};
 use std::alloc::Allocator;
 
 impl<P: BasePtr, T, A: Allocator> OrdTree<P, T, A> {
-    /// Moves all entries to the indexes from 1 on, in the order of their indexes, and gives them all one generation, which
-    /// becomes the arena's: the first where `reset` is true, else the next one. Then the tree is built anew; the list keeps its
+    /// Moves all entries to the indexes from 1, in index order, gives them one new generation, and rebuilds the tree. The list keeps its
     /// order.
     ///
-    /// The result says whether the generations began again because the next one comes after the greatest. For each entry, by
-    /// rising index, `f` is called with its old pointer, its item and its new pointer, and gives the item that the entry has
-    /// then. The capacity stays, and all vacant slots count as never used. It takes O(capacity) time, and no memory.
+    /// Calls `f` for each entry, by rising index, with its old pointer, its item and its new pointer; `f` returns the entry's new item.
+    /// The new generation is the first if `reset` is true, else the next one; it becomes the arena's. The result says whether it
+    /// overflowed. The capacity stays, and the free list is ascending, as if no slot had been used.
+    ///
+    /// O(capacity). Takes no memory.
     pub fn compress_with<F: FnMut(P, T, P) -> T + Drop>(
         &mut self,
         reset: bool,
@@ -60,10 +61,9 @@ impl<P: BasePtr, T, A: Allocator> OrdTree<P, T, A> {
         overflow
     }
 
-    /// Gives the entries the indexes from 1 on in the order of the list, and one generation as `compress_with` does. Then the
-    /// tree is built anew.
+    /// Moves the entries to the indexes from 1, in list order, gives them one generation as `compress_with` does, and rebuilds the tree.
     ///
-    /// The capacity stays, and all vacant slots count as never used. It takes O(capacity) time, and no memory.
+    /// The capacity stays, and the free list is ascending, as if no slot had been used. O(capacity). Takes no memory.
     pub fn compress_canonical(&mut self, reset: bool) -> InvalidationOption<()>
         ensures after { self.new.list ≡ canonical self.old.list
             (compressed_generation P.Gen.greatest reset self.old.list.generation) }
@@ -76,16 +76,17 @@ impl<P: BasePtr, T, A: Allocator> OrdTree<P, T, A> {
         overflow
     }
 
-    /// Takes all entries out of the source, in order, and puts one for each into this tree, whose old entries are dropped: at
-    /// the indexes from 1 on, with this generation, which becomes the tree's. The capacity grows to their number where it was
-    /// less.
+    /// Moves all entries of `source`, in order, into this tree, to the indexes from 1 and with the generation `new_generation`, which
+    /// becomes the tree's. This tree's own entries are dropped. Its capacity grows to the number of new entries if it is less.
     ///
-    /// For each entry `f` is called with its old pointer, its item, with what the removal says of the source's generations, and
-    /// its new pointer, and gives the item that the new entry has. Each removal raises the source's generation once, and the
-    /// source keeps its capacity.
+    /// Calls `f` for each entry with its old pointer, its item, marked if the removal overflowed the source's generation, and its new
+    /// pointer; `f` returns the new entry's item. Each removal raises the source's generation. The source keeps its capacity.
     ///
-    /// It is refused with `BeyondMaxCapacity` where the source has more entries than this tree's limit, and with `AllocError`
-    /// where the capacity would grow and memory is refused. Nothing changes then, and `f` isn't called.
+    /// # Errors
+    ///
+    /// Both trees are unchanged, and `f` isn't called.
+    /// - `BeyondMaxCapacity`: the source has more entries than this tree's limit.
+    /// - `AllocError`: growing failed.
     pub fn transfer_canonical_reallocating<
         Q: BasePtr,
         U,
@@ -122,7 +123,7 @@ impl<P: BasePtr, T, A: Allocator> OrdTree<P, T, A> {
     }
 }
 
-/// Makes a new item within a node, which stands alone until the tree is built anew.
+/// Maps the item of a node. The new node has no links until the tree is rebuilt.
 #[doc(hidden)]
 #[derive(Drop)]
 pub struct MapNode<M> {
@@ -171,7 +172,7 @@ impl<Q: BasePtr, U, P: BasePtr, T, M: MapTaken<Q, U, P, T>> MapTaken<
     }
 }
 
-// Builds the tree over a chain anew, whatever its nodes say.
+// Rebuilds the tree over a chain, whatever its nodes' links are.
 pub(super) fn rebuild_over<P: BasePtr, T, A: Allocator>(
     chain: &mut ChainArena<P, SimpleOrdArenaNode<P, T>, A>,
     root: &mut Option<NodeInx<P::Inx>>,

@@ -1,4 +1,4 @@
-//! Ending entries and their pointers.
+//! Removing entries and invalidating pointers.
 
 ghost use Rattle.std.specs.Prelude.{◌≡◌, Some, OnSome, is_some};
 ghost use Rattle.std.specs.Option.{option_map};
@@ -19,12 +19,14 @@ use chain_base::LinkNoGen;
 use std::alloc::Allocator;
 
 impl<P: BasePtr, T, A: Allocator> OrdTree<P, T, A> {
-    /// Takes the entry at the index out, with its generation and its item, and raises the generation. The next insertion takes
-    /// its slot. Every other entry keeps its pointer, its item and its order; at most nine get another parent, and over a run nine ranks
-    /// change for each removal at most.
+    /// Removes the entry at an index, returns its generation and its item, and raises the generation.
     ///
-    /// At an index without an entry it returns `InvalidPtr`, and nothing changes. For n entries it takes O(log n) time, and
-    /// no memory.
+    /// The next insertion takes its slot. Every other entry keeps its pointer, its item and its order. Returns `InvalidPtr` if there is
+    /// no entry at the index; the tree is unchanged then.
+    ///
+    /// # Complexity
+    ///
+    /// O(log n), and no memory. At most nine nodes get a new parent. The amortized number of rank changes is at most 9.
     pub fn remove_inx(&mut self, i: P::Inx) -> InvalidationResult<(P::Gen, T)>
         ensures removal { IsRemoval P.Gen.greatest self.old.list.generation result
             (option_map (λ e. (P.Gen.number e.0, e.1)) (valid_value result))
@@ -39,11 +41,13 @@ impl<P: BasePtr, T, A: Allocator> OrdTree<P, T, A> {
         self.remove_entry(i).valid()
     }
 
-    /// Takes the entry out at an index that has one, with its generation and its item, and raises the generation. The next
-    /// insertion takes its slot. Every other entry keeps its pointer, its item and its order; at most nine get another parent, and over a
-    /// run nine ranks change for each removal at most.
+    /// Removes the entry at an occupied index, returns its generation and its item, and raises the generation.
     ///
-    /// For n entries it takes O(log n) time, and no memory.
+    /// The next insertion takes its slot. Every other entry keeps its pointer, its item and its order.
+    ///
+    /// # Complexity
+    ///
+    /// O(log n), and no memory. At most nine nodes get a new parent. The amortized number of rank changes is at most 9.
     pub fn remove_entry(&mut self, i: P::Inx) -> InvalidationOption<(P::Gen, T)>
         requires { IsOccupied self.old.list (P.Inx.number i) }
         ensures value { entry_at self.old.list.entries (P.Inx.number i)
@@ -60,10 +64,9 @@ impl<P: BasePtr, T, A: Allocator> OrdTree<P, T, A> {
         item_taken(self.chain.remove_entry(i))
     }
 
-    /// Gives the entry that the pointer names a new pointer, at the same index and place and with the raised generation. The
-    /// shape stays.
+    /// Gives the entry that the pointer names a new pointer, with the same index and the raised generation. Its place and the shape stay.
     ///
-    /// For a pointer that names no entry it returns `InvalidPtr`, and nothing changes.
+    /// Returns `InvalidPtr` if the pointer names no entry; the tree is unchanged then.
     pub fn invalidate(&mut self, p: P) -> InvalidationResult<P>
         ensures { IsRenewal P.numbers P.Gen.greatest self.old.list.generation result (P.numbers p).0
             (is_some (item_of self.old.list.entries (P.numbers p)))
@@ -74,8 +77,8 @@ impl<P: BasePtr, T, A: Allocator> OrdTree<P, T, A> {
         self.chain.invalidate(p)
     }
 
-    /// Drops all entries and raises the generation, once also where there was none. The capacity stays, and all slots count as
-    /// never used. It takes no memory.
+    /// Drops all entries and raises the generation, once even if there were none. The capacity stays, and the free list is ascending, as
+    /// if no slot had been used. Takes no memory.
     pub fn clear(&mut self) -> InvalidationOption<()>
     where
         T: Drop,
@@ -89,7 +92,7 @@ impl<P: BasePtr, T, A: Allocator> OrdTree<P, T, A> {
     }
 }
 
-// The result of the chain, with the item alone in place of the node.
+// The chain's result, with the item alone in place of the node.
 fn item_taken<P: BasePtr, T>(
     taken: InvalidationOption<(P::Gen, LinkNoGen<P, SimpleOrdArenaNode<P, T>>)>,
 ) -> InvalidationOption<(P::Gen, T)>

@@ -28,15 +28,15 @@ impl<P: BasePtr, T, A: Allocator> ItemsMut<P, T> for OrdTree<P, T, A> {
     }
 }
 
-// A chain of nodes, as what holds their items.
+// A chain of nodes as a container of their items.
 trait NodeItemsMut<P: BasePtr, T> {
-    // generation and item of the node at an index
+    // The generation and the item of the node at an index.
     ghost item_at: { Self → ℕ → Option (ℕ × T) };
 
-    // the nodes with another item in the one at an index
+    // The nodes with another item in the one at an index.
     ghost written: { Self → ℕ → T → Self };
 
-    // Generation and item of the node at an index that has one; the item may be written.
+    // The generation and the item, open to writing, of the node at an occupied index.
     fn node_item_mut(&mut self, i: P::Inx) -> (P::Gen, &mut T)
         requires { IsSome (item_at self.old (P.Inx.number i)) }
         ensures* writes_back { sem 𝓛

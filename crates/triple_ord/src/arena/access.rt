@@ -9,21 +9,21 @@ use std::alloc::Allocator;
 use std::ops::Index;
 
 impl<P: BasePtr, T, A: Allocator> SimpleOrdArena<P, T, A> {
-    /// Whether the pointer names an entry, in O(1).
+    /// Returns whether the pointer names an entry. O(1).
     pub fn contains(&self, p: P) -> bool
         ensures { result ≡ is_some (item_of self.now (P.numbers p)) }
     {
         self.tree.chain().contains(p)
     }
 
-    /// Whether there is an entry at the index, in O(1).
+    /// Returns whether there is an entry at the index. O(1).
     pub fn contains_inx(&self, i: P::Inx) -> bool
         ensures { result ≡ is_some (entry_at self.now (P.Inx.number i)) }
     {
         self.tree.contains_inx(i)
     }
 
-    /// The item that the pointer names, in O(1).
+    /// Returns the item that the pointer names. O(1).
     pub fn get(&self, p: P) -> Option<&T>
         ensures { option_copied result ≡ item_of self.now (P.numbers p) }
     {
@@ -31,7 +31,7 @@ impl<P: BasePtr, T, A: Allocator> SimpleOrdArena<P, T, A> {
         Some(&node.t)
     }
 
-    /// Generation and item of the entry at the index, in O(1).
+    /// Returns the generation and the item of the entry at the index. O(1).
     pub fn get_inx(&self, i: P::Inx) -> Option<(P::Gen, &T)>
         ensures { option_map (λ e. (P.Gen.number e.0, e.1.now)) result
             ≡ entry_at self.now (P.Inx.number i) }

@@ -1,4 +1,4 @@
-//! The order of the keys, looked at as a whole.
+//! Checking the order of the keys.
 ghost use Rattle.std.specs.Prelude.{◌≡◌, ◌↔◌, IsOk, IfErr, codes};
 ghost use Rattle.triple_ord.specs.Order.{IsInOrder};
 
@@ -8,8 +8,8 @@ use arena_base::BasePtr;
 use std::alloc::Allocator;
 
 impl<P: BasePtr, T: SimpleOrdItem, A: Allocator> SimpleOrdArena<P, T, A> {
-    /// Whether the list is in the order of the keys: `Err("incorrect ordering")` exactly where some entry's key is greater than the
-    /// key of the entry after it. TreeLinks, ranks and pointers of an arena are in order always. It compares each key with the next one.
+    /// Checks that the list is in the order of its keys. Returns `Err("incorrect ordering")` exactly if some entry's key is greater than
+    /// that of the entry after it. It compares each key with the next one. The links, ranks and pointers of an arena are always sound.
     pub fn _check_invariants(this: &Self) -> Result<(), &'static str>
         ensures in_order { IsOk result ↔ IsInOrder T.key_of T.Key.Ord.cmp this.now.list.entries }
         ensures text { IfErr result (λ text. text.now ≡ codes "incorrect ordering") }

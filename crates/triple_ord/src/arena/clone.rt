@@ -1,4 +1,4 @@
-//! Clones of an arena: its entries under the same pointers, in the same order and in a tree of the same shape.
+//! Clones of an arena: the same pointers, in the same order and in a tree of the same shape.
 ghost use Rattle.std.specs.Prelude.{◌≡◌, ◌<◌, ◌↔◌, ◌⊎◌, IfOk, IsOk, OnOk};
 ghost use Rattle.chain_base.specs.Chain.{new_chain, chain_limit, greatest_index};
 ghost use Rattle.ord_tree.specs.Shape.{missing};
@@ -10,16 +10,18 @@ use arena_base::{BasePtr, ReallocationError};
 use std::alloc::{AllocError, Allocator};
 
 impl<P: BasePtr, T: Clone + Drop, A: Allocator + Copy> SimpleOrdArena<P, T, A> {
-    /// Makes this arena a clone of the source: it has the source's pointers, order, shape and generation, with clones of its items,
-    /// and its own old entries are dropped. A clone of an item has to equal it.
+    /// Makes this arena a clone of `source`: it gets the source's pointers, order, shape and generation, with clones of its items. Its
+    /// own entries are dropped. A clone of an item must equal the item.
     ///
-    /// The capacity grows to the source's greatest index with an entry, where it is less, before anything else changes; the maximum
-    /// stays, and all vacant slots count as never used. It takes O(capacity) time, of both arenas.
+    /// If the capacity is less than the source's greatest index with an entry, it first grows to that index. The maximum stays, and the
+    /// free list is ascending, as if no slot had been used. O(capacity), of both arenas.
     ///
-    /// It is refused with `BeyondMaxCapacity` where that index is beyond the maximum or the greatest index of the pointers, and with
-    /// `AllocError` where the capacity would grow and memory is refused. Nothing changes then. The first item whose clone is refused
-    /// memory ends the call with `AllocError`: the arena is empty then, with the source's generation and the capacity of a clone. That
-    /// never happens where the clone of each item is infallible, as that of a number is.
+    /// # Errors
+    ///
+    /// - `BeyondMaxCapacity`: that index is beyond the maximum or the greatest index of the pointers. The arena is unchanged.
+    /// - `AllocError`: growing failed, and the arena is unchanged; or cloning an item failed, which ends the call. Then the arena is
+    ///   empty, with the source's generation and the capacity of a clone. This never happens if the clone of each item is infallible, as
+    ///   that of a number is.
     pub fn clone_from_arena(&mut self, source: &Self) -> Result<(), ReallocationError>
         requires clones { (x y : T) → T.is_clone x y → y ≡ x }
         ensures found { OnOk result (FindSame source.now self.new) }
@@ -35,16 +37,16 @@ impl<P: BasePtr, T: Clone + Drop, A: Allocator + Copy> SimpleOrdArena<P, T, A> {
             ⊎ (FindsFallible T.is_infallible source.now
             × (self.new ≡ refused_clone source.now self.old)) }
     {
-        // With its length an arena tells what holds of its list.
+        // For the prover: the list is sound.
         let _ = source.len();
         self.tree
             .try_clone_from_with(&source.tree, |_p, item| item.clone())
     }
 
-    /// A clone of this arena: it has this one's pointers, order, shape and generation, with clones of its items, on the same
-    /// allocator. Its capacity is the greatest index with an entry, and it has no maximum. A clone of an item has to equal it.
+    /// Returns a clone of this arena on the same allocator: the same pointers, order, shape and generation, with clones of its items. Its
+    /// capacity is the greatest index with an entry, and it has no maximum. A clone of an item must equal the item.
     ///
-    /// It is refused where memory for the entries or for the clone of an item is refused.
+    /// Fails if there is no memory for the entries or for the clone of an item.
     pub fn clone(&self) -> Result<Self, AllocError>
         requires clones { (x y : T) → T.is_clone x y → y ≡ x }
         ensures found { IfOk result (λ a. FindSame self.now a) }

@@ -1,4 +1,4 @@
-//! Clones of an arena into arenas of other kinds, with items that a closure makes.
+//! Clones of an arena into arenas of other kinds, with items made by a closure.
 ghost use Rattle.std.specs.Prelude.{◌≡◌, ◌<◌, ◌↔◌, OnOk, OnErr};
 ghost use Rattle.arena_base.specs.Arena.{HoldsSame, arena_capacity, arena_limit, greatest_occupied};
 ghost use Rattle.arena_base.specs.Clone.{IsClone, IsShown};
@@ -13,15 +13,17 @@ use chain_base::ChainArena;
 use std::alloc::Allocator;
 
 impl<P: BasePtr, T: Drop, A: Allocator + Copy> SimpleOrdArena<P, T, A> {
-    /// Makes another arena a clone of this one, with items that `map` makes: it has this one's pointers and generation, and its own
-    /// old entries are dropped. The order isn't taken over.
+    /// Makes `arena` a clone of this one with items made by `map`. It gets this arena's pointers and generation, but not the order; its
+    /// own entries are dropped.
     ///
-    /// For each entry, by rising index, `map` is called with its pointer and a reference to its item. The other arena's capacity
-    /// grows to the greatest index with an entry, where it is less, before anything else changes; its maximum stays. It takes
-    /// O(capacity) time, of both.
+    /// Calls `map` for each entry, by rising index, with its pointer and a reference to its item. If the other arena's capacity is less
+    /// than the greatest index with an entry, it first grows to that index; its maximum stays. O(capacity), of both.
     ///
-    /// It is refused with `BeyondMaxCapacity` where that index is beyond the other arena's limit, and with `AllocError` where its
-    /// capacity would grow and memory is refused. Nothing changes then, and `map` isn't called.
+    /// # Errors
+    ///
+    /// The content of the other arena is unchanged, and `map` isn't called.
+    /// - `BeyondMaxCapacity`: that index is beyond the other arena's limit.
+    /// - `AllocError`: growing failed.
     pub fn clone_to_arena<U: Drop, C: ArenaCloneFromWith<P, U>, F: FnMut(P, &T) -> U + Drop>(
         &self,
         arena: &mut C,
@@ -40,15 +42,18 @@ impl<P: BasePtr, T: Drop, A: Allocator + Copy> SimpleOrdArena<P, T, A> {
         arena.clone_from_with(self, map)
     }
 
-    /// Makes a chain a clone of this arena's list, with items that `map` makes: it has this one's pointers in their order and its
-    /// generation, and its own old entries are dropped.
+    /// Makes `chain` a clone of this arena's list with items made by `map`. It gets this arena's pointers, order and generation; its own
+    /// entries are dropped.
     ///
-    /// For each entry, by rising index, `map` is called with its pointer and a reference to its item. The chain's capacity grows to
-    /// the greatest index with an entry, where it is less, before anything else changes; its maximum stays, and all its vacant slots
-    /// count as never used. It takes O(capacity) time, of both.
+    /// Calls `map` for each entry, by rising index, with its pointer and a reference to its item. If the chain's capacity is less than
+    /// the greatest index with an entry, it first grows to that index. The chain's maximum stays, and its free list is ascending, as if
+    /// no slot had been used. O(capacity), of both.
     ///
-    /// It is refused with `BeyondMaxCapacity` where that index is beyond the chain's limit, and with `AllocError` where its capacity
-    /// would grow and memory is refused. Nothing changes then, and `map` isn't called.
+    /// # Errors
+    ///
+    /// The chain is unchanged, and `map` isn't called.
+    /// - `BeyondMaxCapacity`: that index is beyond the chain's limit.
+    /// - `AllocError`: growing failed.
     pub fn clone_to_chain_arena<U: Drop, B: Allocator, F: FnMut(P, &T) -> U + Drop>(
         &self,
         chain: &mut ChainArena<P, U, B>,

@@ -9,7 +9,7 @@ use std::alloc::Allocator;
 use std::cmp::Ordering;
 
 impl<P: BasePtr, T, A: Allocator> SimpleOrdArena<P, T, A> {
-    /// Whether both have equal items in the same order.
+    /// Returns whether both arenas have equal items in the same order.
     pub fn canonical_eq<Q: BasePtr, B: Allocator>(&self, other: &SimpleOrdArena<Q, T, B>) -> bool
     where
         T: PartialEq,
@@ -27,7 +27,7 @@ impl<P: BasePtr, T, A: Allocator> SimpleOrdArena<P, T, A> {
         theirs.next().is_none()
     }
 
-    /// The order of the items, as words are ordered by their letters; `None` where the first two that differ have none.
+    /// Returns the lexicographic order of the items, or `None` if the first two that differ have no order.
     pub fn canonical_partial_cmp<Q: BasePtr, B: Allocator>(
         &self,
         other: &SimpleOrdArena<Q, T, B>,
@@ -54,7 +54,7 @@ impl<P: BasePtr, T, A: Allocator> SimpleOrdArena<P, T, A> {
         }
     }
 
-    /// The order of the items, as words are ordered by their letters.
+    /// Returns the lexicographic order of the items.
     pub fn canonical_cmp<Q: BasePtr, B: Allocator>(
         &self,
         other: &SimpleOrdArena<Q, T, B>,

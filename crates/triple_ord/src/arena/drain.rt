@@ -1,4 +1,4 @@
-//! Taking all entries out of an arena in the order of its list.
+//! Draining an arena in list order.
 ghost use Rattle.std.specs.Prelude.{◌≡◌, Some, IfSome, length};
 ghost use Rattle.std.specs.Iterator.{item_count, UpTo, YieldsFirstBy};
 ghost use Rattle.std.specs.Iterator.SizeHint.{IsWithinCount};
@@ -11,16 +11,16 @@ use arena_base::{BasePtr, InvalidationOption};
 use std::alloc::{Allocator, Global};
 use std::marker::Model;
 
-/// Takes the entries out of an arena in order, each by a removal of its own. When it is dropped it clears the arena.
+/// Removes the entries of an arena in order, one a step. Dropping it clears the arena.
 pub struct OrderedDrain<'a, P: BasePtr, T: Drop, A: Allocator = Global> {
     arena: &'a mut SimpleOrdArena<P, T, A>,
 }
 
 impl<P: BasePtr, T: Drop, A: Allocator> SimpleOrdArena<P, T, A> {
-    /// Takes all entries out, in the order of the list.
+    /// Removes all entries in list order.
     ///
-    /// Each is removed, and raises the generation, as it is given, in O(log n) time. When the drain is dropped, the arena is cleared of
-    /// the rest, which raises the generation once more. After a drain that is forgotten the rest is still there.
+    /// Each step removes an entry and raises the generation, in O(log n). Dropping the drain clears the arena of the rest, which raises
+    /// the generation once more. If the drain is forgotten, the rest is still there.
     pub fn drain_ordered(&mut self) -> OrderedDrain<'_, P, T, A>
         ensures arena { ordered_drain_arena result ≡ self.old }
         ensures same_reference { ordered_drain_lender result ≡ self.entry.ghost_name }
@@ -30,9 +30,9 @@ impl<P: BasePtr, T: Drop, A: Allocator> SimpleOrdArena<P, T, A> {
 }
 
 impl<'a, P: BasePtr, T: Drop, A: Allocator> OrderedDrain<'a, P, T, A> {
-    /// Ends the drain, and leaves the arena as it is: the entries that haven't been given stay.
+    /// Ends the drain and leaves the arena as it is: entries not yet returned stay.
     ///
-    /// `mem::forget` does the same, but says nothing to a caller of what is left.
+    /// `mem::forget` does the same, but promises a caller nothing about what is left.
     pub fn keep_rest(self)
         ensures { self.exit.0.now ≡ ordered_drain_arena self.entry }
     {
@@ -71,7 +71,7 @@ impl<'a, P: BasePtr, T: Drop, A: Allocator> Iterator for OrderedDrain<'a, P, T, 
     }
 }
 
-/// Gives the pointers and the items of an arena that it owns, in the order of the list. What it hasn't given is dropped with it.
+/// Returns the pointers and the items of an arena that it owns, in list order. Items not yet returned are dropped with it.
 #[derive(Drop)]
 pub struct CapacityDrain<P: BasePtr, T, A: Allocator = Global> {
     arena: SimpleOrdArena<P, T, A>,

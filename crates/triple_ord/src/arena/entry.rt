@@ -1,4 +1,4 @@
-//! Asking for the place of an insertion, and what an entry can do.
+//! Requesting the place of an insertion, and the methods of its entry.
 ghost use Rattle.std.specs.Prelude.{◌≡◌, ◌+◌, ◌<◌, ◌↔◌, Some, IsSome, IsNone, IfOk, IfErr, IfSome, OnErr, is_some, if◌then◌else◌, length};
 ghost use Rattle.std.specs.Option.{option_map};
 ghost use Rattle.std.specs.Borrow.{sem};
@@ -26,15 +26,15 @@ use std::alloc::Allocator;
 use std::cmp::Ordering;
 
 impl<'a, P: BasePtr, T: Drop, A: Allocator> SimpleOrdArenaInsertEntry<'a, P, T, A> {
-    /// The pointer of the entry: that of a new one, which finds nothing yet, or of the one whose item is to be replaced. In O(1).
+    /// Returns the pointer of the entry: that of a new one, which finds nothing yet, or of the one whose item is replaced. O(1).
     pub fn ptr(&self) -> OrdEntryKind<P>
         ensures { result ≡ entry_shown self.now }
     {
         self.prepared.shown
     }
 
-    /// How many entries the search for the place visited: none for `OrdInsertKind::Empty` and `OrdInsertKind::Manual`, and for the
-    /// other kinds as many as the search for a similar key that they make.
+    /// Returns how many entries the search for the place visited: none for `OrdInsertKind::Empty` and `OrdInsertKind::Manual`, and for
+    /// the other kinds as many as their search for a similar key.
     pub fn visits(&self) -> Visits
         ensures { result ≡ entry_visits self.now }
     {
@@ -43,9 +43,12 @@ impl<'a, P: BasePtr, T: Drop, A: Allocator> SimpleOrdArenaInsertEntry<'a, P, T, 
 
     /// Inserts the item, and returns the one that it replaced.
     ///
-    /// No key is compared: an item whose key isn't that of the entry can break the order of the keys, never the tree. It takes no
-    /// memory, and O(log n) time for n entries; a new entry changes the parent of at most five others, and over
-    /// a run four ranks of others at most.
+    /// No key is compared: an item whose key isn't that of the entry can break the order of the keys, but never the tree.
+    ///
+    /// # Complexity
+    ///
+    /// O(log n), and no memory. A new entry changes the parent of at most five others. The amortized number of rank changes of others is
+    /// at most 4.
     #[inline(always)]
     pub fn insert(self, t: T) -> Option<T>
         ensures inserts { InsertsThere P.numbers (entry_shown self.entry)
@@ -64,11 +67,19 @@ impl<'a, P: BasePtr, T: Drop, A: Allocator> SimpleOrdArenaInsertEntry<'a, P, T, 
 }
 
 impl<P: BasePtr, T: SimpleOrdItem + Drop, A: Allocator> SimpleOrdArena<P, T, A> {
-    /// Finds the place of an insertion, and keeps within the capacity.
+    /// Finds the place of an insertion within the capacity.
     ///
-    /// It is refused with `FailedOrdRequirement` where `kind` has no place, and with `NotWithinCapacity` where a new entry is needed and
-    /// no slot is vacant. Nothing changes then, nor before the entry inserts. It takes no memory, and as long as the search for a key
-    /// that `kind` makes: O(log n) time for n entries, near a hint less, and O(1) without a key.
+    /// Nothing changes until the entry inserts.
+    ///
+    /// # Errors
+    ///
+    /// The arena is unchanged.
+    /// - `FailedOrdRequirement`: `kind` has no place.
+    /// - `NotWithinCapacity`: a new entry is needed, and no slot is vacant.
+    ///
+    /// # Complexity
+    ///
+    /// O(log n) with a key, less near a hint, and O(1) without a key. Takes no memory.
     #[inline(always)]
     pub fn entry_insert_within_capacity(
         &mut self,
@@ -94,14 +105,21 @@ impl<P: BasePtr, T: SimpleOrdItem + Drop, A: Allocator> SimpleOrdArena<P, T, A> 
         })
     }
 
-    /// Finds the place of an insertion, and grows first where a new entry is needed and no slot is vacant.
+    /// Finds the place of an insertion, growing first if a new entry is needed and no slot is vacant.
     ///
-    /// It is refused with `FailedOrdRequirement` where `kind` has no place, whatever the capacity; with `BeyondMaxCapacity` where a new
-    /// entry is needed and the length is at the limit; and with `AllocError` where memory is refused to a growth. Nothing changes then.
-    /// An equal entry is found before a slot is needed, so an arena that is full still replaces.
+    /// An equal entry is found before a slot is needed, so a full arena still replaces. Until the entry inserts, only the capacity may
+    /// change.
     ///
-    /// Before the entry inserts nothing else has changed than the capacity, where it grew. It takes as long as
-    /// `entry_insert_within_capacity`, and O(n) where the arena grows.
+    /// # Errors
+    ///
+    /// The arena is unchanged.
+    /// - `FailedOrdRequirement`: `kind` has no place, whatever the capacity.
+    /// - `BeyondMaxCapacity`: a new entry is needed, and the length is at the limit.
+    /// - `AllocError`: growing failed.
+    ///
+    /// # Complexity
+    ///
+    /// As `entry_insert_within_capacity`, plus O(n) if the arena grows.
     #[inline(always)]
     pub fn entry_insert_reallocating(
         &mut self,
@@ -129,7 +147,7 @@ impl<P: BasePtr, T: SimpleOrdItem + Drop, A: Allocator> SimpleOrdArena<P, T, A> 
 
     /// The same as `entry_insert_reallocating`.
     ///
-    /// An item that is handed to a refused insertion is dropped. One that asks for an entry first is kept:
+    /// An item passed to an insertion that fails is dropped. Request an entry first to keep it:
     ///
     /// ```text
     /// fn put(jobs: &mut Jobs, job: Job) -> Result<P0, (Job, OrdInsertionError)> {

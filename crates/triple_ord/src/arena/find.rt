@@ -20,11 +20,11 @@ use std::alloc::Allocator;
 use std::cmp::Ordering;
 
 impl<P: BasePtr, T: SimpleOrdItem, A: Allocator> SimpleOrdArena<P, T, A> {
-    /// The pointer of an entry with an equal key whose previous entry, if any, has a lesser one: with the keys in order, the first that
-    /// has an equal key.
+    /// Returns the pointer of an entry with an equal key whose predecessor, if any, has a smaller one. If the keys are in order, it is
+    /// the first with an equal key.
     ///
-    /// With `None` the search stopped at a gap of the list: the entry before it, if any, has a lesser key, and the one after it, if
-    /// any, a greater one. So no entry has an equal key where the keys are in order. It takes O(log n) time for n entries.
+    /// `None` means that the search stopped at a gap: the entry before it, if any, has a smaller key, and the one after it, if any, a
+    /// greater one. If the keys are in order, no entry has an equal key then. O(log n).
     #[inline(always)]
     pub fn find_key(&self, k: &T::Key) -> Option<P>
         ensures finds { IfSome result
@@ -36,7 +36,7 @@ impl<P: BasePtr, T: SimpleOrdItem, A: Allocator> SimpleOrdArena<P, T, A> {
         self.find_key_counted(k).0
     }
 
-    /// `find_key`, and how many entries it visited: of n > 0 entries c with `2^(c+1) <= (n+1)^2`, and after insertions alone
+    /// `find_key`, with the number c of entries visited. If there are n > 0 entries, `2^(c+1) <= (n+1)^2`, and after only insertions
     /// `fib(c+2) <= n+1`.
     #[inline(always)]
     pub fn find_key_counted(&self, k: &T::Key) -> (Option<P>, Visits)
@@ -48,11 +48,10 @@ impl<P: BasePtr, T: SimpleOrdItem, A: Allocator> SimpleOrdArena<P, T, A> {
         (equal_alone(found), visits)
     }
 
-    /// The pointer of an entry with the order of `k` to its key: of one as `find_key` returns it, or else of the entry that the search
-    /// met last, which is beside a gap of the list that fits `k`. `None` only where there is no entry.
+    /// Returns the pointer of an entry, and the order of `k` to its key. It is the entry that `find_key` returns, or else the entry
+    /// visited last, which is beside a gap that fits `k`. `None` only if there are no entries.
     ///
-    /// A gap fits where the entry before it, if any, has a lesser key, and the one after it, if any, a greater one. It takes
-    /// O(log n) time for n entries.
+    /// A gap fits if the entry before it, if any, has a smaller key, and the one after it, if any, a greater one. O(log n).
     #[inline(always)]
     pub fn find_similar_key(&self, k: &T::Key) -> Option<(P, Ordering)>
         ensures finds { IfSome result
@@ -64,7 +63,7 @@ impl<P: BasePtr, T: SimpleOrdItem, A: Allocator> SimpleOrdArena<P, T, A> {
         self.find_similar_key_counted(k).0
     }
 
-    /// `find_similar_key`, and how many entries it visited, within the bounds of `find_key_counted`.
+    /// `find_similar_key`, with the number of entries visited, within the bounds of `find_key_counted`.
     #[inline(always)]
     pub fn find_similar_key_counted(&self, k: &T::Key) -> (Option<(P, Ordering)>, Visits)
         ensures found { FindsSimilar T.key_of T.Key.cmp self.now.list.entries k.now
@@ -77,8 +76,8 @@ impl<P: BasePtr, T: SimpleOrdItem, A: Allocator> SimpleOrdArena<P, T, A> {
     /// Returns the pointer of an entry beside the gap behind `k`, and the order of `k` to its key, where an equal key counts as smaller.
     ///
     /// The entry before this gap, if any, has a key at most `k`, and the entry after it, if any, a greater one. So `Less` means that the
-    /// entry stands after the gap, and `Greater` that it stands before it; `Equal` is never returned. `None` only if there is no entry.
-    /// If the keys are in order, this finds the upper bound of `k` in O(log n) time.
+    /// returned entry is after the gap, and `Greater` that it is before it; `Equal` is never returned. `None` only if there are no
+    /// entries. If the keys are in order, this finds the upper bound of `k`. O(log n).
     #[inline(always)]
     pub fn find_behind_key(&self, k: &T::Key) -> Option<(P, Ordering)>
         ensures finds { IfSome result
@@ -91,7 +90,7 @@ impl<P: BasePtr, T: SimpleOrdItem, A: Allocator> SimpleOrdArena<P, T, A> {
         self.find_behind_key_counted(k).0
     }
 
-    /// `find_behind_key`, and how many entries it visited, within the bounds of `find_key_counted`.
+    /// `find_behind_key`, with the number of entries visited, within the bounds of `find_key_counted`.
     #[inline(always)]
     pub fn find_behind_key_counted(&self, k: &T::Key) -> (Option<(P, Ordering)>, Visits)
         ensures found { FindsSimilar T.key_of (order_past_equals T.Key.cmp)
@@ -101,7 +100,7 @@ impl<P: BasePtr, T: SimpleOrdItem, A: Allocator> SimpleOrdArena<P, T, A> {
         self.search(Ties::Passed, k)
     }
 
-    // A search from the root, by what it makes of equal keys.
+    // A search from the root, which treats equal keys by `ties`.
     #[inline(always)]
     pub(super) fn search(&self, ties: Ties, k: &T::Key) -> (Option<(P, Ordering)>, Visits)
         ensures found { FindsSimilar T.key_of (taken ties T.Key.cmp) self.now.list.entries k.now
@@ -114,7 +113,7 @@ impl<P: BasePtr, T: SimpleOrdItem, A: Allocator> SimpleOrdArena<P, T, A> {
     }
 }
 
-// What was answered Equal.
+// The pointer, if the answer was `Equal`.
 pub(super) fn equal_alone<P: BasePtr>(found: Option<(P, Ordering)>) -> Option<P>
     ensures { result ≡ where_equal found }
 {

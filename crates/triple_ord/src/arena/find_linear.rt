@@ -1,4 +1,4 @@
-//! Searches by key from a hint: an entry near which the key may lie.
+//! Searches by key from a hint, which is an entry near which the key may be.
 ghost use Rattle.std.specs.Prelude.{◌≡◌, ℕ, IfSome, length, IfNone};
 ghost use Rattle.std.specs.Option.{option_map};
 ghost use Rattle.chain_base.specs.Chain.{entry_at, item_of};
@@ -24,10 +24,10 @@ use std::cmp::Ordering;
 impl<P: BasePtr, T: SimpleOrdItem, A: Allocator> SimpleOrdArena<P, T, A> {
     /// `find_key`, after at most `num` steps along the list from the entry that `p_init` names.
     ///
-    /// Each step compares `k` with an entry's key: Less leads to the previous entry, Greater to the next. They end at an equal key,
-    /// where the order turns, at an end of the list, and after `num` comparisons. Then a whole search follows, since an equal entry
-    /// that steps meet needn't be the first of its group; so it does at once where `p_init` names no entry. A hint saves such a search
-    /// nothing, and its result doesn't depend on the hint: where keys are near, `find_similar_key_linear` is the call that gains.
+    /// Each step compares `k` with an entry's key: `Less` leads to the previous entry, `Greater` to the next. The steps end at an equal
+    /// key, where the order turns, at an end of the list, and after `num` comparisons. Then a whole search follows, since an equal entry
+    /// met by steps needn't be the first of its group. It follows at once if `p_init` names no entry. So a hint saves nothing here, and
+    /// the result doesn't depend on it; with near keys, `find_similar_key_linear` gains.
     pub fn find_key_linear(&self, p_init: P, num: usize, k: &T::Key) -> Option<P>
         ensures finds { IfSome result
             (λ p. FindsBy T.key_of T.Key.cmp self.now k.now (P.numbers p) Equal) }
@@ -38,8 +38,8 @@ impl<P: BasePtr, T: SimpleOrdItem, A: Allocator> SimpleOrdArena<P, T, A> {
         self.find_key_linear_counted(p_init, num, k).0
     }
 
-    /// `find_key_linear`, and how many entries its steps and its whole search visited: at most the lesser of `num` and the number of
-    /// entries more than a whole search may. A pointer that names no entry adds none.
+    /// `find_key_linear`, with the number of entries that its steps and its whole search visited. The steps add at most the lesser of
+    /// `num` and the number of entries to the bounds of a whole search. A pointer that names no entry adds none.
     pub fn find_key_linear_counted(&self, p_init: P, num: usize, k: &T::Key) -> (Option<P>, Visits)
         ensures found { FindsKey T.key_of T.Key.cmp self.now.list.entries k.now
             (option_map P.numbers result.0) result.1 }
@@ -59,12 +59,12 @@ impl<P: BasePtr, T: SimpleOrdItem, A: Allocator> SimpleOrdArena<P, T, A> {
 
     /// `find_similar_key`, after at most `num` steps along the list from the entry at the index, whatever its generation.
     ///
-    /// The steps are those of `find_key_linear`. The entry at which the order turns is the result, and so is the one at the end of the
-    /// list that was met. After an equal key, and after `num` comparisons, a whole search follows; so it does at once where the index
-    /// has no entry.
+    /// The steps are those of `find_key_linear`. The result is the entry at which the order turns, or the one at the end of the list that
+    /// was reached. After an equal key, and after `num` comparisons, a whole search follows. It follows at once if there is no entry at
+    /// the index.
     ///
-    /// So on a list in the order of its keys without an equal key, a near hint settles which neighbour of the gap is the result: the far
-    /// one as seen from the hint.
+    /// So on a list in the order of its keys, without an equal key, a near hint determines which neighbour of the gap is the result: the
+    /// far one, as seen from the hint.
     pub fn find_similar_key_linear(
         &self,
         p_init: P::Inx,
@@ -82,11 +82,11 @@ impl<P: BasePtr, T: SimpleOrdItem, A: Allocator> SimpleOrdArena<P, T, A> {
         self.find_similar_key_linear_counted(p_init, num, k).0
     }
 
-    /// `find_similar_key_linear`, and how many entries its steps and its whole search visited, within the bounds of
+    /// `find_similar_key_linear`, with the number of entries that its steps and its whole search visited, within the bounds of
     /// `find_key_linear_counted`.
     ///
-    /// On a list in the order of its keys without an equal key, they are at most the entries from the hint to the far neighbour of the
-    /// gap where `k` belongs, or to the end of the list where it has none, if these are no more than `num`.
+    /// On a list in the order of its keys, without an equal key, count the entries from the hint to the far neighbour of the gap where
+    /// `k` belongs, or to the end of the list if the gap has none. If they are at most `num`, the visits are no more.
     pub fn find_similar_key_linear_counted(
         &self,
         p_init: P::Inx,
@@ -107,7 +107,7 @@ impl<P: BasePtr, T: SimpleOrdItem, A: Allocator> SimpleOrdArena<P, T, A> {
         self.search_from(Ties::Sought, p_init, num, k)
     }
 
-    // A search from a hint, by what it makes of equal keys.
+    // A search from a hint, which treats equal keys by `ties`.
     #[inline(always)]
     pub(super) fn search_from(
         &self,

@@ -14,11 +14,12 @@ use std::alloc::Allocator;
 use std::cmp::Ordering;
 
 impl<P: BasePtr, T, A: Allocator> SimpleOrdArena<P, T, A> {
-    /// The pointer of the entry at which `f` answered Equal.
+    /// Returns the pointer of the entry at which `f` answered `Equal`.
     ///
-    /// `f` says how what is searched lies to the entry that it is shown: with Less the search goes on before it, with Greater behind
-    /// it. No entry is shown twice, and none after Equal. With `None` the search stopped at a gap of the list: `f` answered Greater
-    /// to the entry before it, if any, and Less to the one after it, if any. `f` may answer anything, and differently each time.
+    /// `f` returns the order of what is searched to the entry that it is shown: after `Less` the search goes on before the entry, after
+    /// `Greater` behind it. No entry is shown twice, and none after `Equal`. `None` means that the search stopped at a gap: `f` answered
+    /// `Greater` to the entry before it, if any, and `Less` to the one after it, if any. `f` may answer anything, and differently each
+    /// time.
     pub fn find_with<F: FnMut(P, &T) -> Ordering + Drop>(&self, f: F) -> Option<P>
         requires { F.IsAlwaysCallable f }
         ensures { (left : F) × (visits : ℕ)
@@ -29,7 +30,7 @@ impl<P: BasePtr, T, A: Allocator> SimpleOrdArena<P, T, A> {
         self.find_with_counted(&mut f).0
     }
 
-    /// `find_with`, and how many entries it visited: so often was `f` called. The bounds are those of `find_key_counted`.
+    /// `find_with`, with the number of entries visited, which is how often `f` was called. The bounds are those of `find_key_counted`.
     pub fn find_with_counted<F: FnMut(P, &T) -> Ordering>(&self, f: &mut F) -> (Option<P>, Visits)
         requires { F.IsAlwaysCallable f.old }
         ensures found { FindsWith (Asks P.numbers F.step) self.now.list.entries f.old f.new
@@ -41,8 +42,8 @@ impl<P: BasePtr, T, A: Allocator> SimpleOrdArena<P, T, A> {
         (equal_alone(found), visits)
     }
 
-    /// The pointer of the entry that `f` was shown last, and what `f` answered, which `find_with` says more of. `None` only where
-    /// there is no entry.
+    /// Returns the pointer of the entry that `f` was shown last, and its answer, as `find_with` describes. `None` only if there are no
+    /// entries.
     pub fn find_similar_with<F: FnMut(P, &T) -> Ordering + Drop>(
         &self,
         f: F,
@@ -56,7 +57,8 @@ impl<P: BasePtr, T, A: Allocator> SimpleOrdArena<P, T, A> {
         self.find_similar_with_counted(&mut f).0
     }
 
-    /// `find_similar_with`, and how many entries it visited: so often was `f` called. The bounds are those of `find_key_counted`.
+    /// `find_similar_with`, with the number of entries visited, which is how often `f` was called. The bounds are those of
+    /// `find_key_counted`.
     pub fn find_similar_with_counted<F: FnMut(P, &T) -> Ordering>(
         &self,
         f: &mut F,

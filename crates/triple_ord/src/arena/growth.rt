@@ -1,4 +1,4 @@
-//! Making an arena, and changing its capacity.
+//! Creating an arena, and changing its capacity.
 ghost use Rattle.std.specs.Prelude.{◌≡◌, ◌<◌, ◌↔◌, Some, Err, max, IsOk, IsErr, IfOk, OnOk, OnErr};
 ghost use Rattle.chain_base.specs.Chain.{new_chain, with_capacity, greatest_index, chain_limit};
 ghost use Rattle.ord_tree.specs.Shape.{missing};
@@ -10,7 +10,7 @@ use ord_tree::OrdTree;
 use std::alloc::{AllocError, Allocator};
 
 impl<P: BasePtr, T, A: Allocator> SimpleOrdArena<P, T, A> {
-    /// An empty arena with capacity 0 and no maximum, which takes no memory until it grows.
+    /// Creates an empty arena with capacity 0 and no maximum. It takes no memory until it grows.
     pub fn new(alloc: A) -> Self
     where
         A: Copy,
@@ -21,7 +21,8 @@ impl<P: BasePtr, T, A: Allocator> SimpleOrdArena<P, T, A> {
         }
     }
 
-    /// An empty arena with room for `n` entries, in O(n). It fails where memory is refused, or the pointers' indexes can't name so many.
+    /// Creates an empty arena with room for `n` entries, in O(n). Fails if there is no memory, or if the pointers' indexes can't name so
+    /// many.
     pub fn with_min_capacity(alloc: A, n: usize) -> Result<Self, AllocError>
     where
         A: Copy,
@@ -38,11 +39,14 @@ impl<P: BasePtr, T, A: Allocator> SimpleOrdArena<P, T, A> {
         })
     }
 
-    /// Makes the capacity the greater of `n` and the greatest index with an entry, in O(capacity). Entries keep their pointers, and
-    /// all vacant slots then count as never used.
+    /// Makes the capacity the greater of `n` and the greatest index with an entry, in O(capacity). Entries keep their pointers. The free
+    /// list is then ascending, as if no slot had been used.
     ///
-    /// It is refused with `BeyondMaxCapacity` where `n` is beyond the maximum or the greatest index of the pointers, and with
-    /// `AllocError` where the capacity would grow and memory is refused. Nothing changes then.
+    /// # Errors
+    ///
+    /// The arena is unchanged.
+    /// - `BeyondMaxCapacity`: `n` is beyond the maximum or the greatest index of the pointers.
+    /// - `AllocError`: growing failed.
     pub fn reallocate_min_capacity(&mut self, n: usize) -> Result<(), ReallocationError>
         ensures found { FindSame self.old self.new }
         ensures count { count self.new ≡ count self.old }
@@ -58,7 +62,7 @@ impl<P: BasePtr, T, A: Allocator> SimpleOrdArena<P, T, A> {
         self.tree.reallocate_min_capacity(n)
     }
 
-    /// Sets a maximum of the capacity, in O(1). It is refused, and nothing changes, where the capacity is already greater.
+    /// Sets a maximum for the capacity, in O(1). On `Err` the capacity is already greater, and the arena is unchanged.
     pub fn set_max_capacity(&mut self, n: usize) -> Result<(), MaxCapacityReductionError>
         ensures found { FindSame self.old self.new }
         ensures count { count self.new ≡ count self.old }

@@ -1,4 +1,4 @@
-//! Adding entries by key, and beside an entry.
+//! Inserting entries by key, and beside an entry.
 ghost use Rattle.std.specs.Prelude.{◌≡◌, ◌≢◌, ◌+◌, ℕ, Ok, Some, None, IfOk, OnOk, IfErr, OnErr, is_some, if◌then◌else◌};
 ghost use Rattle.std.specs.Option.{option_map};
 ghost use Rattle.std.specs.declared.cmp.Ordering.TheVariants.{Equal};
@@ -17,10 +17,14 @@ use std::alloc::Allocator;
 use std::cmp::Ordering;
 
 impl<P: BasePtr, T: SimpleOrdItem + Drop, A: Allocator> SimpleOrdArena<P, T, A> {
-    /// Inserts an item by its key, and returns its pointer, without growing.
+    /// Inserts an item by its key, without growing, and returns its pointer.
     ///
-    /// It does what `insert_reallocating` does, but where a new entry is needed and no slot is vacant it is refused with
-    /// `NotWithinCapacity`: the item is then dropped, and nothing else changes. It takes no memory.
+    /// Otherwise it does what `insert_reallocating` does. Takes no memory.
+    ///
+    /// # Errors
+    ///
+    /// The arena is unchanged and `t` is dropped.
+    /// - `NotWithinCapacity`: a new entry is needed, and no slot is vacant.
     pub fn insert_within_capacity(&mut self, t: T) -> Result<(P, Option<T>), OrdInsertionError>
         ensures inserts { InsertsWithin T.key_of T.Key.cmp P.Inx.most P.numbers self.old t result
             self.new }
@@ -30,24 +34,30 @@ impl<P: BasePtr, T: SimpleOrdItem + Drop, A: Allocator> SimpleOrdArena<P, T, A> 
             (λ a. count self.new ≡ (if is_some a.1 then count self.old else count self.old + 1)) }
         ensures refused { OnErr result (self.new ≡ self.old) }
     {
-        // with its length an arena tells what holds of its list
+        // For the prover: the list is sound.
         let _ = self.len();
         let prepared = self.prepare_within(OrdInsertKind::Normal(t.key()))?;
         let p = prepared.shown.any();
         Ok((p, self.insert_prepared(prepared, t)))
     }
 
-    /// Inserts an item by its key, and returns its pointer.
+    /// Inserts an item by its key and returns its pointer.
     ///
-    /// An entry with an equal key that the search met keeps its pointer and gets the item, and the result has the item that it had
-    /// before; this is never refused. Else the item becomes a new entry in a gap of the list that fits its key, with the arena's
-    /// generation, in the slot that was freed last, else the least that was never used. Where no slot is vacant the arena grows first,
-    /// to twice its capacity, at least 4, and at most its limit. It is refused with `BeyondMaxCapacity` where the length is at the
-    /// limit, and with `AllocError` where memory is refused; the item is then dropped, and nothing else changes. `entry_insert` lets a
-    /// caller keep it.
+    /// If the search finds an entry with an equal key, that entry keeps its pointer, its item is replaced, and the old item is returned;
+    /// this never fails. Otherwise a new entry goes into a gap that fits its key. It has the arena's generation and takes the slot freed
+    /// last, or else the least one never used. If no slot is vacant, the arena first grows to twice its capacity, at least 4 and at most
+    /// the limit.
     ///
-    /// A new entry changes the parent of at most five others in the tree, and over a run four ranks of others at most. It takes O(log n) time for n entries, and O(n) where the
-    /// arena grows; each growth doubles the room, so over many insertions that is O(1) for each.
+    /// # Errors
+    ///
+    /// The arena is unchanged and `t` is dropped; use `entry_insert` to keep it.
+    /// - `BeyondMaxCapacity`: a new entry is needed, and the length is at the limit.
+    /// - `AllocError`: growing failed.
+    ///
+    /// # Complexity
+    ///
+    /// O(log n), plus O(n) when the arena grows (amortized O(1)). A new entry changes the parent of at most five others. The amortized
+    /// number of rank changes of others is at most 4.
     pub fn insert_reallocating(&mut self, t: T) -> Result<(P, Option<T>), OrdInsertionError>
         ensures inserts { Inserts T.key_of T.Key.cmp P.Inx.most P.numbers self.old t
             result self.new }
@@ -57,7 +67,7 @@ impl<P: BasePtr, T: SimpleOrdItem + Drop, A: Allocator> SimpleOrdArena<P, T, A> 
             (λ a. count self.new ≡ (if is_some a.1 then count self.old else count self.old + 1)) }
         ensures refused { OnErr result (self.new ≡ self.old) }
     {
-        // with its length an arena tells what holds of its list
+        // For the prover: the list is sound.
         let _ = self.len();
         let prepared = self.prepare_reallocating(OrdInsertKind::Normal(t.key()))?;
         let p = prepared.shown.any();
@@ -66,9 +76,9 @@ impl<P: BasePtr, T: SimpleOrdItem + Drop, A: Allocator> SimpleOrdArena<P, T, A> 
 
     /// The same as `insert_reallocating`.
     ///
-    /// It searches from the root, also for a key behind all others. [`entry_insert`](Self::entry_insert) with the kind
-    /// [`OrdInsertKind::Linear`] (or [`OrdInsertKind::NonhereditaryLinear`]), the index of [`last`](Self::last) and `num: 1` compares
-    /// the last key first, and so finds the place of such a key in O(1).
+    /// It searches from the root, even for a key behind all others. [`entry_insert`](Self::entry_insert) finds the place of such a key in
+    /// O(1), as it compares the last key first with the kind [`OrdInsertKind::Linear`] (or [`OrdInsertKind::NonhereditaryLinear`]), the
+    /// index of [`last`](Self::last) and `num: 1`.
     pub fn insert(&mut self, t: T) -> Result<(P, Option<T>), OrdInsertionError>
         ensures inserts { Inserts T.key_of T.Key.cmp P.Inx.most P.numbers self.old t
             result self.new }
@@ -83,11 +93,11 @@ impl<P: BasePtr, T: SimpleOrdItem + Drop, A: Allocator> SimpleOrdArena<P, T, A> 
 }
 
 impl<P: BasePtr, T: Drop, A: Allocator> SimpleOrdArena<P, T, A> {
-    /// Inserts an item beside the entry at an index, whatever the keys: directly before it (`Less`), directly after it (`Greater`), or
-    /// in the place of its item (`Equal`), which is returned.
+    /// Inserts an item beside the entry at an index, whatever the keys: directly before it (`Less`) or directly after it (`Greater`).
+    /// `Equal` replaces the item of that entry, returns the old one, and always succeeds.
     ///
-    /// `Equal` always succeeds. A new entry gets a slot as in `insert_reallocating`, with the same refusals; the item is then dropped,
-    /// and nothing else changes. `OrdInsertKind::Manual` does the same for an index that may have no entry.
+    /// A new entry gets a slot as in `insert_reallocating`, with the same errors; then the arena is unchanged and `t` is dropped.
+    /// `OrdInsertKind::Manual` does the same for an index that may have no entry.
     pub fn insert_inx_manual_unwrap(
         &mut self,
         p: P::Inx,
@@ -106,7 +116,7 @@ impl<P: BasePtr, T: Drop, A: Allocator> SimpleOrdArena<P, T, A> {
             ≡ (if is_some before then count self.old else count self.old + 1)) }
         ensures refused { OnErr result (self.new ≡ self.old) }
     {
-        // with its length an arena tells what holds of its list
+        // For the prover: the list is sound.
         let _ = self.len();
         match direction {
             Ordering::Equal => Ok(Some(self.replace(p, t))),

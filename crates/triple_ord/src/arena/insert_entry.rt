@@ -6,9 +6,9 @@ use crate::prepared::Prepared;
 use arena_base::BasePtr;
 use std::alloc::{Allocator, Global};
 
-/// The place of an insertion in an arena, found and with a slot for the item. Its `insert` puts the item there.
+/// The place of an insertion in an arena, with a slot for the item. Its `insert` puts the item there.
 ///
-/// Dropped, it inserts nothing; the capacity of the arena may have grown for it.
+/// Dropping it inserts nothing; the capacity of the arena may have grown for it.
 #[derive(Drop)]
 pub struct SimpleOrdArenaInsertEntry<'a, P: BasePtr, T, A: Allocator = Global> {
     pub(super) arena: &'a mut SimpleOrdArena<P, T, A>,

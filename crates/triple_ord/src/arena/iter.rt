@@ -1,4 +1,4 @@
-//! Going through an arena in the order of its list.
+//! Iterating over an arena in list order.
 ghost use Rattle.std.specs.Prelude.{◌≡◌, Some, IfSome, length};
 ghost use Rattle.std.specs.Iterator.{YieldsFirstBy, UpTo, item_count};
 ghost use Rattle.std.specs.Iterator.SizeHint.{IsWithinCount};
@@ -8,13 +8,13 @@ use arena_base::BasePtr;
 use std::alloc::{Allocator, Global};
 use std::marker::Model;
 
-/// Gives the pointers and the items of an arena in the order of its list.
+/// Returns the pointers and the items of an arena in list order.
 #[derive(Drop)]
 pub struct Iter<'a, P: BasePtr, T, A: Allocator = Global> {
     arena: &'a SimpleOrdArena<P, T, A>,
-    // the index of the entry that comes next
+    // The index of the next entry.
     at: Option<P::Inx>,
-    // how many entries are to come
+    // The number of entries left.
     left: usize,
 }
 
@@ -38,11 +38,11 @@ impl<'a, P: BasePtr, T, A: Allocator> Model for Iter<'a, P, T, A> {
 }
 
 impl<P: BasePtr, T, A: Allocator> SimpleOrdArena<P, T, A> {
-    /// The entries in the order of the list, each as its pointer and its item; each step is O(1).
+    /// Returns an iterator over the entries in list order, each as its pointer and its item. O(1) a step.
     pub fn iter_ordered(&self) -> Iter<'_, P, T, A>
         ensures { result ≡ self.now.list.entries }
     {
-        // with its length an arena tells what holds of every list
+        // For the prover: the list is sound.
         let left = self.len();
         let at = match self.first() {
             Some(p) => Some(p.inx()),

@@ -12,14 +12,14 @@ use ord_tree::SimpleOrdArenaNode;
 use std::alloc::Allocator;
 
 impl<P: BasePtr, T, A: Allocator> SimpleOrdArena<P, T, A> {
-    /// The pointer of the first entry of the list, in O(1).
+    /// Returns the pointer of the first entry of the list. O(1).
     pub fn first(&self) -> Option<P>
         ensures { option_map P.numbers result ≡ first_pointer self.now.list.entries }
     {
         self.tree.chain().first()
     }
 
-    /// The pointer of the last entry of the list, in O(1).
+    /// Returns the pointer of the last entry of the list. O(1).
     #[tactic(auto, using(crate::proofs::Bare::last_pointer_under, crate::proofs::Bare::none_under))]
     pub fn last(&self) -> Option<P>
         ensures pointer { option_map P.numbers result ≡ last_pointer self.now.list.entries }
@@ -28,7 +28,7 @@ impl<P: BasePtr, T, A: Allocator> SimpleOrdArena<P, T, A> {
         self.tree.chain().last()
     }
 
-    /// Generation, item and neighbours in the list of the entry at the index, in O(1).
+    /// Returns the generation, the item and the neighbours in the list of the entry at the index. O(1).
     pub fn get_inx_link_no_gen(&self, p: P::Inx) -> Option<(P::Gen, LinkNoGen<P, &T>)>
         ensures { option_map
             (λ e. (
@@ -42,7 +42,8 @@ impl<P: BasePtr, T, A: Allocator> SimpleOrdArena<P, T, A> {
         Some((entry.0, LinkNoGen::new(link.prev_next(), &link.t.t)))
     }
 
-    /// Generation and node of the entry at the index, in O(1): its item, its neighbours in the list, and its place in the tree.
+    /// Returns the generation and the node of the entry at the index: its item, its neighbours in the list, and its place in the tree.
+    /// O(1).
     pub fn get_inx_node(
         &self,
         p: P::Inx,

@@ -1,4 +1,4 @@
-//! Where an insertion goes: the search for its place.
+//! The search for the place of an insertion.
 ghost use Rattle.std.specs.Prelude.{◌≡◌, ℕ, IfOk, IfErr};
 ghost use Rattle.std.specs.Option.{option_map};
 ghost use Rattle.triple_ord.specs.Place.{alone, at_key, beside, nowhere, IsPlace, aim_of, kind_now};
@@ -17,7 +17,7 @@ use std::alloc::Allocator;
 use std::cmp::Ordering;
 
 impl<P: BasePtr, T: SimpleOrdItem, A: Allocator> SimpleOrdArena<P, T, A> {
-    // The place of an insertion, and how many entries the search for it visited; a refusal where it has none.
+    // The place of an insertion, and the number of entries that its search visited, or an error if it has no place.
     #[inline(always)]
     pub(super) fn place_for(
         &self,
@@ -56,7 +56,7 @@ impl<P: BasePtr, T: SimpleOrdItem, A: Allocator> SimpleOrdArena<P, T, A> {
         }
     }
 
-    // The place by a key, and how many entries the search for it visited.
+    // The place by a key, and the number of entries that its search visited.
     #[inline(always)]
     fn place_by_key(&self, ties: Ties, k: &T::Key) -> (InsertPlace<P>, Visits)
         ensures { IsPlaceFor P.numbers T.key_of T.Key.cmp self.now {G = P.Gen} P.Inx.number
@@ -82,7 +82,7 @@ impl<P: BasePtr, T: SimpleOrdItem, A: Allocator> SimpleOrdArena<P, T, A> {
         (self.place_found(found), visits)
     }
 
-    // Where a search by a key ended: an equal entry is to be replaced, and a gap is to be filled.
+    // The place where a search by a key ended: an equal entry, whose item is replaced, or a gap.
     #[inline(always)]
     fn place_found(&self, found: Option<(P, Ordering)>) -> InsertPlace<P>
         ensures { (cmp : T.Key → T.Key → Ordering) (k : T.Key) (c : ℕ)
@@ -90,7 +90,7 @@ impl<P: BasePtr, T: SimpleOrdItem, A: Allocator> SimpleOrdArena<P, T, A> {
             (option_map (λ a. ((P.numbers a.0), a.1)) found) c
             → IsFoundPlace P.numbers T.key_of cmp self.now (at_key k) c result }
     {
-        // with its length an arena tells what holds of its list
+        // For the prover: the list is sound.
         let _ = self.len();
         match found {
             None => InsertPlace::New(None),
@@ -99,7 +99,7 @@ impl<P: BasePtr, T: SimpleOrdItem, A: Allocator> SimpleOrdArena<P, T, A> {
         }
     }
 
-    // The place alone, where there is no entry.
+    // The place of the only entry, if there are no entries.
     fn place_alone(&self) -> Option<InsertPlace<P>>
         ensures { IsPlaceBeside P.numbers T.key_of T.Key.cmp self.now alone result }
     {
@@ -110,12 +110,12 @@ impl<P: BasePtr, T: SimpleOrdItem, A: Allocator> SimpleOrdArena<P, T, A> {
         }
     }
 
-    // The place beside the entry at an index, or in its place.
+    // The place beside the entry at an index, or that of its item.
     fn place_beside(&self, i: P::Inx, direction: Ordering) -> Option<InsertPlace<P>>
         ensures { IsPlaceBeside P.numbers T.key_of T.Key.cmp self.now
             (beside (P.Inx.number i) direction) result }
     {
-        // with its length an arena tells what holds of its list
+        // For the prover: the list is sound.
         let _ = self.len();
         let (generation, _item) = self.get_inx(i)?;
         let p = P::_from_raw(i, generation);

@@ -1,4 +1,4 @@
-//! What an entry stands on: the place with its pointer and its slot, and the insertion there.
+//! What an entry of an insertion needs: the place with its pointer and its slot, and the insertion there.
 ghost use Rattle.std.specs.Prelude.{◌≡◌, ◌+◌, Some, IsSome, IfOk, OnOk, IfErr, IfSome, OnErr, is_some, if◌then◌else◌};
 ghost use Rattle.std.specs.Option.{option_map};
 ghost use Rattle.chain_base.specs.Chain.{next_index, IsOccupied};
@@ -22,10 +22,10 @@ use std::alloc::Allocator;
 use std::cmp::Ordering;
 use std::mem;
 
-// Inlined up to the calls of `insert` and `entry_insert`, the kind is known, so that one search is left of all; and what is prepared
-// stays in registers.
+// Inlined into `insert` and `entry_insert`, so that the kind is known, only one search remains, and the prepared place stays in
+// registers.
 impl<P: BasePtr, T: SimpleOrdItem + Drop, A: Allocator> SimpleOrdArena<P, T, A> {
-    // The place of an insertion that keeps within the capacity.
+    // The place of an insertion within the capacity.
     #[inline(always)]
     pub(super) fn prepare_within(
         &mut self,
@@ -39,7 +39,7 @@ impl<P: BasePtr, T: SimpleOrdItem + Drop, A: Allocator> SimpleOrdArena<P, T, A> 
         ensures refused { IfErr result (IsRefused T.key_of T.Key.cmp P.Inx.most within
             (aim_of P.Inx.number (kind_now kind.entry)) self.old) }
     {
-        // with its length an arena tells what holds of its list
+        // For the prover: the list is sound.
         let _ = self.len();
         let (place, visits) = self.place_for(kind)?;
         match place {
@@ -61,7 +61,7 @@ impl<P: BasePtr, T: SimpleOrdItem + Drop, A: Allocator> SimpleOrdArena<P, T, A> 
         }
     }
 
-    // The place of an insertion that may grow, with a slot where it needs one.
+    // The place of an insertion that may grow, with a slot if it needs one.
     #[inline(always)]
     pub(super) fn prepare_reallocating(
         &mut self,
@@ -76,7 +76,7 @@ impl<P: BasePtr, T: SimpleOrdItem + Drop, A: Allocator> SimpleOrdArena<P, T, A> 
             (aim_of P.Inx.number (kind_now kind.entry)) self.old) }
         ensures err { OnErr result (self.new ≡ self.old) }
     {
-        // with its length an arena tells what holds of its list
+        // For the prover: the list is sound.
         let _ = self.len();
         let (place, visits) = self.place_for(kind)?;
         match place {
@@ -113,7 +113,7 @@ impl<P: BasePtr, T: Drop, A: Allocator> SimpleOrdArena<P, T, A> {
         ensures count { count self.new
             ≡ (if is_some result then count self.old else count self.old + 1) }
     {
-        // with its length an arena tells what holds of its list
+        // For the prover: the list is sound.
         let _ = self.len();
         match prepared.shown {
             OrdEntryKind::Replacing(p) => Some(self.replace(p.inx(), t)),
@@ -124,7 +124,7 @@ impl<P: BasePtr, T: Drop, A: Allocator> SimpleOrdArena<P, T, A> {
         }
     }
 
-    // Inserts a new entry at a place, where a slot is vacant.
+    // Inserts a new entry at a place; a slot is vacant.
     #[inline(always)]
     fn put(&mut self, at: Option<(P, Ordering)>, t: T) -> P
         requires can { HasRoomAt P.numbers at self.old.list }
@@ -134,13 +134,13 @@ impl<P: BasePtr, T: Drop, A: Allocator> SimpleOrdArena<P, T, A> {
             t (P.numbers result).0 (P.numbers result).1 }
         ensures grown { IsGrown self.old.shape self.new.shape }
     {
-        // with its length an arena tells what holds of its list
+        // For the prover: the list is sound.
         let _ = self.len();
         let at = index_beside(at);
         self.tree.insert_within_capacity(at, t).unwrap()
     }
 
-    // Sees to it that a slot is vacant.
+    // Makes sure that a slot is vacant.
     #[inline(always)]
     fn make_room(&mut self) -> Result<(), OrdInsertionError>
         ensures ok { OnOk result
@@ -156,7 +156,7 @@ impl<P: BasePtr, T: Drop, A: Allocator> SimpleOrdArena<P, T, A> {
         Ok(())
     }
 
-    // The pointer that the next new entry gets, where a slot is vacant.
+    // The pointer of the next new entry, if a slot is vacant.
     fn next_pointer(&self) -> Option<P>
         ensures index { option_map (λ p. (P.numbers p).0) result ≡ next_index self.now.list }
         ensures generation { IfSome result (λ p. (P.numbers p).1 ≡ self.now.list.generation) }
@@ -165,7 +165,7 @@ impl<P: BasePtr, T: Drop, A: Allocator> SimpleOrdArena<P, T, A> {
     }
 }
 
-// The index of the entry beside which a new one goes, and its side.
+// The index of the entry beside which a new one goes, and the side.
 fn index_beside<P: BasePtr>(at: Option<(P, Ordering)>) -> Option<(P::Inx, Ordering)>
     ensures { by_number P.Inx.number result ≡ by_number (λ p. (P.numbers p).0) at }
 {
@@ -174,7 +174,7 @@ fn index_beside<P: BasePtr>(at: Option<(P, Ordering)>) -> Option<(P::Inx, Orderi
 }
 
 impl<P: BasePtr, T, A: Allocator> SimpleOrdArena<P, T, A> {
-    // Gives the entry at an index that has one another item, and returns the one that it had.
+    // Replaces the item of the entry at an occupied index, and returns the old one.
     pub(super) fn replace(&mut self, i: P::Inx, t: T) -> T
         requires { IsOccupied self.old.list (P.Inx.number i) }
         ensures before { option_map (λ e. e.1) (entry_at self.old (P.Inx.number i))

@@ -1,5 +1,5 @@
-//! Moving all entries: to the least indexes, or over from another arena. Afterwards the tree is the rebuilt one, in which no search
-//! visits more entries than their number has binary digits.
+//! Moving all entries to the least indexes, or over from another arena. Afterwards the tree is rebuilt: no search visits more entries
+//! than their number has binary digits.
 ghost use Rattle.std.specs.Prelude.{◌≡◌, ◌<◌, ◌↔◌, OnOk, OnErr, map};
 ghost use Rattle.arena_base.specs.Compression.{compressed_generation, compression_overflows};
 ghost use Rattle.arena_base.specs.Generation.{IsLawfulGeneration};
@@ -17,14 +17,15 @@ use arena_base::{BasePtr, InvalidationOption, ReallocationError};
 use std::alloc::Allocator;
 
 impl<P: BasePtr, T, A: Allocator> SimpleOrdArena<P, T, A> {
-    /// Moves all entries to the indexes from 1 on, in the order of their indexes, and gives them all one generation, which
-    /// becomes the arena's: the first where `reset` is true, else the next one. The order of the entries stays, and the tree is
-    /// built anew.
+    /// Moves all entries to the indexes from 1, in index order, gives them one new generation, and rebuilds the tree. The list keeps its
+    /// order.
     ///
-    /// The result says whether the generations began again because the next one comes after the greatest. For each entry, by
-    /// rising index, `f` is called with its old pointer, its item and its new pointer, and gives the item that the entry has
-    /// then; where it changes a key, the arena may be out of order. The capacity stays, and all vacant slots count as never used.
-    /// It takes O(capacity) time, and no memory.
+    /// Calls `f` for each entry, by rising index, with its old pointer, its item and its new pointer; `f` returns the entry's new item.
+    /// If it changes a key, the arena may be out of order. The new generation is the first if `reset` is true, else the next one; it
+    /// becomes the arena's. The result says whether it overflowed. The capacity stays, and the free list is ascending, as if no slot had
+    /// been used.
+    ///
+    /// O(capacity). Takes no memory.
     pub fn compress_with<F: FnMut(P, T, P) -> T + Drop>(
         &mut self,
         reset: bool,
@@ -44,7 +45,7 @@ impl<P: BasePtr, T, A: Allocator> SimpleOrdArena<P, T, A> {
         self.tree.compress_with(reset, f)
     }
 
-    /// Moves all entries to the indexes from 1 on as `compress_with` does, each with the item that it has.
+    /// Moves all entries to the indexes from 1 as `compress_with` does; each keeps its item.
     pub fn compress(&mut self, reset: bool) -> InvalidationOption<()>
         ensures items { items self.new ≡ items self.old }
         ensures count { count self.new ≡ count self.old }
@@ -59,10 +60,9 @@ impl<P: BasePtr, T, A: Allocator> SimpleOrdArena<P, T, A> {
         self.tree.compress(reset)
     }
 
-    /// Gives the entries the indexes from 1 on in their order, and one generation as `compress_with` does. Then the tree is
-    /// built anew.
+    /// Moves the entries to the indexes from 1, in list order, gives them one generation as `compress_with` does, and rebuilds the tree.
     ///
-    /// The capacity stays, and all vacant slots count as never used. It takes O(capacity) time, and no memory.
+    /// The capacity stays, and the free list is ascending, as if no slot had been used. O(capacity). Takes no memory.
     pub fn compress_canonical(&mut self, reset: bool) -> InvalidationOption<()>
         ensures items { items self.new ≡ items self.old }
         ensures count { count self.new ≡ count self.old }
@@ -77,16 +77,19 @@ impl<P: BasePtr, T, A: Allocator> SimpleOrdArena<P, T, A> {
         self.tree.compress_canonical(reset)
     }
 
-    /// Takes all entries out of the source, in order, and puts one for each into this arena, whose old entries are dropped: at
-    /// the indexes from 1 on, with this generation, which becomes the arena's. The tree is built anew. The capacity grows to
-    /// their number where it was less.
+    /// Moves all entries of `source`, in order, into this arena, to the indexes from 1 and with the generation `new_generation`, which
+    /// becomes the arena's. This arena's own entries are dropped, and the tree is rebuilt. The capacity grows to the number of new
+    /// entries if it is less.
     ///
-    /// For each entry `f` is called with its old pointer, its item, with what the removal says of the source's generations, and
-    /// its new pointer, and gives the item that the new entry has. Each removal raises the source's generation once, and the
-    /// source keeps its capacity. It takes O(n + capacity) time for n entries in all.
+    /// Calls `f` for each entry with its old pointer, its item, marked if the removal overflowed the source's generation, and its new
+    /// pointer; `f` returns the new entry's item. Each removal raises the source's generation. The source keeps its capacity. O(n +
+    /// capacity) for n entries in all.
     ///
-    /// It is refused with `BeyondMaxCapacity` where the source has more entries than this arena's limit, and with `AllocError`
-    /// where the capacity would grow and memory is refused. Nothing changes then, and `f` isn't called.
+    /// # Errors
+    ///
+    /// Both arenas are unchanged, and `f` isn't called.
+    /// - `BeyondMaxCapacity`: the source has more entries than this arena's limit.
+    /// - `AllocError`: growing failed.
     pub fn transfer_canonical_reallocating<
         Q: BasePtr,
         U,
@@ -125,7 +128,7 @@ impl<P: BasePtr, T, A: Allocator> SimpleOrdArena<P, T, A> {
 }
 
 impl<P: BasePtr, T: SimpleOrdItem, A: Allocator> SimpleOrdArena<P, T, A> {
-    /// `compress_with`, where each call of `f` leaves the key of its item as it is: so the keys stay, and their order.
+    /// `compress_with`, if each call of `f` keeps the key of its item. So the keys stay in place.
     pub fn compress_keeping_keys<F: FnMut(P, T, P) -> T + Drop>(
         &mut self,
         reset: bool,
@@ -144,7 +147,7 @@ impl<P: BasePtr, T: SimpleOrdItem, A: Allocator> SimpleOrdArena<P, T, A> {
         ensures overflow { is_overflow result
             ≡ compression_overflows P.Gen.greatest reset self.old.list.generation }
     {
-        // With its length an arena tells what holds of its list.
+        // For the prover: the list is sound.
         let _ = self.len();
         self.compress_with(reset, f)
     }

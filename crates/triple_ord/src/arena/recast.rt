@@ -7,8 +7,8 @@ use super::SimpleOrdArena;
 use arena_base::{BasePtr, BasePtrInx, ItemsMut, Recast, Recaster};
 use std::alloc::Allocator;
 
-/// The items are recast by rising index, up to the first whose recast fails, in O(capacity) time. The items before that one stay
-/// recast, it stays as its own recast left it, and the others as they were. Where keys change, the arena may be out of order.
+/// Recasts the items by rising index, up to the first whose recast fails, in O(capacity). The items before that one stay recast, that one
+/// is left as its own recast left it, and the others are unchanged. If keys change, the arena may be out of order.
 impl<I, P: BasePtr, T: Recast<I>, A: Allocator> Recast<I> for SimpleOrdArena<P, T, A> {
     ghost use Rattle.triple_ord.specs.Recasting.{RecastsItems};
 
@@ -16,7 +16,7 @@ impl<I, P: BasePtr, T: Recast<I>, A: Allocator> Recast<I> for SimpleOrdArena<P, 
         RecastsItems (T.recast_gives gives) old result new };
 
     fn recast<R: Recaster<Item = I>>(&mut self, recaster: &R) -> Result<(), I> {
-        // With its length an arena tells what holds of every list.
+        // For the prover: the list is sound.
         let _ = self.len();
         for position in 0..self.capacity() {
             let i = P::Inx::try_from_usize(position + 1).unwrap();
@@ -28,7 +28,7 @@ impl<I, P: BasePtr, T: Recast<I>, A: Allocator> Recast<I> for SimpleOrdArena<P, 
     }
 }
 
-// Recasts the item of the entry at an index that has one.
+// Recasts the item of the entry at an occupied index.
 fn recast_at<I, P: BasePtr, T: Recast<I>, A: Allocator, R: Recaster<Item = I>>(
     arena: &mut SimpleOrdArena<P, T, A>,
     i: P::Inx,

@@ -52,7 +52,7 @@ impl<P: BasePtr, T: SimpleOrdItem, A: Allocator> SimpleOrdArena<P, T, A> {
         }
     }
 
-    /// `rekey`, and how many entries the search for the new place visited, within the bounds of `find_key_counted`.
+    /// `rekey`, with the number of entries that the search for the new place visited, within the bounds of `find_key_counted`.
     ///
     /// # Errors
     ///
@@ -69,7 +69,7 @@ impl<P: BasePtr, T: SimpleOrdItem, A: Allocator> SimpleOrdArena<P, T, A> {
         ensures back { IfErr result (λ back. back ≡ t) }
         ensures refused { OnErr result (self.new ≡ self.old) }
     {
-        // with its length an arena tells what holds of its list
+        // For the prover: the list is sound.
         let _ = self.len();
         if !self.contains(p) {
             return Err(t);
@@ -92,7 +92,7 @@ impl<P: BasePtr, T: SimpleOrdItem, A: Allocator> SimpleOrdArena<P, T, A> {
         ensures count { count self.new ≡ count self.old }
         ensures stale { OnFalse result (self.new ≡ self.old) }
     {
-        // with its length an arena tells what holds of its list
+        // For the prover: the list is sound.
         let _ = self.len();
         let Some(item) = self.get(p) else {
             return false;
@@ -102,7 +102,7 @@ impl<P: BasePtr, T: SimpleOrdItem, A: Allocator> SimpleOrdArena<P, T, A> {
         true
     }
 
-    // The place of a key among the entries but the one at a pointer, and how many entries the search for it visited.
+    // The place of a key among all entries but that of a pointer, and the number of entries that its search visited.
     fn place_around(&self, p: P, k: &T::Key) -> (Option<(P, Ordering)>, Visits)
         ensures found { FindsAround T.key_of T.Key.cmp self.now.list.entries (P.numbers p).0 k.now
             (option_map (λ a. (P.numbers a.0, a.1)) result.0) result.1 }
@@ -117,7 +117,7 @@ impl<P: BasePtr, T: SimpleOrdItem, A: Allocator> SimpleOrdArena<P, T, A> {
 impl<P: BasePtr, K: Ord, V, A: Allocator> SimpleOrdArena<P, OrdPair<K, V>, A> {
     /// Gives the pair at `p` the key `k`, moves the entry to the place of that key, and returns the old key. The value stays.
     ///
-    /// This is `rekey` for a pair whose value can't be handed in anew. Cost and bounds are those of `rekey`.
+    /// This is `rekey` for a pair whose value can't be passed again. Cost and bounds are those of `rekey`.
     ///
     /// # Errors
     ///
@@ -134,7 +134,7 @@ impl<P: BasePtr, K: Ord, V, A: Allocator> SimpleOrdArena<P, OrdPair<K, V>, A> {
         ensures back { IfErr result (λ back. back ≡ k) }
         ensures refused { OnErr result (self.new ≡ self.old) }
     {
-        // with its length an arena tells what holds of its list
+        // For the prover: the list is sound.
         let _ = self.len();
         let Some(_pair) = self.get(p) else {
             return Err(k);
@@ -145,7 +145,7 @@ impl<P: BasePtr, K: Ord, V, A: Allocator> SimpleOrdArena<P, OrdPair<K, V>, A> {
         Ok(before)
     }
 
-    // Gives the pair at an index that has one another key, and returns the key that it had.
+    // Replaces the key of the pair at an occupied index, and returns the old one.
     fn replace_key(&mut self, i: P::Inx, k: K) -> K
         requires { IsOccupied self.old.list (P.Inx.number i) }
         ensures before { IfSome (entry_at self.old (P.Inx.number i)) (λ e. result ≡ e.1.0) }
@@ -159,7 +159,7 @@ impl<P: BasePtr, K: Ord, V, A: Allocator> SimpleOrdArena<P, OrdPair<K, V>, A> {
 }
 
 impl<P: BasePtr, T, A: Allocator> SimpleOrdArena<P, T, A> {
-    // Lets the entry of a pointer go beside another, if one is named and has another index. Beside its own neighbour it stays.
+    // Moves the entry of a pointer beside another, if one is given and has another index. If it is already there, nothing moves.
     fn go_beside(&mut self, p: P, at: Option<(P, Ordering)>)
         requires entry { IsOccupied self.old.list (P.numbers p).0 }
         requires place { IfSome at (λ a. (P.numbers a.0).0 ≢ (P.numbers p).0
@@ -182,13 +182,13 @@ impl<P: BasePtr, T, A: Allocator> SimpleOrdArena<P, T, A> {
         self.tree.move_beside(p.inx(), (at.0.inx(), at.1));
     }
 
-    // Whether the entry at an index already stands directly on this side of another.
+    // Whether the entry at an index is already directly on this side of another.
     fn stands_beside(&self, i: P::Inx, at: (P, Ordering)) -> bool
         requires { IsOccupied self.now.list (P.Inx.number i) }
         ensures { IsTrue result → (P.numbers at.0).0 ≢ P.Inx.number i → at.1 ≢ Equal
             → self.now.list ≡ with_entry_moved self.now.list (P.Inx.number i) (put_on at.1 (P.numbers at.0).0) }
     {
-        // with its length an arena tells what holds of its list
+        // For the prover: the list is sound.
         let _ = self.len();
         let Some((_, link)) = self.get_inx_node(at.0.inx()) else {
             return false;
@@ -202,14 +202,14 @@ impl<P: BasePtr, T, A: Allocator> SimpleOrdArena<P, T, A> {
     }
 }
 
-// Whether two pointers have one index.
+// Whether two pointers have the same index.
 fn share_index<P: BasePtr>(p: P, q: P) -> bool
     ensures { IsTrue result ↔ ((P.numbers p).0 ≡ (P.numbers q).0) }
 {
     p.inx() == q.inx()
 }
 
-// Whether an index is there, and is this one.
+// Whether there is an index, and it is this one.
 fn is_named<I: BasePtrInx>(neighbour: Option<I>, i: I) -> bool
     ensures { IsTrue result ↔ (option_map I.number neighbour ≡ Some (I.number i)) }
 {

@@ -1,4 +1,4 @@
-//! Ending entries and their pointers. None of these calls takes memory.
+//! Removing entries and invalidating pointers. None of these calls takes memory.
 ghost use Rattle.std.specs.Prelude.{◌≡◌, ◌+◌, None, IfSome, OnSome, is_some};
 ghost use Rattle.std.specs.Option.{option_map};
 ghost use Rattle.arena_base.specs.Generation.{overflows_after};
@@ -13,12 +13,15 @@ use arena_base::{BasePtr, InvalidationOption, InvalidationResult};
 use std::alloc::Allocator;
 
 impl<P: BasePtr, T, A: Allocator> SimpleOrdArena<P, T, A> {
-    /// Takes the entry that the pointer names out, returns its item, and raises the generation. The next insertion takes its slot.
-    /// Every other entry keeps its pointer, its item and its place in the order. At most nine get another parent in the tree, and over a
-    /// run nine ranks change for each removal at most.
+    /// Removes the entry that the pointer names, returns its item, and raises the generation.
     ///
-    /// For a pointer that names no entry it returns `InvalidPtr`, and nothing changes. It compares no keys, and takes
-    /// O(log n) time for n entries: O(1) for the list, and the repair of the ranks.
+    /// The next insertion takes its slot. Every other entry keeps its pointer, its item and its place in the order. Returns `InvalidPtr`
+    /// if the pointer names no entry; the arena is unchanged then.
+    ///
+    /// # Complexity
+    ///
+    /// O(log n): O(1) for the list, plus the repair of the ranks. Compares no keys. At most nine nodes get a new parent in the tree. The
+    /// amortized number of rank changes is at most 9.
     pub fn remove(&mut self, p: P) -> InvalidationResult<T>
         ensures removal { IsRemoval P.Gen.greatest self.old.list.generation result
             (valid_value result) (item_of self.old (P.numbers p))
@@ -35,9 +38,9 @@ impl<P: BasePtr, T, A: Allocator> SimpleOrdArena<P, T, A> {
         item_taken::<P, T>(self.tree.remove_entry(p.inx()).valid())
     }
 
-    /// Takes the entry at the index out, as `remove` does, and returns its generation and its item.
+    /// Removes the entry at the index, as `remove` does, and returns its generation and its item.
     ///
-    /// At an index without an entry it returns `InvalidPtr`, and nothing changes.
+    /// Returns `InvalidPtr` if there is no entry at the index; the arena is unchanged then.
     pub fn remove_inx(&mut self, i: P::Inx) -> InvalidationResult<(P::Gen, T)>
         ensures removal { IsRemoval P.Gen.greatest self.old.list.generation result
             (option_map (λ e. (P.Gen.number e.0, e.1)) (valid_value result))
@@ -53,9 +56,9 @@ impl<P: BasePtr, T, A: Allocator> SimpleOrdArena<P, T, A> {
         self.tree.remove_inx(i)
     }
 
-    /// Ends the pointer and gives its entry a new one, at the same index and place and with the raised generation. The item stays.
+    /// Ends the pointer and gives its entry a new one, with the same index and the raised generation. The item and the place stay.
     ///
-    /// For a pointer that names no entry it returns `InvalidPtr`, and nothing changes. It takes O(1) time.
+    /// Returns `InvalidPtr` if the pointer names no entry; the arena is unchanged then. O(1).
     pub fn invalidate(&mut self, p: P) -> InvalidationResult<P>
         ensures renewal { IsRenewal P.numbers P.Gen.greatest self.old.list.generation result
             (P.numbers p).0 (is_some (item_of self.old (P.numbers p)))
@@ -69,8 +72,8 @@ impl<P: BasePtr, T, A: Allocator> SimpleOrdArena<P, T, A> {
         self.tree.invalidate(p)
     }
 
-    /// Drops all entries and raises the generation, once also where there was none. The capacity stays, and all slots count as
-    /// never used. It takes O(capacity) time.
+    /// Drops all entries and raises the generation, once even if there were none. The capacity stays, and the free list is ascending, as
+    /// if no slot had been used. O(capacity).
     pub fn clear(&mut self) -> InvalidationOption<()>
     where
         T: Drop,
@@ -85,7 +88,7 @@ impl<P: BasePtr, T, A: Allocator> SimpleOrdArena<P, T, A> {
     }
 }
 
-// The result of the tree, without the generation.
+// The tree's result, without the generation.
 fn item_taken<P: BasePtr, T>(taken: InvalidationResult<(P::Gen, T)>) -> InvalidationResult<T>
     ensures value { valid_value result ≡ option_map (λ e. e.1) (valid_value taken) }
     ensures overflow { has_overflowed result ≡ has_overflowed taken }

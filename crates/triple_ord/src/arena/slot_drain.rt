@@ -1,4 +1,4 @@
-//! Taking all entries out of an arena in the order of their indexes.
+//! Draining an arena in index order.
 ghost use Rattle.std.specs.Prelude.{◌≡◌};
 ghost use Rattle.std.specs.Iterator.{item_count};
 ghost use Rattle.arena_base.specs.Walk.{pointers};
@@ -11,18 +11,17 @@ use super::SimpleOrdArena;
 use arena_base::{Advancer, BasePtr, InvalidationOption, PtrAdvancer};
 use std::alloc::{Allocator, Global};
 
-/// Takes the entries out of an arena by rising index, each by a removal of its own. When it is dropped it clears the arena.
+/// Removes the entries of an arena by rising index, one a step. Dropping it clears the arena.
 pub struct Drain<'a, P: BasePtr, T: Drop, A: Allocator = Global> {
     arena: &'a mut SimpleOrdArena<P, T, A>,
     walk: PtrAdvancer<P>,
 }
 
 impl<P: BasePtr, T: Drop, A: Allocator> SimpleOrdArena<P, T, A> {
-    /// Takes all entries out, by rising index, whatever the order of the list.
+    /// Removes all entries by rising index, whatever the list order.
     ///
-    /// Each is removed, and raises the generation, as it is given, in O(log n) time; to come to them takes O(capacity) in all. When the
-    /// drain is dropped, the arena is cleared of the rest, which raises the generation once more. After a drain that is forgotten the
-    /// rest is still there.
+    /// Each step removes an entry and raises the generation, in O(log n); finding the entries takes O(capacity) in all. Dropping the
+    /// drain clears the arena of the rest, which raises the generation once more. If the drain is forgotten, the rest is still there.
     pub fn drain(&mut self) -> Drain<'_, P, T, A>
         ensures arena { drain_arena result ≡ self.old }
         ensures rest { drain_rest result ≡ pointers (content_of self.old) }
@@ -34,9 +33,9 @@ impl<P: BasePtr, T: Drop, A: Allocator> SimpleOrdArena<P, T, A> {
 }
 
 impl<'a, P: BasePtr, T: Drop, A: Allocator> Drain<'a, P, T, A> {
-    /// Ends the drain, and leaves the arena as it is: the entries that haven't been given stay.
+    /// Ends the drain and leaves the arena as it is: entries not yet returned stay.
     ///
-    /// `mem::forget` does the same, but says nothing to a caller of what is left.
+    /// `mem::forget` does the same, but promises a caller nothing about what is left.
     pub fn keep_rest(self)
         ensures { self.exit.0.now ≡ drain_arena self.entry }
     {
@@ -65,7 +64,7 @@ impl<'a, P: BasePtr, T: Drop, A: Allocator> Iterator for Drain<'a, P, T, A> {
     ghost remaining = { item_count drain_rest };
 
     fn next(&mut self) -> Option<InvalidationOption<(P, T)>> {
-        // with its length an arena tells what holds of every list
+        // For the prover: the list is sound.
         let _ = self.arena.len();
         let p = self.walk.advance(self.arena)?;
         let taken = self.arena.remove(p).unwrap();

@@ -1,4 +1,4 @@
-//! Going through the entries by index, in the order of the slots.
+//! Walking through the entries in index order.
 ghost use Rattle.std.specs.Prelude.{◌≡◌, ◌↔◌, true, false, if◌then◌else◌, IfSome, IsNone};
 ghost use Rattle.arena_base.specs.Walk.{pointers, rising_from, falling_from, rising_walk, falling_walk, walk_rest, HasEnded};
 ghost use Rattle.chain_base.specs.Chain.{IsFirstIndex, IsLastIndex};
@@ -13,7 +13,7 @@ use ord_tree::SimpleOrdArenaNode;
 use std::alloc::Allocator;
 
 impl<P: BasePtr, T, A: Allocator> SimpleOrdArena<P, T, A> {
-    /// The pointer of the entry with the least index, in O(capacity).
+    /// Returns the pointer of the entry with the least index. O(capacity).
     pub fn find_first_inx_ptr(&self) -> Option<P>
         ensures first { IfSome result
             (λ p. IsFirstIndex self.now.list.entries (P.numbers p).0 (P.numbers p).1) }
@@ -22,7 +22,7 @@ impl<P: BasePtr, T, A: Allocator> SimpleOrdArena<P, T, A> {
         self.tree.chain().find_first_inx_ptr()
     }
 
-    /// The pointer of the entry with the greatest index, in O(capacity).
+    /// Returns the pointer of the entry with the greatest index. O(capacity).
     pub fn find_last_inx_ptr(&self) -> Option<P>
         ensures last { IfSome result
             (λ p. IsLastIndex self.now.list.entries (P.numbers p).0 (P.numbers p).1) }
@@ -31,7 +31,7 @@ impl<P: BasePtr, T, A: Allocator> SimpleOrdArena<P, T, A> {
         self.tree.chain().find_last_inx_ptr()
     }
 
-    /// Goes through all pointers by rising index, whatever the order of the list. All steps together take O(capacity).
+    /// Returns a walk over all pointers by rising index, whatever the list order. All steps together take O(capacity).
     pub fn advancer(&self) -> PtrAdvancer<P>
         ensures begins { result ≡ rising_walk 1 }
         ensures rest { walk_rest result (content_of self.now) ≡ pointers (content_of self.now) }
@@ -39,7 +39,7 @@ impl<P: BasePtr, T, A: Allocator> SimpleOrdArena<P, T, A> {
         self.tree.chain().arena().advancer()
     }
 
-    /// Goes through the pointers from an index on, which is the first: up, or down where `rev` is true.
+    /// Returns a walk over the pointers from an index on, which comes first: up, or down if `rev` is true.
     pub fn advancer_inx(&self, i: P::Inx, rev: bool) -> PtrAdvancer<P>
         ensures begins { result
             ≡ (if rev then falling_walk (P.Inx.number i) else rising_walk (P.Inx.number i)) }
@@ -52,7 +52,7 @@ impl<P: BasePtr, T, A: Allocator> SimpleOrdArena<P, T, A> {
     }
 }
 
-// The arena under the tree: its slots hold the nodes.
+// The arena under the tree, whose slots hold the nodes.
 type Nodes<P, T, A> = Arena<P, LinkNoGen<P, SimpleOrdArenaNode<P, T>>, A>;
 
 impl<P: BasePtr, T, A: Allocator> Advancer<SimpleOrdArena<P, T, A>> for PtrAdvancer<P> {
@@ -63,7 +63,7 @@ impl<P: BasePtr, T, A: Allocator> Advancer<SimpleOrdArena<P, T, A>> for PtrAdvan
     ghost has_ended = { HasEnded };
 
     fn advance(&mut self, arena: &SimpleOrdArena<P, T, A>) -> Option<P> {
-        // with its length and its capacity an arena tells what holds of every list and of all slots
+        // For the prover: the list and the slots are sound.
         let _ = arena.len();
         let nodes = arena.tree.chain().arena();
         let _ = nodes.capacity();

@@ -9,8 +9,8 @@ use arena_base::{
 };
 use std::alloc::{AllocError, Allocator};
 
-// A contract of a call on `self` brings the arena's laws into the proof: so each method asks for the length first, where the call
-// that it makes needs them.
+// The contract of a call on `self` brings the arena's laws into the proof. So each method first asks for the length if its own call needs
+// them.
 #[tactic(auto, using(crate::specs::ContentLaws::slot_is, crate::specs::ContentLaws::item_is, crate::specs::ContentLaws::capacity_is, crate::specs::ContentLaws::len_is, crate::specs::ContentLaws::lawful_is, crate::specs::ContentLaws::content_removed, crate::specs::ContentLaws::content_renewed, crate::specs::ContentLaws::content_cleared))]
 impl<P: BasePtr, T, A: Allocator + Copy> ArenaTrait<P, T> for SimpleOrdArena<P, T, A> {
     type Alloc = A;

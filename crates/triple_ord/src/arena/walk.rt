@@ -1,4 +1,4 @@
-//! Going along the list of an arena without borrowing it.
+//! Walking along the list of an arena without borrowing it.
 ghost use Rattle.std.specs.Prelude.{◌≡◌, [], Some, None, MatchOption, IfSome, is_some};
 ghost use Rattle.std.specs.Option.{option_map};
 ghost use Rattle.triple_ord.specs.Arena.{item_of};
@@ -9,11 +9,11 @@ use arena_base::{Advancer, BasePtr};
 use std::alloc::Allocator;
 use std::marker::Model;
 
-/// Goes along the list of an arena, from one entry to an end of the list.
+/// A walk along the list of an arena, from one entry to an end of the list.
 ///
-/// It borrows nothing, and keeps the index of the entry that it gives next: a step gives the entry that has this index then, and
-/// goes on to the neighbour that this entry has at that moment; each step is O(1). `None` is for good: it comes where no entry has
-/// the index, and after the entry that stood at the end when it was given, also where others come behind it later.
+/// It borrows nothing and keeps the index of the entry that it returns next. A step returns the entry that has this index then, and goes
+/// on to the neighbour that this entry has at that moment. O(1) a step. `None` is final: it comes if no entry has the index, and after
+/// the entry that was at the end when it was returned, even if others come behind it later.
 #[derive(Drop)]
 pub struct OrderedPtrAdvancer<P: BasePtr> {
     at: Option<P::Inx>,
@@ -53,8 +53,8 @@ impl<P: BasePtr, T, A: Allocator> Advancer<SimpleOrdArena<P, T, A>> for OrderedP
 }
 
 impl<P: BasePtr, T, A: Allocator> SimpleOrdArena<P, T, A> {
-    /// Goes through the pointers from an entry on, which is the first to be given: to the end of the list, or back to its first
-    /// entry where `rev` is true. `None` where the pointer names no entry. O(1), as each step is.
+    /// Returns a walk from the entry that the pointer names, which comes first, to the end of the list, or back to its start if `rev` is
+    /// true. `None` if the pointer names no entry. O(1), as each step is.
     pub fn advancer_ordered(&self, p: P, rev: bool) -> Option<OrderedPtrAdvancer<P>>
         ensures valid { is_some result ≡ is_some (item_of self.now (P.numbers p)) }
         ensures begins { IfSome result
@@ -70,7 +70,7 @@ impl<P: BasePtr, T, A: Allocator> SimpleOrdArena<P, T, A> {
         }
     }
 
-    // The pointer of the entry at an index, and the index to which a walk goes on from there.
+    // The pointer of the entry at an index, and the index at which a walk goes on from there.
     fn step(&self, i: P::Inx, falling: bool) -> Option<(P, Option<P::Inx>)>
         ensures { MatchOption result
             (ordered_rest (record { at = Some (P.Inx.number i); falling = falling }) self.now ≡ [])
@@ -78,7 +78,7 @@ impl<P: BasePtr, T, A: Allocator> SimpleOrdArena<P, T, A> {
             (record { at = option_map P.Inx.number e.1; falling = falling })
             self.now (P.numbers e.0).0 (P.numbers e.0).1) }
     {
-        // with its length an arena tells what holds of every list
+        // For the prover: the list is sound.
         let _ = self.len();
         let entry = self.get_inx_link_no_gen(i)?;
         let link = entry.1;

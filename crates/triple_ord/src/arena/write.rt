@@ -10,7 +10,7 @@ use arena_base::{BasePtr, ItemsMut};
 use std::alloc::Allocator;
 use std::ops::IndexMut;
 
-/// Writes by index take O(1). What `get_mut` says of an item's key holds here too.
+/// Writes by index take O(1). The note on keys at `get_mut` holds here too.
 impl<P: BasePtr, T, A: Allocator> ItemsMut<P, T> for SimpleOrdArena<P, T, A> {
     ghost entry_at = { entry_at };
 
@@ -28,10 +28,9 @@ impl<P: BasePtr, T, A: Allocator> ItemsMut<P, T> for SimpleOrdArena<P, T, A> {
 impl<P: BasePtr, T, A: Allocator> SimpleOrdArena<P, T, A> {
     ghost use Rattle.triple_ord.specs.contracts.arena.SimpleOrdArena.{the_row};
 
-    /// The item that the pointer names, to be written, in O(1).
+    /// Returns the item that the pointer names, for writing. O(1).
     ///
-    /// Where its key is written too, the entry stays in its place: later searches may then miss it or others, and nothing else is
-    /// harmed.
+    /// If its key is written too, the entry stays in its place. Later searches may then miss it or others, but nothing else is harmed.
     pub fn get_mut(&mut self, p: P) -> Option<&mut T>
         ensures* writes_back { sem 𝓛 (LendsIf (the_row P.row T.row A.row P.Inx.row P.Gen.row
             P.BasePtr.own P.PartialEq P.Inx.BasePtrInx.own P.Inx.PartialEq

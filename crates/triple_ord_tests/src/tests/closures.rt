@@ -1,11 +1,11 @@
-//! Searches by a closure over the five keys: in the order of the list 10, 30, 50, 60, 70, at the indexes 5, 2, 1, 4, 3.
+//! Searches by a closure over the five keys: in list order 10, 30, 50, 60, 70, at the indexes 5, 2, 1, 4, 3.
 use super::{Keys, SOUGHT, at, five, taken};
 use arena_base::P0;
 use std::cell::Cell;
 use std::cmp::Ordering;
 use triple_ord::OrdPair;
 
-/// Where a search by a closure that always says less ends, after how many visits, and which keys it is shown in how many calls.
+/// The result of a search by a closure that always answers `Less`, its visits and calls, and the keys that it is shown.
 fn always_less_ends(a: &Keys) -> (Option<(P0, Ordering)>, u128, u64, [u64; 3]) {
     let mut calls = 0u64;
     let mut shown = [0u64; 3];
@@ -26,8 +26,8 @@ fn always_less(rt: HostRuntime) {
     assert!(rt; always_less_ends(&a) == (first, 3, 3, [50, 30, 10]));
 }
 
-/// Whether a search for a key by a closure calls it once a visit, with the count and without, and finds what a search for the key
-/// does.
+/// Whether a search by a closure for a key calls it once per visit, with the count and without, and finds what a search for the key
+/// finds.
 fn find_with_calls(a: &Keys, key: u64) -> bool {
     let calls = Cell::new(0u128);
     let mut order = |_p: P0, item: &OrdPair<u64, ()>| {
@@ -41,7 +41,7 @@ fn find_with_calls(a: &Keys, key: u64) -> bool {
     (counted, called) == (visits.count(), counted) && plain == found && found == a.find_key(&key)
 }
 
-/// The same of a search for a similar key.
+/// The same for a search for a similar key.
 fn find_similar_with_calls(a: &Keys, key: u64) -> bool {
     let calls = Cell::new(0u128);
     let mut order = |_p: P0, item: &OrdPair<u64, ()>| {

@@ -1,4 +1,4 @@
-//! Arenas whose keys stand in any order, some of them equal: what each call does is held against a plain vector of what was there.
+//! Arenas with keys in any order, some of them equal. The effect of each call is compared with a plain vector of the old entries.
 mod building;
 mod changes;
 mod closures;
@@ -16,10 +16,10 @@ use triple_ord::{OrdEntryKind, OrdInsertKind, OrdInsertionError, OrdPair, P0, Si
 /// A key with a number.
 type Item = OrdPair<u64, u64>;
 
-/// Keys with a number each.
+/// Keys, each with a number.
 type Numbers = SimpleOrdArena<P0, Item>;
 
-/// An entry, as it is kept in a plain vector.
+/// An entry, as a plain vector stores it.
 #[derive(Clone, Copy, PartialEq, Eq)]
 struct Row {
     p: P0,
@@ -27,7 +27,7 @@ struct Row {
     value: u64,
 }
 
-/// An entry of this pointer and pair.
+/// The row of this pointer and pair.
 fn row_of(p: P0, pair: &Item) -> Row {
     Row {
         p,
@@ -66,7 +66,7 @@ fn rows(rt: &impl Abort, alloc: Global, a: &Numbers) -> Vec<Row> {
     rows
 }
 
-/// Whether every call does what it may, on this arena or its clones.
+/// Whether every call has an allowed effect, on this arena or its clones.
 fn all_hold(rt: &impl Abort, alloc: Global, a: &Numbers, old: &[Row]) -> bool {
     searches::hold(a, old)
         && closures::hold(a, old)
@@ -74,13 +74,13 @@ fn all_hold(rt: &impl Abort, alloc: Global, a: &Numbers, old: &[Row]) -> bool {
         && moves::hold(rt, alloc, a, old)
 }
 
-/// The same, with the entries that there are.
+/// The same, with the current entries.
 fn holds(rt: &impl Abort, alloc: Global, a: &Numbers) -> bool {
     let rows = rows(rt, alloc, a);
     all_hold(rt, alloc, a, rows.as_slice())
 }
 
-/// Arenas of n entries in the order of the number, built in each way.
+/// Arenas of n entries in the order with this number, built in each way.
 fn each_way_holds(rt: &impl Abort, alloc: Global, n: u64, number: u64) {
     for building in &[Building::Manual, Building::Halved, Building::Written] {
         assert!(rt; holds(rt, alloc, &built(rt, alloc, *building, n, number)));

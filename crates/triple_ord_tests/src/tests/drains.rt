@@ -1,4 +1,4 @@
-//! Drains, in order and by index. The keys 1, 2, 3, 5 stand at the indexes 2, 4, 1, 3.
+//! Drains, in order and by index. The keys 1, 2, 3, 5 have the indexes 2, 4, 1, 3.
 use super::{Keys, at, has_keys, keys};
 use arena_base::{BasePtr, InvalidationOption, P0, P8};
 use std::alloc::Global;
@@ -13,7 +13,7 @@ fn four(alloc: Global) -> Keys {
     a
 }
 
-/// The four keys, after a drain in order that took so many and is then forgotten.
+/// The four keys, after a drain in order that took `taken` entries and was then forgotten.
 fn forgotten(alloc: Global, taken: usize) -> Keys {
     let mut a = four(alloc);
     let mut drain = a.drain_ordered();
@@ -24,7 +24,7 @@ fn forgotten(alloc: Global, taken: usize) -> Keys {
     a
 }
 
-/// The same after a drain by index.
+/// The same for a drain by index.
 fn forgotten_by_index(alloc: Global, taken: usize) -> Keys {
     let mut a = four(alloc);
     let mut drain = a.drain();
@@ -35,7 +35,7 @@ fn forgotten_by_index(alloc: Global, taken: usize) -> Keys {
     a
 }
 
-/// How many a drain takes; the generation after it, and the keys that it leaves, in order and by index.
+/// The number of entries that a drain takes, the generation after it, and the keys that it leaves, in order and by index.
 const LEFT: &[(usize, u64, &[u64], &[u64])] = &[
     (0, 3, &[1, 2, 3, 5], &[1, 2, 3, 5]),
     (1, 4, &[2, 3, 5], &[1, 2, 5]),
@@ -87,7 +87,7 @@ fn five_counted(alloc: Global, drops: &Cell<u64>) -> SimpleOrdArena<P0, Counted<
     a
 }
 
-/// Takes so many by an owning iterator. Answers how many were dropped before its own drop.
+/// Takes `taken` items by an owning iterator. Returns how many items were dropped before the iterator itself.
 fn own(alloc: Global, drops: &Cell<u64>, taken: usize) -> u64 {
     let mut all = five_counted(alloc, drops).into_iter();
     for _ in 0..taken {
@@ -96,7 +96,7 @@ fn own(alloc: Global, drops: &Cell<u64>, taken: usize) -> u64 {
     drops.get()
 }
 
-/// The same by a drain in order.
+/// The same for a drain in order.
 fn drain(alloc: Global, drops: &Cell<u64>, taken: usize) -> u64 {
     let mut a = five_counted(alloc, drops);
     let mut drain = a.drain_ordered();
@@ -106,7 +106,7 @@ fn drain(alloc: Global, drops: &Cell<u64>, taken: usize) -> u64 {
     drops.get()
 }
 
-/// The same by a drain by index.
+/// The same for a drain by index.
 fn drain_by_index(alloc: Global, drops: &Cell<u64>, taken: usize) -> u64 {
     let mut a = five_counted(alloc, drops);
     let mut drain = a.drain();
@@ -116,7 +116,7 @@ fn drain_by_index(alloc: Global, drops: &Cell<u64>, taken: usize) -> u64 {
     drops.get()
 }
 
-/// Each item is dropped just once, wherever a drain or an owning iterator ends.
+/// Each item is dropped exactly once, wherever a drain or an owning iterator ends.
 #[test]
 fn items_are_dropped_once(rt: HostRuntime) {
     let drops = Cell::new(0u64);
@@ -130,7 +130,7 @@ fn items_are_dropped_once(rt: HostRuntime) {
     }
 }
 
-/// The generations of eight bits begin again in the middle of a drain.
+/// 8-bit generations overflow in the middle of a drain.
 #[test]
 fn a_drain_overflows(rt: HostRuntime) {
     let mut a: SimpleOrdArena<P8, OrdPair<u64, ()>> = SimpleOrdArena::new(rt.alloc());

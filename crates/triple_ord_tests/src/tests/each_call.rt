@@ -1,11 +1,11 @@
-//! Each call's answer over five jobs, under pointers of eight bits. In order the deadlines are 10, 30, 50, 60, 70, at the indexes
-//! 5, 2, 1, 4, 3, each marked by its tenth.
+//! The results of each call over five jobs, with 8-bit pointers. In order the deadlines are 10, 30, 50, 60, 70, at the indexes 5, 2, 1,
+//! 4, 3. Each job is marked with a tenth of its deadline.
 use arena_base::{BasePtr, ItemsMut, P8};
 use std::alloc::Global;
 use std::cmp::Ordering;
 use triple_ord::{SimpleOrdArena, SimpleOrdItem};
 
-/// An item of which a field is the key.
+/// An item with its key in a field.
 #[derive(Drop)]
 struct Job {
     mark: u64,
@@ -24,12 +24,12 @@ impl SimpleOrdItem for Job {
 
 type Jobs = SimpleOrdArena<P8, Job>;
 
-/// The pointer of an entry that no removal came before.
+/// The pointer of an entry inserted before any removal.
 fn at(index: u8) -> P8 {
     P8::_from_raw(index, 2)
 }
 
-/// The mark of an item that was replaced, 0 where there was none.
+/// The mark of a replaced item, 0 if there was none.
 fn mark_before(before: Option<Job>) -> u64 {
     match before {
         Some(job) => job.mark,
@@ -37,7 +37,7 @@ fn mark_before(before: Option<Job>) -> u64 {
     }
 }
 
-/// Inserts a job. Answers its pointer, and the mark that it replaced; `None` where it is refused.
+/// Inserts a job. Returns its pointer and the mark that it replaced, or `None` on `Err`.
 fn put(a: &mut Jobs, deadline: u64, mark: u64) -> Option<(P8, u64)> {
     let (p, before) = a.insert(Job { mark, deadline }).ok()?;
     Some((p, mark_before(before)))
@@ -52,8 +52,8 @@ fn five(alloc: Global) -> Jobs {
     a
 }
 
-/// The entry that a search for a deadline names, the one that a search for a similar one does, and how many entries both visit.
-/// `None` where the searches without the counts answer otherwise, or one visits more than the other.
+/// The results of a search for a deadline and of a search for a similar one, and the visits of both. `None` if the searches without
+/// counts differ, or if one of the two visits more than the other.
 fn found(a: &Jobs, deadline: u64) -> Option<(Option<P8>, Option<(P8, Ordering)>, u128)> {
     let (equal, visits) = a.find_key_counted(&deadline);
     let (similar, similar_visits) = a.find_similar_key_counted(&deadline);
@@ -65,7 +65,7 @@ fn found(a: &Jobs, deadline: u64) -> Option<(Option<P8>, Option<(P8, Ordering)>,
     }
 }
 
-/// A deadline; the index and the order at which a search for it ends, and the visits.
+/// A deadline, the index and the order at which a search for it ends, and the visits.
 const SOUGHT: [(u64, u8, Ordering, u128); 7] = [
     (50, 1, Ordering::Equal, 2),
     (30, 2, Ordering::Equal, 3),
@@ -87,7 +87,7 @@ fn keys_find_pointers(rt: HostRuntime) {
     }
 }
 
-/// The mark of a pointer's item, or 0.
+/// The mark of a pointer's item, 0 if there is none.
 fn mark_of(a: &Jobs, p: P8) -> u64 {
     match a.get(p) {
         Some(job) => job.mark,
@@ -95,18 +95,18 @@ fn mark_of(a: &Jobs, p: P8) -> u64 {
     }
 }
 
-/// The deadline of a pointer, read in its place, or 0.
+/// The deadline of a pointer, read in place, 0 if there is none.
 fn deadline_in_place(a: &Jobs, p: P8) -> u64 {
     if a.contains(p) { a[p].deadline } else { 0 }
 }
 
-/// Generation and deadline at an index.
+/// The generation and the deadline at an index.
 fn deadline_at_index(a: &Jobs, i: u8) -> Option<(u8, u64)> {
     let (generation, job) = a.get_inx(i)?;
     Some((generation, job.deadline))
 }
 
-/// The deadline at an index, and the indexes of both neighbours in the list.
+/// The deadline at an index, and the indexes of its neighbours in the list.
 fn neighbours_of(a: &Jobs, i: u8) -> Option<(u64, Option<u8>, Option<u8>)> {
     let (_, link) = a.get_inx_link_no_gen(i)?;
     Some((link.t.deadline, link.prev(), link.next()))
@@ -138,14 +138,14 @@ fn mark_by_index(a: &mut Jobs, i: u8, mark: u64) {
     }
 }
 
-/// Marks a pointer's item in its place, if there is one.
+/// Marks a pointer's item in place, if there is one.
 fn mark_in_place(a: &mut Jobs, p: P8, mark: u64) {
     if a.contains(p) {
         a[p].mark = mark;
     }
 }
 
-/// Generation and mark of the entry at an index, taken out.
+/// Removes the entry at an index, and returns its generation and its mark.
 fn taken_at_index(a: &mut Jobs, i: u8) -> Option<(u8, u64)> {
     let (generation, job) = a.remove_inx(i).allow()?;
     Some((generation, job.mark))

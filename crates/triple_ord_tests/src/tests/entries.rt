@@ -1,4 +1,4 @@
-//! Insertions by kind, and entries that are asked for first.
+//! Insertions by kind, and entries requested first.
 use super::{Counting, CountingKeys, Keys, Sole, five_counting_keys, taken};
 use arena_base::{BasePtr, P0, PN};
 use std::alloc::Global;
@@ -8,7 +8,7 @@ use triple_ord::{OrdEntryKind, OrdInsertKind, OrdInsertionError, OrdPair, Simple
 
 type Marks = SimpleOrdArena<P0, OrdPair<u64, u64>>;
 
-/// A kind of insertion, as a row of a table names it.
+/// A kind of insertion, as a table row.
 #[derive(Clone, Copy)]
 enum Row {
     Empty,
@@ -19,7 +19,7 @@ enum Row {
     Manual(u32, Ordering),
 }
 
-/// The kind that a row names.
+/// The kind of a row.
 fn kind_in(row: &Row) -> OrdInsertKind<P0, &u64> {
     match row {
         Row::Empty => OrdInsertKind::Empty,
@@ -42,10 +42,10 @@ fn kind_in(row: &Row) -> OrdInsertKind<P0, &u64> {
     }
 }
 
-/// What an entry showed, how many entries the search for it visited, and the mark that it replaced.
+/// The pointer that an entry showed, the visits of its search, and the mark that it replaced.
 type Answer = (OrdEntryKind<P0>, u128, Option<u64>);
 
-/// Asks for an entry and inserts an item.
+/// Requests an entry and inserts an item.
 fn put(a: &mut Marks, row: &Row, (key, mark): (u64, u64)) -> Result<Answer, OrdInsertionError> {
     let entry = a.entry_insert(kind_in(row))?;
     let shown = entry.ptr();
@@ -64,7 +64,7 @@ fn replacing(index: u32) -> OrdEntryKind<P0> {
     OrdEntryKind::Replacing(P0::_from_raw(index, 2))
 }
 
-/// Keys in an arena, each marked 0, inserted in this order.
+/// Keys inserted in this order, each marked 0.
 fn marked(alloc: Global, list: &[u64]) -> Marks {
     let mut a = Marks::new(alloc);
     for key in list {
@@ -78,7 +78,7 @@ fn five(alloc: Global) -> Marks {
     marked(alloc, &[50, 30, 70, 60, 10])
 }
 
-/// The rank of the entry at an index, 0 where there is none.
+/// The rank of the entry at an index, 0 if there is none.
 fn rank_at(a: &Marks, index: u32) -> u8 {
     match a.get_inx_node(index) {
         Some((_, node)) => node.t.rank,
@@ -86,7 +86,7 @@ fn rank_at(a: &Marks, index: u32) -> u8 {
     }
 }
 
-/// Whether the entries in order are these, each by index, key, mark and rank.
+/// Whether these are the entries in order, each by index, key, mark and rank.
 fn is_listed(a: &Marks, wanted: &[(u32, u64, u64, u8)]) -> bool {
     let mut left = wanted.iter();
     for (p, pair) in a {
@@ -98,7 +98,7 @@ fn is_listed(a: &Marks, wanted: &[(u32, u64, u64, u8)]) -> bool {
     left.next().is_none()
 }
 
-/// The five keys, with 20 put in from a hint, and another 60 behind the first.
+/// The five keys, with 20 inserted from a hint and another 60 behind the first.
 const SEVEN: [(u32, u64, u64, u8); 7] = [
     (5, 10, 0, 1),
     (6, 20, 7, 2),
@@ -121,7 +121,7 @@ fn hints_and_sides(rt: HostRuntime) {
     assert!(rt; is_listed(&a, SEVEN.as_slice()));
 }
 
-/// A kind of insertion over five keys; whether its entry is new, its index, and the visits.
+/// A kind of insertion into five keys, whether its entry is new, its index, and the visits.
 const OVER_FIVE: [(Row, (bool, u32, u128)); 9] = [
     (Row::Normal(53), (true, 6, 3)),
     (Row::Normal(50), (false, 1, 2)),
@@ -147,7 +147,7 @@ fn entries_over_five_keys(rt: HostRuntime) {
     }
 }
 
-/// All kinds, each with a key or an index of an arena of one entry.
+/// Each kind, with a key or an index of an arena of one entry.
 const EACH_KIND: [Row; 6] = [
     Row::Empty,
     Row::Normal(5),
@@ -157,22 +157,22 @@ const EACH_KIND: [Row; 6] = [
     Row::Manual(1, Ordering::Less),
 ];
 
-/// What an entry that may grow answers, dropped: its pointer, or the refusal.
+/// What an entry that may grow shows before it is dropped, or the error.
 fn asked(a: &mut Marks, row: &Row) -> Result<OrdEntryKind<P0>, OrdInsertionError> {
     let entry = a.entry_insert_reallocating(kind_in(row))?;
     Ok(entry.ptr())
 }
 
-/// The same of an entry within the capacity.
+/// The same for an entry within the capacity.
 fn asked_within(a: &mut Marks, row: &Row) -> Result<OrdEntryKind<P0>, OrdInsertionError> {
     let entry = a.entry_insert_within_capacity(kind_in(row))?;
     Ok(entry.ptr())
 }
 
-/// Four keys, as they were put in.
+/// The four keys as inserted.
 const FOUR: [(u32, u64, u64, u8); 4] = [(1, 5, 0, 1), (2, 6, 0, 3), (3, 7, 0, 2), (4, 8, 0, 1)];
 
-/// An entry that is dropped inserts nothing; the capacity has grown for a new one.
+/// A dropped entry inserts nothing; the capacity has grown for a new one.
 #[test]
 fn entries_that_are_dropped(rt: HostRuntime) {
     for row in &EACH_KIND {
@@ -183,7 +183,7 @@ fn entries_that_are_dropped(rt: HostRuntime) {
     }
 }
 
-/// The keys 1 and 2 at the indexes 1 and 2, marked 0 and 20, which is all that may be.
+/// The keys 1 and 2 at the indexes 1 and 2, marked 0 and 20, in an arena that can't grow.
 fn full(alloc: Global) -> Marks {
     let mut a = Marks::new(alloc);
     let _ = a.set_max_capacity(2);
@@ -193,7 +193,7 @@ fn full(alloc: Global) -> Marks {
     a
 }
 
-/// A kind of insertion into a full arena, and its refusals where it may grow and within the capacity.
+/// A kind of insertion into a full arena, and its errors if it may grow and within the capacity.
 const REFUSED: [(Row, OrdInsertionError, OrdInsertionError); 5] = [
     (
         Row::Empty,
@@ -236,7 +236,7 @@ fn full_and_at_the_limit(rt: HostRuntime) {
     assert!(rt; is_listed(&a, &[(1, 1, 0, 2), (2, 2, 20, 1)]));
 }
 
-/// An entry of an empty arena is the first one, for which the arena grows, or is refused where an index is named.
+/// In an empty arena an entry is the only one, for which the arena grows. A kind with an index fails.
 #[test]
 fn each_kind_without_an_entry(rt: HostRuntime) {
     for row in &EACH_KIND {
@@ -252,7 +252,7 @@ fn each_kind_without_an_entry(rt: HostRuntime) {
     }
 }
 
-/// Inserts a key behind the entry at an index. Answers the capacity then, 0 where there is no such entry.
+/// Inserts a key behind the entry at an index. Returns the capacity afterwards, 0 if there is no such entry.
 fn capacity_behind(a: &mut Keys, index: u32, key: u64) -> usize {
     if !a.contains_inx(index) {
         return 0;
@@ -271,7 +271,7 @@ fn beside_an_entry_with_little_room(rt: HostRuntime) {
     assert!(rt; a.len() == 5);
 }
 
-/// A key as a kind of insertion takes it, by a number from 0 to 3.
+/// The kinds of insertion by a key, numbered from 0 to 3.
 fn keyed<'k, 'c>(which: u64, k: &'k Counting<'c>) -> OrdInsertKind<PN, &'k Counting<'c>> {
     match which {
         0 => OrdInsertKind::Normal(k),
@@ -289,7 +289,7 @@ fn keyed<'k, 'c>(which: u64, k: &'k Counting<'c>) -> OrdInsertKind<PN, &'k Count
     }
 }
 
-/// How many entries the search for an entry of a kind visits, 0 where it is refused.
+/// The visits of the search for an entry of a kind, 0 on `Err`.
 fn visits_of_an_entry<'a>(a: &mut CountingKeys<'a>, which: u64, key: &Counting<'a>) -> u128 {
     match a.entry_insert(keyed(which, key)) {
         Ok(entry) => entry.visits().count(),
@@ -297,7 +297,7 @@ fn visits_of_an_entry<'a>(a: &mut CountingKeys<'a>, which: u64, key: &Counting<'
     }
 }
 
-/// Inserts a key, within the capacity or not, and tells whether that went well.
+/// Inserts a key, within the capacity or not, and returns whether that succeeded.
 fn is_inserted<'a>(a: &mut CountingKeys<'a>, key: Counting<'a>, is_within: bool) -> bool {
     if is_within {
         a.insert_within_capacity(Sole { key }).is_ok()
@@ -306,7 +306,7 @@ fn is_inserted<'a>(a: &mut CountingKeys<'a>, key: Counting<'a>, is_within: bool)
     }
 }
 
-/// Whether an insertion of a key compares as often as an entry for it visits.
+/// Whether an insertion of a key makes as many comparisons as an entry for it has visits.
 fn insertion_compares<'a>(a: &mut CountingKeys<'a>, key: Counting<'a>, is_within: bool) -> bool {
     let comparisons = key.comparisons;
     let visits = visits_of_an_entry(a, 0, &key);

@@ -1,4 +1,4 @@
-//! Groups of entries with equal keys, against a plain vector.
+//! Groups of entries with equal keys, compared with a plain vector.
 use arena_base::{BasePtr, P0};
 use std::alloc::Global;
 use std::cmp::Ordering;
@@ -6,20 +6,20 @@ use triple_ord::{OrdInsertKind, OrdPair, SimpleOrdArena};
 
 type Marks = SimpleOrdArena<P0, OrdPair<u64, u64>>;
 
-/// An arena beside the vector of its pairs of key and mark.
+/// An arena and the vector of its pairs of key and mark.
 #[derive(Drop)]
 struct Beside {
     arena: Marks,
     pairs: Vec<(u64, u64)>,
 }
 
-/// Inserts a pair by a kind. Answers the mark that it replaced, `None` too where it is refused.
+/// Inserts a pair by a kind. Returns the mark that it replaced, `None` also on `Err`.
 fn put(a: &mut Marks, kind: OrdInsertKind<P0, &u64>, (key, mark): (u64, u64)) -> Option<u64> {
     let before = a.entry_insert(kind).ok()?.insert(OrdPair::new(key, mark))?;
     Some(*before.v())
 }
 
-/// Puts a pair into a plain vector, behind all whose keys are at most its own.
+/// Inserts a pair into a plain vector, behind all pairs whose keys are at most its own.
 fn put_plainly(pairs: &mut Vec<(u64, u64)>, pair: (u64, u64)) {
     let mut place = 0usize;
     for other in pairs.iter() {
@@ -32,7 +32,7 @@ fn put_plainly(pairs: &mut Vec<(u64, u64)>, pair: (u64, u64)) {
     }
 }
 
-/// Inserts a key behind all that are at most equal, into both.
+/// Inserts a key into both, behind all keys that are at most equal.
 fn push(beside: &mut Beside, key: u64) {
     let mark = beside.pairs.len() as u64;
     let kind = OrdInsertKind::Nonhereditary(&key);
@@ -40,8 +40,8 @@ fn push(beside: &mut Beside, key: u64) {
     put_plainly(&mut beside.pairs, (key, mark));
 }
 
-/// So many entries of the keys 3, 5 and 7, in turns: up to two lesser and two greater ones, and one to six between, by a number
-/// below 54.
+/// Entries with the keys 3, 5 and 7, added in turns. The number, below 54, selects up to two smaller and two greater ones and one to six
+/// between.
 fn group(alloc: Global, number: usize) -> Beside {
     let mut beside = Beside {
         arena: Marks::new(alloc),
@@ -83,7 +83,7 @@ fn mark_at(a: &Marks, p: Option<P0>) -> Option<u64> {
     Some(*a.get(p?)?.v())
 }
 
-/// The pointer that a search for a similar key returns with the order Equal.
+/// The pointer that a search for a similar key returns with the order `Equal`.
 fn equal_alone(found: Option<(P0, Ordering)>) -> Option<P0> {
     match found {
         Some((p, Ordering::Equal)) => Some(p),
@@ -91,7 +91,7 @@ fn equal_alone(found: Option<(P0, Ordering)>) -> Option<P0> {
     }
 }
 
-/// Whether each search from a hint finds this entry alone.
+/// Whether each search from a hint finds only this entry.
 fn finds_from(a: &Marks, hint: P0, key: u64, wanted: Option<P0>) -> bool {
     for num in 0..3usize {
         let similar = a.find_similar_key_linear(hint.inx(), num, &key);
@@ -102,7 +102,7 @@ fn finds_from(a: &Marks, hint: P0, key: u64, wanted: Option<P0>) -> bool {
     true
 }
 
-/// Whether each search finds the first of the entries with a key, or none, and from each hint the same.
+/// Whether each search, from the root and from each hint, finds the first of the entries with a key, or none.
 fn finds_the_first(beside: &Beside, key: u64) -> bool {
     let a = &beside.arena;
     let found = a.find_key(&key);
@@ -114,7 +114,7 @@ fn finds_the_first(beside: &Beside, key: u64) -> bool {
     is_right
 }
 
-/// The same of each key.
+/// The same for each key.
 fn finds_each(beside: &Beside) -> bool {
     for key in 2..=8u64 {
         if !finds_the_first(beside, key) {
@@ -124,7 +124,7 @@ fn finds_each(beside: &Beside) -> bool {
     true
 }
 
-/// Whether a keyed insertion replaces the first of its group, and leaves the others.
+/// Whether an insertion by a key replaces the first of its group and keeps the others.
 fn replaces_the_first(beside: &mut Beside, kind: OrdInsertKind<P0, &u64>) -> bool {
     let wanted = first_mark(beside.pairs.as_slice(), 5);
     let before = put(&mut beside.arena, kind, (5, 99));
@@ -143,7 +143,7 @@ fn goes_behind(beside: &mut Beside, kind: OrdInsertKind<P0, &u64>) -> bool {
     before.is_none() && has_pairs(&beside.arena, beside.pairs.as_slice())
 }
 
-/// Groups of up to six entries, between up to two lesser and up to two greater ones.
+/// Groups of up to six entries, between up to two smaller and up to two greater ones.
 #[test]
 fn groups_of_every_size(rt: HostRuntime) {
     for number in 0..54usize {
@@ -155,7 +155,7 @@ fn groups_of_every_size(rt: HostRuntime) {
     }
 }
 
-/// Whether insertions from this hint do the same, where it names an entry and where it doesn't.
+/// Whether insertions from this hint do the same, whether or not it names an entry.
 fn goes_by_hint(alloc: Global, number: usize, p_init: u32) -> bool {
     let (num, k) = (2usize, &5u64);
     let replacing = OrdInsertKind::Linear { p_init, num, k };

@@ -1,10 +1,11 @@
-//! Insertions and removals in every order of up to five keys, and of six keys in part, beside a plain vector of what was removed.
+//! Insertions and removals in every order of up to five keys, and in some orders of six, compared with a plain vector of the removed
+//! keys.
 use super::removal::remove_key;
 use super::{Keys, keys, rank_at};
 use arena_base::BasePtr;
 use std::alloc::Global;
 
-/// The keys from 1 to n in the order of this number.
+/// The keys from 1 to n in the order with this number.
 fn keys_in_order_of(alloc: Global, n: u64, number: u64) -> Vec<u64> {
     let mut keys = Vec::new(alloc);
     let mut rest = number;
@@ -18,7 +19,7 @@ fn keys_in_order_of(alloc: Global, n: u64, number: u64) -> Vec<u64> {
     keys
 }
 
-/// The rank rules at one entry, read from its node and those below it.
+/// Whether the rank rules hold at one entry, as read from its node and its children.
 fn has_right_rank(a: &Keys, index: u32) -> bool {
     let Some((_, entry)) = a.get_inx_node(index) else {
         return false;
@@ -31,7 +32,7 @@ fn has_right_rank(a: &Keys, index: u32) -> bool {
     is_near && (node.rank == 1 || lesser > 0 || greater > 0)
 }
 
-/// The rank rules at each entry.
+/// Whether the rank rules hold at each entry.
 fn has_right_ranks(a: &Keys) -> bool {
     for (p, _) in a {
         if !has_right_rank(a, p.inx()) {
@@ -41,7 +42,7 @@ fn has_right_ranks(a: &Keys) -> bool {
     true
 }
 
-/// Whether the entries in order have the keys from 1 to n without those that were removed.
+/// Whether the entries in order have the keys from 1 to n except the removed ones.
 fn has_rest(a: &Keys, n: u64, removed: &[u64]) -> bool {
     let mut key = 0u64;
     for (_, pair) in a {
@@ -53,7 +54,7 @@ fn has_rest(a: &Keys, n: u64, removed: &[u64]) -> bool {
     a.len().saturating_add(removed.len()) == n as usize
 }
 
-/// Whether a search finds all of the keys from 1 to n but those that were removed, and visits few enough entries.
+/// Whether a search finds all keys from 1 to n except the removed ones, and visits few enough entries.
 fn finds_rest(a: &Keys, n: u64, removed: &[u64]) -> bool {
     for key in 1..=n {
         let (found, visits) = a.find_key_counted(&key);
@@ -64,12 +65,12 @@ fn finds_rest(a: &Keys, n: u64, removed: &[u64]) -> bool {
     true
 }
 
-/// Whether an arena keeps the rank rules, with just the keys from 1 to n that weren't removed.
+/// Whether an arena obeys the rank rules and has exactly the keys from 1 to n that weren't removed.
 fn holds(a: &Keys, n: u64, removed: &[u64]) -> bool {
     has_rest(a, n, removed) && has_right_ranks(a) && finds_rest(a, n, removed)
 }
 
-/// Inserts n keys in the first order and removes them in the second one, and tells whether all is right on the way.
+/// Inserts n keys in the first order and removes them in the second. Returns whether everything is right at each step.
 fn goes_through(alloc: Global, n: u64, first: &[u64], second: &[u64]) -> bool {
     let mut a = keys(alloc, first);
     for count in 0..second.len() {
@@ -81,8 +82,8 @@ fn goes_through(alloc: Global, n: u64, first: &[u64], second: &[u64]) -> bool {
     second.len() == n as usize && a.is_empty()
 }
 
-/// Insertions in every one of so many orders of n keys, each with the removals in every one whose number makes a multiple with its
-/// own.
+/// Inserts n keys in each of `orders` orders, and removes them in each order whose number plus that of the insertions is a multiple of
+/// `stride`.
 fn every_so_many(alloc: Global, n: u64, orders: u64, stride: u64) -> bool {
     for first in 0..orders {
         let inserted = keys_in_order_of(alloc, n, first);
@@ -98,7 +99,7 @@ fn every_so_many(alloc: Global, n: u64, orders: u64, stride: u64) -> bool {
     true
 }
 
-/// How many keys, how many orders they have, and the multiple.
+/// The number of keys, the number of their orders, and the stride.
 const ORDERS: [(u64, u64, u64); 6] = [
     (1, 1, 1),
     (2, 2, 1),

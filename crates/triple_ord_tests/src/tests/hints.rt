@@ -1,10 +1,10 @@
-//! Searches from a hint over the five keys: in the order of the list 10, 30, 50, 60, 70, at the indexes 5, 2, 1, 4, 3.
+//! Searches from a hint over the five keys: in list order 10, 30, 50, 60, 70, at the indexes 5, 2, 1, 4, 3.
 use super::{Keys, at, five, keys, write_key};
 use arena_base::{BasePtr, P0};
 use std::cmp::Ordering;
 
-/// Where a search for a similar key from an index ends, after so many steps at most, and after how many visits. `None` where the
-/// search without the count ends elsewhere.
+/// The result of a search for a similar key from an index, with at most `num` steps, and its visits. `None` if the search without the
+/// count has another result.
 fn similar_key_from(
     a: &Keys,
     (hint, num): (u32, usize),
@@ -18,7 +18,7 @@ fn similar_key_from(
     }
 }
 
-/// The same of a search for an equal key from a pointer.
+/// The same for a search for an equal key from a pointer.
 fn equal_key_from(a: &Keys, (p, num): (P0, usize), key: u64) -> Option<(Option<P0>, u128)> {
     let (found, visits) = a.find_key_linear_counted(p, num, &key);
     if a.find_key_linear(p, num, &key) == found {
@@ -28,13 +28,13 @@ fn equal_key_from(a: &Keys, (p, num): (P0, usize), key: u64) -> Option<(Option<P
     }
 }
 
-/// Hint, steps at most, and key; index, order, visits.
+/// Hint, maximum of steps, key; index, order, visits.
 const SIMILAR: [((u32, usize), u64, (u32, Ordering), u128); 14] = [
     ((2, 3), 40, (1, Ordering::Less), 2),
     // the order turns at the last comparison
     ((2, 2), 40, (1, Ordering::Less), 2),
     ((1, 2), 40, (2, Ordering::Greater), 2),
-    // one step, and a whole search
+    // one step, then a whole search
     ((2, 1), 40, (2, Ordering::Greater), 3),
     ((2, 0), 40, (2, Ordering::Greater), 2),
     ((9, 3), 40, (2, Ordering::Greater), 2),
@@ -59,7 +59,7 @@ fn similar_keys(rt: HostRuntime) {
     }
 }
 
-/// Index and generation of a hint, steps at most, and key; the index that is found, 0 where none is; visits.
+/// Index and generation of a hint, maximum of steps, key; the index found, 0 for none; visits.
 const EQUAL: [((u32, u64), usize, u64, u32, u128); 10] = [
     ((2, 2), 3, 40, 0, 4),
     ((2, 9), 3, 40, 0, 2),
@@ -83,7 +83,7 @@ fn equal_keys(rt: HostRuntime) {
     }
 }
 
-/// Keys out of order: the hint leads to a gap that fits all the same.
+/// The keys are out of order, and the hint still leads to a gap that fits.
 #[test]
 fn out_of_order(rt: HostRuntime) {
     let mut a = keys(rt.alloc(), &[1, 2, 3]);

@@ -1,12 +1,12 @@
-//! The amortized bound over a long random run, and the bounds on new parents: ranks and parents are read from outside, step by step.
+//! The amortized bound over a long random run, and the bounds on new parents. Ranks and parents are read from the outside at each step.
 use super::Keys;
 use std::alloc::Global;
 use triple_ord::OrdPair;
 
-/// How many entries there are at most at any time.
+/// The maximum number of entries.
 const MOST: u32 = 256;
 
-/// What a run did, and whether each step gave few enough entries another parent.
+/// What a run did, and whether each step gave few enough entries a new parent.
 #[derive(Clone, Copy)]
 struct Account {
     insertions: u64,
@@ -22,7 +22,7 @@ fn next(seed: u64) -> u64 {
         .wrapping_add(1442695040888963407)
 }
 
-/// What a node says: its rank, 0 for a vacant index, and its parent.
+/// What a node stores: its rank, 0 for a vacant index, and its parent.
 #[derive(Clone, Copy, PartialEq, Eq)]
 struct Node {
     rank: u8,
@@ -46,8 +46,8 @@ fn node_at(a: &Keys, index: u32) -> Node {
     }
 }
 
-/// Writes the nodes of now, by index from 1 on, over those of before. Returns how many entries are in both states with different ranks,
-/// and how many with different parents.
+/// Overwrites the old nodes by the current ones, by index from 1. Returns how many entries in both states have different ranks, and how
+/// many have different parents.
 fn changes(nodes: &mut [Node], a: &Keys) -> (u64, u64) {
     let mut changes = (0u64, 0u64);
     let mut index: u32 = 0;
@@ -63,8 +63,8 @@ fn changes(nodes: &mut [Node], a: &Keys) -> (u64, u64) {
     changes
 }
 
-/// A key that isn't there is inserted. One that is there moves to the other key, if there is one that is vacant, or is removed. Returns
-/// how many entries may get another parent.
+/// Inserts a key that is missing. A key that exists moves to the other key, if there is one and it is missing, or is removed. Returns how
+/// many entries may get a new parent.
 fn step(a: &mut Keys, key: u64, other: Option<u64>, account: &mut Account) -> u64 {
     let Some(p) = a.find_key(&key) else {
         let _ = a.insert(OrdPair::new(key, ()));
@@ -83,7 +83,7 @@ fn step(a: &mut Keys, key: u64, other: Option<u64>, account: &mut Account) -> u6
     9
 }
 
-/// A run over random keys, with moves or of insertions and removals alone.
+/// A run over random keys, with moves or only with insertions and removals.
 fn run(alloc: Global, steps: u64, has_moves: bool) -> Account {
     let mut a = Keys::new(alloc);
     let mut account = Account {
@@ -112,7 +112,7 @@ fn run(alloc: Global, steps: u64, has_moves: bool) -> Account {
     account
 }
 
-/// How many rank changes a run may make: 4 for an insertion, 9 for a removal, 14 for a move.
+/// The allowed number of rank changes of a run: 4 for an insertion, 9 for a removal, 14 for a move.
 fn allowed(account: &Account) -> u64 {
     account
         .insertions

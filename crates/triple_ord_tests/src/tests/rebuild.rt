@@ -4,7 +4,7 @@ use arena_base::{BasePtr, InvalidationOption, P0, P8};
 use std::alloc::Global;
 use triple_ord::{OrdPair, SimpleOrdArena};
 
-/// Compresses an arena by a closure that keeps each item. Answers how often it is called.
+/// Compresses an arena by a closure that keeps each item. Returns how often it is called.
 fn calls_of_a_compression(a: &mut Keys) -> u64 {
     let mut calls = 0u64;
     let _ = a.compress_with(false, |_old: P0, pair: OrdPair<u64, ()>, _new: P0| {
@@ -30,7 +30,7 @@ fn ranks_of_three_keys(rt: HostRuntime) {
     assert!(rt; three.find_key(&2) == Some(P0::_from_raw(2, 3)));
 }
 
-/// The ranks of seven keys after a rebuild.
+/// The indexes and ranks of seven keys after a rebuild.
 const SEVEN: [(u32, u8); 7] = [(1, 1), (2, 3), (3, 1), (4, 4), (5, 1), (6, 3), (7, 1)];
 
 #[test]
@@ -40,10 +40,10 @@ fn ranks_of_seven_keys(rt: HostRuntime) {
     assert!(rt; has_ranks(&seven, SEVEN.as_slice()));
 }
 
-/// Keys under pointers of eight bits, which name 254 entries.
+/// Keys with 8-bit pointers, which name 254 entries.
 type SmallKeys = SimpleOrdArena<P8, OrdPair<u64, ()>>;
 
-/// Transfers the keys from 1 to `len` to pointers of eight bits, with generation 255, the greatest one.
+/// Transfers the keys from 1 to `len` to 8-bit pointers, with generation 255, the greatest one.
 fn shrunk(alloc: Global, len: u64) -> SmallKeys {
     let mut source = Keys::new(alloc);
     for key in 1..=len {
@@ -65,7 +65,7 @@ fn eight_bit_pointers_take_254_entries(rt: HostRuntime) {
     assert!(rt; small.find_key(&77) == Some(P8::_from_raw(77, 255)));
 }
 
-/// Compresses an arena with the greatest generation, into the canonical order or not, and to the first generation or the next one.
+/// Compresses an arena whose generation is the greatest, into the canonical order or not, with a reset or not.
 fn compressed(a: &mut SmallKeys, is_canonical: bool, reset: bool) -> InvalidationOption<()> {
     a.set_generation(255);
     if is_canonical {
@@ -75,7 +75,7 @@ fn compressed(a: &mut SmallKeys, is_canonical: bool, reset: bool) -> Invalidatio
     }
 }
 
-/// The generations overflow, which is reported unless they were to be reset.
+/// The generation overflows, which is reported unless it is reset.
 #[test]
 fn compressions_overflow(rt: HostRuntime) {
     let mut a = shrunk(rt.alloc(), 1);

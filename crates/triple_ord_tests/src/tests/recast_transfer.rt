@@ -1,11 +1,11 @@
-//! Pointers that were kept elsewhere, recast after a transfer.
+//! Pointers stored elsewhere, recast after a transfer.
 use arena_base::{Arena, BasePtr, InvalidationOption, P0, Recast};
 use std::alloc::Global;
 use triple_ord::{OrdPair, SimpleOrdArena};
 
 type Keys = SimpleOrdArena<P0, OrdPair<u64, ()>>;
 
-/// The keys 1, 2, 3, 5 at the indexes 2, 4, 1, 3, that of 5 with generation 3.
+/// The keys 1, 2, 3, 5 at the indexes 2, 4, 1, 3; the entry of 5 has generation 3.
 fn four(alloc: Global) -> Keys {
     let mut a = Keys::new(alloc);
     for key in &[3u64, 1, 4, 2] {
@@ -16,7 +16,7 @@ fn four(alloc: Global) -> Keys {
     a
 }
 
-/// An arena with the pointers of another one, none of which leads anywhere yet.
+/// An arena with the pointers of another one, each mapped to the invalid pointer.
 fn pointers_of(alloc: Global, a: &Keys) -> Arena<P0, P0> {
     let mut recaster = Arena::new(alloc);
     let invalid = |_p: P0, _item: &OrdPair<u64, ()>| P0::invalid();
@@ -24,7 +24,7 @@ fn pointers_of(alloc: Global, a: &Keys) -> Arena<P0, P0> {
     recaster
 }
 
-/// Transfers all keys with generation 4, and writes for each old pointer the new one.
+/// Transfers all keys with generation 4, and maps each old pointer to the new one.
 fn transfer_recasting(a: &mut Keys, source: &mut Keys, recaster: &mut Arena<P0, P0>) {
     let _ = a.transfer_canonical_reallocating(
         4,
@@ -38,14 +38,14 @@ fn transfer_recasting(a: &mut Keys, source: &mut Keys, recaster: &mut Arena<P0, 
     );
 }
 
-/// A pointer recast, or what it was where that failed.
+/// The recast of a pointer, or the pointer itself if that fails.
 fn recast_of(recaster: &Arena<P0, P0>, p: P0) -> Result<P0, P0> {
     let mut p = p;
     p.recast(recaster)?;
     Ok(p)
 }
 
-/// Index and generation of an old pointer, and the index of its new one.
+/// The index and the generation of an old pointer, and the index of its new one.
 const MOVED: [(u32, u64, u32); 4] = [(1, 2, 3), (2, 2, 1), (3, 3, 4), (4, 2, 2)];
 
 #[test]
@@ -59,7 +59,7 @@ fn old_pointers_are_recast_to_the_new_ones(rt: HostRuntime) {
         assert!(rt; recast == Ok(P0::_from_raw(*new, 4)));
     }
     assert!(rt; a.find_key(&1) == Some(P0::_from_raw(1, 4)));
-    // 4's pointer ended before
+    // the pointer of 4 was already stale
     let ended = P0::_from_raw(3, 2);
     assert!(rt; recast_of(&recaster, ended) == Err(ended));
 }

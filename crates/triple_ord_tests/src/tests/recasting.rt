@@ -4,7 +4,7 @@ use triple_ord::{BasePtr, OrdPair, P0, Recast, SimpleOrdArena};
 
 type Pointers = SimpleOrdArena<P0, OrdPair<u64, P0>>;
 
-/// The pointer of an entry that no removal came before.
+/// The pointer of an entry inserted before any removal.
 fn at(index: u32) -> P0 {
     P0::_from_raw(index, 2)
 }
@@ -34,20 +34,20 @@ fn recast(a: &mut Pointers, recaster: &Arena<P0, P0>) -> Result<(), P0> {
     a.recast(recaster)
 }
 
-/// The recaster leads from the pointer `at(1)` to another one, and from no other.
+/// The recaster maps only the pointer `at(1)`, to another one.
 #[test]
 fn a_recast_stops_at_the_first_error(rt: HostRuntime) {
     let (new, unknown) = (P0::_from_raw(5, 7), P0::_from_raw(9, 9));
     let mut recaster: Arena<P0, P0> = Arena::new(rt.alloc());
     let _ = recaster.insert_reallocating(new);
-    // a lesser key comes at index 4, behind the failing one
+    // a smaller key has index 4, behind the failing entry
     let mut a = Pointers::new(rt.alloc());
     for (key, value) in &[(1u64, at(1)), (2, unknown), (3, at(1)), (0, at(1))] {
         let _ = a.insert(OrdPair::new(*key, *value));
     }
     assert!(rt; recast(&mut a, &recaster) == Err(unknown));
     assert!(rt; has_values(&a, &[new, unknown, at(1), at(1)]));
-    // what was recast once is recast again
+    // a recast value is recast again
     write(&mut a, 2, at(1));
     assert!(rt; recast(&mut a, &recaster) == Err(new));
     write(&mut a, 1, at(1));

@@ -1,4 +1,4 @@
-//! Arenas on a heap of which little is left: what is refused changes nothing, and the same call made again with memory succeeds.
+//! Arenas on a nearly full heap: a failed call changes nothing, and succeeds when it is made again with memory.
 mod clones;
 mod entries;
 mod growths;
@@ -12,15 +12,15 @@ use triple_ord::{BasePtr, OrdInsertionError, OrdPair, P0, SimpleOrdArena};
 /// An arena on a heap.
 type OnHeap<'h, T> = SimpleOrdArena<P0, T, &'h LocalHeap>;
 
-/// Keys with a number each, on a heap.
+/// Keys on a heap, each with a number.
 type Numbers<'h> = OnHeap<'h, OrdPair<u64, u64>>;
 
-/// A heap that has room for all of a test.
+/// A heap with enough room for a whole test.
 fn new_heap(rt: &impl Abort, alloc: Global) -> LocalHeap {
     LocalHeap::new(alloc, 1 << 14).expect(rt, "a heap")
 }
 
-/// A block that takes the room of a heap but for so many units of 16 bytes. The heap has its room in one piece.
+/// A block that takes all the room of a heap except `units` units of 16 bytes. The heap's room is in one piece.
 fn leave<'h>(rt: &impl Abort, heap: &'h LocalHeap, units: usize) -> Vec<u8, &'h LocalHeap> {
     let room = heap.free().saturating_sub(units.saturating_mul(16));
     Vec::with_capacity(heap, room).expect(rt, "room")
@@ -42,7 +42,7 @@ fn counts<T>(a: &OnHeap<T>) -> Counts {
     (a.len(), a.capacity(), a.max_capacity(), a.generation())
 }
 
-/// The text of these counts.
+/// These counts as text.
 fn text_of(rt: &impl Abort, alloc: Global, counts: Counts) -> String {
     format!(in alloc; "{counts:?}").expect(rt, "memory")
 }
@@ -52,7 +52,7 @@ fn write_entry<T: Debug>(rt: &impl Abort, text: &mut String, p: P0, item: &T, ra
     write!(text, " {p:?}={item:?}:{rank}").expect(rt, "memory");
 }
 
-/// All that can be seen of an arena: its counts, and the entries in order, each with the rank of its node.
+/// Everything visible of an arena: its counts, and the entries in order, each with the rank of its node.
 fn look<T: Debug>(rt: &impl Abort, alloc: Global, a: &OnHeap<T>) -> String {
     let mut text = text_of(rt, alloc, counts(a));
     for (p, item) in a {
@@ -61,28 +61,28 @@ fn look<T: Debug>(rt: &impl Abort, alloc: Global, a: &OnHeap<T>) -> String {
     text
 }
 
-/// The first text where this is so, else the second.
+/// The first text if this is so, else the second.
 fn text_if(is_so: bool, first: &'static str, second: &'static str) -> &'static str {
     if is_so { first } else { second }
 }
 
-/// Whether two texts are the same.
+/// Whether two texts are equal.
 fn is_same(now: &str, text: &str) -> bool {
     now == text
 }
 
-/// The arena looks so.
+/// Asserts that the arena looks like this.
 fn looks_like<T: Debug>(rt: &impl Abort, alloc: Global, a: &OnHeap<T>, text: &str) {
     let now = look(rt, alloc, a);
     assert!(rt; is_same(now.as_str(), text));
 }
 
-/// The key that is inserted at a turn: those below 20, each once, out of their order.
+/// The key inserted at a turn. The keys below 20 each come once, not in their order.
 fn key_at(turn: usize) -> u64 {
     (turn as u64).wrapping_mul(7) % 20
 }
 
-/// Inserts the key of a turn, which gets the next index. Tells whether memory isn't refused.
+/// Inserts the key of a turn, which gets the next index. Returns whether there was memory.
 fn is_put(rt: &impl Abort, a: &mut Numbers, turn: usize) -> bool {
     match a.insert(OrdPair::new(key_at(turn), 0)) {
         Ok((p, _)) => {
@@ -96,7 +96,7 @@ fn is_put(rt: &impl Abort, a: &mut Numbers, turn: usize) -> bool {
     }
 }
 
-/// A full arena of five entries, the keys of the first turns.
+/// A full arena of five entries, with the keys of the first turns.
 fn full<'h>(rt: &impl Abort, heap: &'h LocalHeap) -> Numbers<'h> {
     let mut a = Numbers::with_min_capacity(heap, 5).expect(rt, "memory");
     for turn in 0usize..5 {
@@ -105,11 +105,11 @@ fn full<'h>(rt: &impl Abort, heap: &'h LocalHeap) -> Numbers<'h> {
     a
 }
 
-/// What it looks like.
+/// What the full arena looks like.
 const FULL: &str =
     "(5, 5, None, 2) P0[1](2)=(0, 0):2 P0[4](2)=(1, 0):1 P0[2](2)=(7, 0):3 P0[5](2)=(8, 0):1 P0[3](2)=(14, 0):2";
 
-/// The calls that may ask for memory.
+/// The calls that may request memory.
 #[derive(Clone, Copy)]
 enum Call {
     Insertions,
@@ -120,7 +120,7 @@ enum Call {
     Insert,
 }
 
-/// An arena for a call: without room for insertions, and else full.
+/// An arena for a call: a new one for insertions, otherwise the full one.
 fn arena_for<'h>(rt: &impl Abort, heap: &'h LocalHeap, call: Call) -> Numbers<'h> {
     match call {
         Call::Insertions => Numbers::new(heap),
@@ -128,8 +128,8 @@ fn arena_for<'h>(rt: &impl Abort, heap: &'h LocalHeap, call: Call) -> Numbers<'h
     }
 }
 
-/// Makes a call. Answers 0 where memory isn't refused, 1 where it is, which changes nothing; and at insertions the number of the refused
-/// one.
+/// Makes a call. Returns 0 if there was memory and 1 if there wasn't, which changes nothing. For insertions it returns the number of the
+/// failed one instead of 1.
 fn refusal_of<'h>(
     rt: &impl Abort,
     alloc: Global,
@@ -147,7 +147,7 @@ fn refusal_of<'h>(
     }
 }
 
-/// The same where so many units of room are left.
+/// The same with this many units of room left.
 fn refusal_in_little<'h>(
     rt: &impl Abort,
     alloc: Global,
@@ -160,7 +160,7 @@ fn refusal_in_little<'h>(
     refusal_of(rt, alloc, call, heap, a)
 }
 
-/// Makes a call where so many units of room are left. Where that is refused it is made once more with memory.
+/// Makes a call with this many units of room left. If it fails, makes it once more with memory.
 fn refusal_on(rt: &impl Abort, alloc: Global, call: Call, heap: &LocalHeap, units: usize) -> usize {
     let mut a = arena_for(rt, heap, call);
     let refusal = refusal_in_little(rt, alloc, call, heap, units, &mut a);
@@ -168,7 +168,7 @@ fn refusal_on(rt: &impl Abort, alloc: Global, call: Call, heap: &LocalHeap, unit
     refusal
 }
 
-/// Whether a call answers this where some room is left. An insertion asks for memory where the arena is full.
+/// Whether a call may have this outcome with some room left. An insertion requests memory when the arena is full.
 fn is_answered(call: Call, refusal: usize) -> bool {
     match call {
         Call::Insertions => matches!(refusal, 0 | 1 | 5 | 9 | 17),
@@ -177,7 +177,7 @@ fn is_answered(call: Call, refusal: usize) -> bool {
     }
 }
 
-/// A call is refused where little room is left, and not where there is enough.
+/// A call fails if little room is left, and succeeds if there is enough.
 fn each_request_of(rt: &impl Abort, alloc: Global, call: Call) {
     let heap = new_heap(rt, alloc);
     let mut met = [false; 21];

@@ -1,10 +1,10 @@
-//! Entries that go to the place of another key and keep their pointers.
+//! Entries that move to the place of another key and keep their pointers.
 use super::{Keys, SmallKeys, at, five, grows_to, has_keys, write_key};
 use arena_base::{BasePtr, P0, P8};
 use std::alloc::Global;
 use triple_ord::{OrdPair, SimpleOrdArena};
 
-/// Gives an entry another key. Answers the key that comes back: the old one, or the new one where there is no entry.
+/// Gives an entry another key. Returns the old key, or the new one as `Err` if there is no entry.
 fn rekeyed(a: &mut Keys, p: P0, key: u64) -> Result<u64, u64> {
     match a.rekey(p, OrdPair::new(key, ())) {
         Ok(before) => Ok(*before.k()),
@@ -17,7 +17,7 @@ fn five_keys_that_change(rt: HostRuntime) {
     let mut a = five(rt.alloc());
     assert!(rt; rekeyed(&mut a, at(1), 65) == Ok(50));
     assert!(rt; has_keys(&a, &[10, 30, 60, 65, 70]) && a.find_key(&65) == Some(at(1)));
-    // it stays where it is
+    // the entry keeps its place
     assert!(rt; rekeyed(&mut a, at(1), 61) == Ok(65));
     assert!(rt; has_keys(&a, &[10, 30, 60, 61, 70]));
     // to either end
@@ -30,13 +30,13 @@ fn five_keys_that_change(rt: HostRuntime) {
     assert!(rt; has_keys(&a, &[5, 30, 30, 60, 61]) && a.find_key(&30) == Some(at(2)));
 }
 
-/// A stale pointer, one of no entry, and the invalid one.
+/// A stale pointer, one that never named an entry, and the invalid one.
 fn stale(a: &mut Keys) -> [P0; 3] {
     let _ = a.remove(at(4));
     [at(4), at(9), P0::invalid()]
 }
 
-/// Whether each call is refused at a pointer that names no entry, and returns what it was given.
+/// Whether each call fails at a pointer that names no entry and returns its argument.
 fn is_refused(a: &mut Keys, p: P0) -> bool {
     rekeyed(a, p, 1) == Err(1)
         && a.rekey_counted(p, OrdPair::new(2, ())) == Err(OrdPair::new(2, ()))
@@ -51,12 +51,12 @@ fn stale_pointers_give_the_item_back(rt: HostRuntime) {
         assert!(rt; is_refused(&mut a, *p));
         assert!(rt; has_keys(&a, &[10, 30, 50, 70]) && a.generation() == 3);
     }
-    // a new entry under the index of the stale pointer
+    // a new entry with the index of the stale pointer
     let _ = a.insert(OrdPair::new(40, ()));
     assert!(rt; is_refused(&mut a, at(4)) && has_keys(&a, &[10, 30, 40, 50, 70]));
 }
 
-/// Whether the keys rise, and those behind the entry at an index are greater than its own.
+/// Whether the keys rise, and those behind the entry at an index are greater than its key.
 fn is_rising(a: &Keys, index: u32) -> bool {
     let mut least = 0u64;
     for (p, pair) in a {
@@ -72,10 +72,10 @@ fn is_rising(a: &Keys, index: u32) -> bool {
     true
 }
 
-/// The keys of five entries by index; 50 is in the root of their tree.
+/// The keys of five entries by index; 50 is at the root of their tree.
 const FIVE: [u64; 5] = [50, 30, 70, 60, 10];
 
-/// Whether the entry at an index has a key, and the other entries of five have theirs.
+/// Whether the entry at an index has this key, and the other four entries keep theirs.
 fn has_only_this(a: &Keys, index: u32, key: u64) -> bool {
     let mut i = 0u32;
     for other in &FIVE {
@@ -88,7 +88,7 @@ fn has_only_this(a: &Keys, index: u32, key: u64) -> bool {
     a.len() == 5
 }
 
-/// Keys before, at, between and behind those of five entries.
+/// Keys before, equal to, between and behind those of five entries.
 const WRITTEN: [u64; 11] = [0, 10, 20, 30, 40, 50, 55, 60, 65, 70, 99];
 
 #[test]
@@ -114,7 +114,7 @@ fn a_pair_gets_another_key_and_keeps_its_value(rt: HostRuntime) {
     assert!(rt; (a.first(), a.last()) == (Some(at(2)), Some(at(1))));
 }
 
-/// How many entries are visited on the way to the place of a key, if there is such an entry.
+/// The visits of the search for the new place of an entry, if there is such an entry.
 fn visits(a: &mut Keys, p: P0, key: u64) -> Option<u128> {
     match a.rekey_counted(p, OrdPair::new(key, ())) {
         Ok((_, visits)) => Some(visits.count()),
@@ -125,7 +125,7 @@ fn visits(a: &mut Keys, p: P0, key: u64) -> Option<u128> {
 #[test]
 fn the_search_for_a_place_visits_few_entries(rt: HostRuntime) {
     let mut a = five(rt.alloc());
-    // the root, whose key is passed over; then 70 and 60
+    // the root, whose key is passed over, then 70 and 60
     assert!(rt; visits(&mut a, at(1), 55) == Some(3));
     // an arena of one entry
     let mut one = Keys::new(rt.alloc());
@@ -133,12 +133,12 @@ fn the_search_for_a_place_visits_few_entries(rt: HostRuntime) {
     assert!(rt; visits(&mut one, at(1), 9) == Some(1) && has_keys(&one, &[9]));
 }
 
-/// The pointer of eight bits of an entry that no removal came before.
+/// The 8-bit pointer of an entry inserted before any removal.
 fn small_at(index: u8) -> P8 {
     P8::_from_raw(index, 2)
 }
 
-/// Gives every entry the key that mirrors its own, from the last index to the first. Tells whether each one is there.
+/// Gives every entry the mirror of its key, from the last index to the first. Returns whether each entry exists.
 fn is_mirrored(a: &mut SmallKeys) -> bool {
     for index in (1..=254u8).rev() {
         let key = match a.get(small_at(index)) {
@@ -152,11 +152,11 @@ fn is_mirrored(a: &mut SmallKeys) -> bool {
     true
 }
 
-/// Whether the entries have the keys from 747 on, each at the index that had its mirror.
+/// Whether the entries have the keys from 747 on, each at the index that had the mirrored key.
 fn has_mirrored_keys(a: &SmallKeys) -> bool {
     let mut key = 747u64;
     for (p, pair) in a {
-        // the index 1 has the key 0, and each next one 77 more, modulo 254
+        // index 1 has the key 0, and each next index 77 more, modulo 254
         let was = (p.inx() as u64).saturating_sub(1).wrapping_mul(77) % 254;
         if *pair.k() != key || was.wrapping_add(key) != 1000 {
             return false;

@@ -1,4 +1,4 @@
-//! Removals, seen through the nodes.
+//! Removals, observed through the nodes.
 use super::{Keys, at, five, has_keys, has_ranks, keys, write_key};
 use arena_base::{BasePtr, InvalidationResult, P0, P8};
 use linked_list_allocator::LocalHeap;
@@ -11,7 +11,7 @@ fn parent_at(a: &Keys, index: u32) -> Option<u32> {
     node.t.p_back.get()
 }
 
-/// How many entries of an arena have another parent than before.
+/// The number of entries of an arena with another parent than before.
 fn moved_since(before: &Keys, a: &Keys) -> usize {
     let mut moved = 0usize;
     for (p, _) in a {
@@ -22,7 +22,7 @@ fn moved_since(before: &Keys, a: &Keys) -> usize {
     moved
 }
 
-/// Removes the entry of a key, and answers how many others got another parent. `None` where it isn't found or not taken.
+/// Removes the entry of a key, and returns how many others got a new parent. `None` if it isn't found or not removed.
 pub(super) fn remove_key(a: &mut Keys, key: u64) -> Option<usize> {
     let before = a.clone().ok()?;
     let p = a.find_key(&key)?;
@@ -53,7 +53,7 @@ fn four_keys_without_the_first(rt: HostRuntime) {
     assert!(rt; has_ranks(&other, &[(2, 1), (4, 3), (3, 1)]));
 }
 
-/// Keys of which the first, when it is removed, gives nine others another parent.
+/// Keys of which removing the first gives nine other entries a new parent.
 const NINE: [u64; 21] = [
     14, 5, 19, 3, 11, 17, 21, 2, 4, 7, 13, 16, 18, 20, 1, 6, 9, 12, 15, 8, 10,
 ];
@@ -76,7 +76,7 @@ fn keys_out_of_order(rt: HostRuntime) {
     assert!(rt; has_ranks(&a, &[(2, 2), (3, 1)]));
 }
 
-/// Takes all that is left of a heap.
+/// Takes all the room left in a heap.
 fn drained(alloc: Global, heap: &LocalHeap) -> Vec<Vec<u8, &LocalHeap>> {
     let mut blocks = Vec::new(alloc);
     for size in (1..4096usize).rev() {
@@ -87,12 +87,12 @@ fn drained(alloc: Global, heap: &LocalHeap) -> Vec<Vec<u8, &LocalHeap>> {
     blocks
 }
 
-/// Inserts a key. Answers the refusal.
+/// Inserts a key. Returns the error, if any.
 fn refusal_of(a: &mut Keys<&LocalHeap>, key: u64) -> Option<OrdInsertionError> {
     a.insert(OrdPair::new(key, ())).err()
 }
 
-/// Removes the entry of a key, and tells whether there was one.
+/// Removes the entry of a key, and returns whether there was one.
 fn is_removed(a: &mut Keys<&LocalHeap>, key: u64) -> bool {
     match a.find_key(&key) {
         Some(p) => a.remove(p).allow().is_some(),
@@ -100,7 +100,7 @@ fn is_removed(a: &mut Keys<&LocalHeap>, key: u64) -> bool {
     }
 }
 
-/// Gives the entry of a key another pointer, and tells whether there was one.
+/// Gives the entry of a key a new pointer, and returns whether there was one.
 fn is_renewed(a: &mut Keys<&LocalHeap>, key: u64) -> bool {
     match a.find_key(&key) {
         Some(p) => a.invalidate(p).allow().is_some(),
@@ -108,7 +108,7 @@ fn is_renewed(a: &mut Keys<&LocalHeap>, key: u64) -> bool {
     }
 }
 
-/// Eight keys on a heap, which fill the arena.
+/// Eight keys on a heap, in a full arena.
 fn eight(heap: &LocalHeap) -> Keys<&LocalHeap> {
     let mut a = SimpleOrdArena::new(heap);
     for key in &[50u64, 30, 70, 60, 10, 20, 90, 80] {
@@ -132,10 +132,10 @@ fn removals_take_no_memory(rt: HostRuntime) {
     assert!(rt; (a.len(), a.capacity()) == (0, 8));
 }
 
-/// Keys under pointers of eight bits.
+/// Keys with 8-bit pointers.
 type SmallKeys = SimpleOrdArena<P8, OrdPair<u64, ()>>;
 
-/// Inserts a key. Returns its pointer, or the invalid one where it is refused.
+/// Inserts a key. Returns its pointer, or the invalid one on `Err`.
 fn put(a: &mut SmallKeys, key: u64) -> P8 {
     match a.insert(OrdPair::new(key, ())) {
         Ok((p, _)) => p,
@@ -143,7 +143,7 @@ fn put(a: &mut SmallKeys, key: u64) -> P8 {
     }
 }
 
-/// Removes an entry, and tells whether the generations begin again, `None` where there is no entry.
+/// Removes an entry, and returns whether the generation overflows, `None` if there is no entry.
 fn begins_again(a: &mut SmallKeys, p: P8) -> Option<bool> {
     match a.remove(p) {
         InvalidationResult::Success(_) => Some(false),
@@ -152,7 +152,7 @@ fn begins_again(a: &mut SmallKeys, p: P8) -> Option<bool> {
     }
 }
 
-/// Whether the first pointer names an entry, and none of the others does.
+/// Whether the first pointer names an entry and the others don't.
 fn have_ended(a: &SmallKeys, kept: P8, ended: &[P8]) -> bool {
     for p in ended {
         if a.contains(*p) {
@@ -174,6 +174,6 @@ fn ended_pointers_stay_so_up_to_the_overflow(rt: HostRuntime) {
         assert!(rt; have_ended(&a, kept, ended.as_slice()));
     }
     assert!(rt; (a.generation(), a.len()) == (2, 1));
-    // the next entry has the index and the generation of the first that ended
+    // the next entry has the index and the generation of the first stale pointer
     assert!(rt; ended.first() == Some(&put(&mut a, 1)));
 }

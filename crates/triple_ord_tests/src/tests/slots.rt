@@ -1,9 +1,9 @@
-//! The capacity, and an ordered arena as an arena among others.
+//! The capacity, and an ordered arena used as an arena.
 use super::{Keys, at, keys};
 use arena_base::{BasePtr, MaxCapacityReductionError, P0, ReallocationError, laws};
 use triple_ord::{ArenaTrait, OrdPair};
 
-/// Reallocates for so many. Answers the outcome, and the capacity then.
+/// Reallocates for n entries. Returns the outcome and the new capacity.
 fn reallocated(a: &mut Keys, n: usize) -> (Result<(), ReallocationError>, usize) {
     let outcome = a.reallocate_min_capacity(n);
     (outcome, a.capacity())
@@ -21,7 +21,7 @@ fn the_capacity_is_changed(rt: HostRuntime) {
     assert!(rt; reallocated(&mut a, 6) == (Err(ReallocationError::BeyondMaxCapacity), 3));
 }
 
-/// The laws of a finite map, at an ordered arena.
+/// The laws of a finite map, for an ordered arena.
 #[test]
 fn an_arena_among_others(rt: HostRuntime) {
     let mut a = keys(rt.alloc(), &[50, 30, 70]);

@@ -1,13 +1,13 @@
-//! The refusals of insertions as they are printed.
+//! The printed errors of insertions.
 use std::alloc::Global;
 use triple_ord::OrdInsertionError;
 
-/// The texts of a refusal.
+/// The texts of an error.
 fn text_of(alloc: Global, refusal: OrdInsertionError) -> Option<String> {
     format!(in alloc; "{refusal}, {refusal:?}").ok()
 }
 
-/// Whether the texts of a refusal are these.
+/// Whether the texts of an error are these.
 fn is_printed(alloc: Global, refusal: OrdInsertionError, wanted: &str) -> bool {
     match text_of(alloc, refusal) {
         Some(text) => text.as_str() == wanted,

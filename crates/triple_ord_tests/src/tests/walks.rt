@@ -1,5 +1,5 @@
-//! Walks along the list, comparisons, and the check of the order. Five keys stand at the indexes 5, 2, 1, 4, 3, in the order of the
-//! list 10, 30, 50, 60, 70.
+//! Walks along the list, comparisons, and the check of the order. The five keys are, in list order, 10, 30, 50, 60, 70, at the indexes 5,
+//! 2, 1, 4, 3.
 use super::{Keys, at, five, keys, write_key};
 use arena_base::{BasePtr, P0};
 use std::cmp::Ordering;
@@ -10,17 +10,17 @@ fn step(walk: &mut OrderedPtrAdvancer<P0>, a: &Keys) -> Option<P0> {
     walk.advance(a)
 }
 
-/// Inserts a key, and tells whether that went well.
+/// Inserts a key, and returns whether that succeeded.
 fn is_put(a: &mut Keys, key: u64) -> bool {
     a.insert(OrdPair::new(key, ())).is_ok()
 }
 
-/// Takes an entry out, and tells whether there was one.
+/// Removes an entry, and returns whether there was one.
 fn is_removed(a: &mut Keys, p: P0) -> bool {
     a.remove(p).allow().is_some()
 }
 
-/// The slot at which a walk stands has another entry, and then one comes in between.
+/// The slot at a walk's position gets another entry, and then an entry is inserted in between.
 #[test]
 fn a_walk_goes_on_with_another_entry(rt: HostRuntime) {
     let mut a = five(rt.alloc());
@@ -33,7 +33,7 @@ fn a_walk_goes_on_with_another_entry(rt: HostRuntime) {
     assert!(rt; step(&mut walk, &a).is_none());
 }
 
-/// The entry at which a walk back stands goes, and another one takes its slot.
+/// The entry at the position of a backward walk is removed, and another one takes its slot.
 #[test]
 fn a_walk_ends_where_its_entry_is_gone(rt: HostRuntime) {
     let mut a = five(rt.alloc());
@@ -43,7 +43,7 @@ fn a_walk_ends_where_its_entry_is_gone(rt: HostRuntime) {
     assert!(rt; is_put(&mut a, 35) && step(&mut walk, &a).is_none());
 }
 
-/// What one arena answers of another: whether it is equal, its order, and its order as it may be lacking.
+/// The comparison of one arena with another: equality, order, and partial order.
 fn compared(a: &Keys, b: &Keys) -> (bool, Ordering, Option<Ordering>) {
     (
         a.canonical_eq(b),
@@ -60,7 +60,7 @@ const WORDS: &[(&[u64], Ordering)] = &[
     (&[1, 5], Ordering::Greater),
 ];
 
-/// A word that goes on is the greater one, one with a greater letter is greater still.
+/// An arena is greater than its prefix, and one with a greater key is greater still.
 #[test]
 fn arenas_compare_by_their_items(rt: HostRuntime) {
     let word = keys(rt.alloc(), &[3, 1, 2]);
@@ -73,7 +73,7 @@ fn arenas_compare_by_their_items(rt: HostRuntime) {
 #[test]
 fn misplaced_keys_are_told(rt: HostRuntime) {
     let mut a = keys(rt.alloc(), &[1, 2, 3]);
-    // equal keys are in order
+    // equal keys count as in order
     for (key, is_right) in &[(2u64, true), (9, false), (3, true)] {
         write_key(&mut a, at(2), *key);
         assert!(rt; SimpleOrdArena::_check_invariants(&a).is_ok() == *is_right);

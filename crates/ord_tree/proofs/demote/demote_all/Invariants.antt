@@ -2,7 +2,7 @@ use Rattle.std.proofs.Common.{◌≡◌, ℕ, ◌-◌, Some, List, option_map}
 use Rattle.ord_tree.specs.{Slots.back_at, Slots.rank_at, Demote.IsFallen, Account.IsFallenWithin, Account.fallen_ranks, Account.fallen_credit}
 use Rattle.ord_tree.proofs.demote.demote_all.Given as goal
 
--- what has fallen when the repair began has fallen here, no node has another parent, and the account is passed up
+-- the branch has fallen as the first one had, no node has another parent, and the account is passed up
 abbrev pub invariant-loop-next : goal.invariant-loop-next
 invariant-loop-next g l =
     let was = g.N.Nodes.at l.fn.nodes in
@@ -19,6 +19,6 @@ invariant-loop-next g l =
       kept : g.N.Nodes.list l.nodes ≡ g.N.Nodes.list l.fn.nodes;
     }
 
--- ranks rise with each step up, and fit a byte
+-- ranks rise with each step up, and fit into a byte
 abbrev pub decreases-loop-next : goal.decreases-loop-next
 decreases-loop-next g l = 256 - rank_at (g.N.Nodes.at l.nodes) (Some (g.N.Nodes.number l.branch.parent))

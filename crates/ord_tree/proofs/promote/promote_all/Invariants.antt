@@ -2,7 +2,7 @@ use Rattle.std.proofs.Common.{◌≡◌, ℕ, ◌-◌, Some, List, option_map}
 use Rattle.ord_tree.specs.{Slots.back_at, Slots.rank_at, Promote.IsRising, Account.IsRisingWithin, Account.rising_ranks, Account.rising_credit}
 use Rattle.ord_tree.proofs.promote.promote_all.Given as goal
 
--- what has risen when the repair began has risen here, no node has another parent, and the account is passed on
+-- the node has risen as the first one had, no node has another parent, and the account is passed up
 abbrev pub invariant-loop-z : goal.invariant-loop-z
 invariant-loop-z g l =
     let was = g.N.Nodes.at l.fn.nodes in
@@ -18,6 +18,6 @@ invariant-loop-z g l =
       kept : g.N.Nodes.list l.nodes ≡ g.N.Nodes.list l.fn.nodes;
     }
 
--- ranks rise with each step, and fit a byte
+-- ranks rise with each step, and fit into a byte
 abbrev pub decreases-loop-z : goal.decreases-loop-z
 decreases-loop-z g l = 256 - rank_at (g.N.Nodes.at l.nodes) (Some (g.N.Nodes.number l.rising))

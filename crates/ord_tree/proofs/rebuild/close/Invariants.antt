@@ -2,7 +2,7 @@ use Rattle.std.proofs.Common.{◌≡◌, ◌≤◌, ℕ, None, List, option_map,
 use Rattle.ord_tree.specs.{Rebuild.IsPlan, Rebuild.IsFinished, Shape.Shape}
 use Rattle.ord_tree.proofs.rebuild.close.Given as goal
 
--- what was finished is finished still, with all that hangs on it now
+-- the finished part is still finished, with everything now attached to it
 abbrev pub invariant-loop-middle : goal.invariant-loop-middle
 invariant-loop-middle g l =
     let was = g.N.Nodes.at l.fn.nodes in
@@ -16,6 +16,6 @@ invariant-loop-middle g l =
       kept : g.N.Nodes.list l.nodes ≡ g.N.Nodes.list l.fn.nodes;
     }
 
--- each run that ends leaves the stack
+-- each ended run leaves the stack
 abbrev pub decreases-loop-middle : goal.decreases-loop-middle
 decreases-loop-middle g l = length l.stack.items

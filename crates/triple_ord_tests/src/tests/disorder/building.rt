@@ -1,4 +1,4 @@
-//! Arenas in every order.
+//! Arenas with keys in every order.
 use super::{Item, Numbers, Row, put, rows};
 use std::alloc::Global;
 use std::cmp::Ordering;
@@ -12,14 +12,14 @@ pub(super) enum Building {
     Manual,
     /// Entry by entry, each in any gap, by pairs of equal keys.
     Halved,
-    /// Behind one another, and then written over.
+    /// One behind another, then overwritten.
     Written,
 }
 
-/// How many orders so many keys have.
+/// The number of orders of n keys.
 pub(super) const ORDERS: [u64; 7] = [1, 1, 2, 6, 24, 120, 720];
 
-/// The kind of insertion that goes into a gap: behind the entry before it, or before the first one.
+/// The kind of insertion for a gap: behind the entry before it, or before the first one.
 fn kind_at(rows: &[Row], gap: usize) -> OrdInsertKind<P0, &'static u64> {
     match rows.get(gap.saturating_sub(1)) {
         Some(row) => OrdInsertKind::Manual {
@@ -34,13 +34,13 @@ fn kind_at(rows: &[Row], gap: usize) -> OrdInsertKind<P0, &'static u64> {
     }
 }
 
-/// Puts a key by hand into a gap.
+/// Inserts a key into a gap by index.
 fn put_into(rt: &impl Abort, alloc: Global, a: &mut Numbers, gap: usize, key: u64) {
     let kind = kind_at(rows(rt, alloc, a).as_slice(), gap);
     assert!(rt; put(a, kind, OrdPair::new(key, key)).is_ok());
 }
 
-/// The keys from 1 to n, or half of each, rounded up, put into the gaps that the number says.
+/// The keys from 1 to n, or half of each, rounded up, inserted into the gaps given by the number.
 fn manual(rt: &impl Abort, alloc: Global, n: u64, number: u64, is_halved: bool) -> Numbers {
     let mut a = Numbers::new(alloc);
     let mut rest = number;
@@ -52,14 +52,14 @@ fn manual(rt: &impl Abort, alloc: Global, n: u64, number: u64, is_halved: bool) 
     a
 }
 
-/// Writes over the item of an entry.
+/// Overwrites the item of an entry.
 fn write(a: &mut Numbers, p: P0, item: Item) {
     if let Some(pair) = a.get_mut(p) {
         *pair = item;
     }
 }
 
-/// Writes the keys of a list over those of an arena, whose entries have the indexes from 1 on in order.
+/// Overwrites the keys of an arena, whose entries have the indexes from 1 in order, by those of a list.
 fn write_over(a: &mut Numbers, rows: &[Row]) {
     let mut i = 0u32;
     for row in rows {
@@ -68,7 +68,7 @@ fn write_over(a: &mut Numbers, rows: &[Row]) {
     }
 }
 
-/// The keys from 1 to n, put in behind one another and then written over in the order of the number.
+/// The keys from 1 to n, inserted one behind another and then overwritten in the order with this number.
 fn written(rt: &impl Abort, alloc: Global, n: u64, number: u64) -> Numbers {
     let last = ORDERS[n as usize % 7].saturating_sub(1);
     let mut a = manual(rt, alloc, n, last, false);
@@ -77,7 +77,7 @@ fn written(rt: &impl Abort, alloc: Global, n: u64, number: u64) -> Numbers {
     a
 }
 
-/// An arena of n entries, built so; the number says in which order.
+/// An arena of n entries, built in this way; the number selects the order.
 pub(super) fn built(
     rt: &impl Abort,
     alloc: Global,

@@ -1,4 +1,4 @@
-//! Clones, and what is done to them: insertions, removals, drains and rebuilds.
+//! Clones and their changes: insertions, removals, drains and rebuilds.
 use super::insertions::{is_inserted, kind_numbered};
 use super::places::is_changed;
 use super::trees::{has_ranks, moved};
@@ -10,27 +10,27 @@ use triple_ord::{BasePtr, OrdEntryKind, OrdInsertionError, OrdPair, P0};
 /// A change of a clone.
 #[derive(Clone, Copy)]
 enum Change {
-    /// The clone stays as it is.
+    /// The clone is unchanged.
     Nothing,
-    /// An insertion by the kind of a number, and a key.
+    /// An insertion by the kind with a number, and a key.
     Insert(u32, u64),
-    /// The removal of the entry at a place.
+    /// The removal of the entry at a position.
     Remove(usize),
-    /// A drain in order that takes so many entries, and keeps the rest.
+    /// A drain in order that takes this many entries and keeps the rest.
     Drain(usize),
     /// A rebuild.
     Compress,
-    /// A rebuild that numbers the entries by their places.
+    /// A rebuild that gives the entries the indexes of their positions.
     Canonical,
 }
 
-/// How many insertions there are: each kind with each key.
+/// The number of insertions: each kind with each key.
 const INSERTIONS: u32 = 91 * 8;
 
-/// How many changes there are.
+/// The number of changes.
 const CHANGES: u32 = INSERTIONS + 18;
 
-/// A change of each number of an arena of so many entries.
+/// The change with each number, for an arena of `len` entries.
 fn change_numbered(number: u32, len: usize) -> Change {
     if number < INSERTIONS {
         return Change::Insert(number % 91, number as u64 / 91);
@@ -45,13 +45,13 @@ fn change_numbered(number: u32, len: usize) -> Change {
     }
 }
 
-/// Takes an entry out.
+/// Removes an entry.
 fn take(rt: &impl Abort, b: &mut Numbers, p: P0) -> Row {
     let taken = b.remove(p).allow().expect(rt, "the entry");
     row_of(p, &taken)
 }
 
-/// Whether a drain in order gives the first entries.
+/// Whether a drain in order returns the first entries.
 fn gives(b: &mut Numbers, old: &[Row], count: usize) -> bool {
     let mut is_right = true;
     let mut drain = b.drain_ordered();
@@ -65,10 +65,10 @@ fn gives(b: &mut Numbers, old: &[Row], count: usize) -> bool {
     is_right
 }
 
-/// What an insertion answers.
+/// The result of an insertion.
 type Answer = Result<OrdEntryKind<P0>, OrdInsertionError>;
 
-/// Makes a change. An insertion is one of an item with another key.
+/// Makes a change. An inserted item has another key than its kind.
 fn make(rt: &impl Abort, b: &mut Numbers, old: &[Row], change: Change) -> Option<Answer> {
     match change {
         Change::Insert(number, k) => {
@@ -92,7 +92,7 @@ fn make(rt: &impl Abort, b: &mut Numbers, old: &[Row], change: Change) -> Option
     None
 }
 
-/// How many entries a search may visit in a rebuilt tree: the binary digits of their number.
+/// The maximum number of visits in a rebuilt tree: the number of binary digits of its size.
 const DIGITS: [u128; 8] = [0, 1, 2, 2, 3, 3, 3, 3];
 
 /// Whether each search is as short as in a rebuilt tree.
@@ -105,7 +105,7 @@ fn has_short_searches(b: &Numbers) -> bool {
     true
 }
 
-/// Whether the entries have the old items in their order, and if this is wanted the indexes after their places, after one compression.
+/// Whether the entries have the old items in the old order, and if required the indexes of their positions, after one compression.
 fn are_rebuilt(old: &[Row], new: &[Row], is_canonical: bool) -> bool {
     let mut index = 0u32;
     for (before, row) in old.iter().zip(new) {
@@ -118,7 +118,7 @@ fn are_rebuilt(old: &[Row], new: &[Row], is_canonical: bool) -> bool {
     old.len() == new.len()
 }
 
-/// Whether the entries are now as after a change, in a tree in which few have moved.
+/// Whether the entries are right after a change, and few have a new parent in the tree.
 fn is_right(
     a: &Numbers,
     b: &Numbers,
@@ -143,7 +143,7 @@ fn is_right(
     is_done && moved(a, b) <= most && has_ranks(b)
 }
 
-/// Whether the first entries can be taken out until there is none, from a tree that keeps the rank rules.
+/// Whether the first entry can be removed until there is none, from a tree that obeys the rank rules.
 fn is_emptied(b: &mut Numbers) -> bool {
     for _ in 0..b.len() {
         if let Some(p) = b.first() {
@@ -156,7 +156,7 @@ fn is_emptied(b: &mut Numbers) -> bool {
     b.is_empty()
 }
 
-/// A change of a clone; after a removal all other entries go.
+/// A change of a clone; after a removal all other entries are removed too.
 fn holds(rt: &impl Abort, alloc: Global, a: &Numbers, old: &[Row], change: Change) -> bool {
     let mut b = cloned(rt, a);
     let answer = make(rt, &mut b, old, change);

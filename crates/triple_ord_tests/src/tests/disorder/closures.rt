@@ -1,28 +1,28 @@
-//! Searches by closures that say one word after another, whatever they are shown.
+//! Searches by closures with a fixed sequence of answers, whatever they are shown.
 use super::places::{equal_of, place_of};
 use super::{Item, Numbers, Row};
 use std::cmp::Ordering;
 use triple_ord::{BasePtr, P0};
 
-/// The words.
+/// The answers.
 const WORDS: [Ordering; 3] = [Ordering::Less, Ordering::Equal, Ordering::Greater];
 
-/// What a closure says and is shown.
+/// What a closure answers and is shown.
 #[derive(Clone, Copy)]
 struct Talk {
-    /// The next three words, as digits to the base of three; they are said in turn and again from the first.
+    /// The next three answers, as digits to the base of three; they are given in turn, again and again.
     next: usize,
-    /// How many words were said.
+    /// The number of answers given.
     calls: usize,
-    /// The indexes of the entries that were shown, as digits to the base of eight.
+    /// The indexes of the shown entries, as digits to the base of eight.
     shown: usize,
-    /// The last entry that was shown, with its word.
+    /// The last entry shown, with its answer.
     last: Option<(P0, Ordering)>,
-    /// The places that the words leave: those from the first of these up to the second. None are left after an entry that wasn't.
+    /// The positions that the answers leave, from the first of these up to the second. An entry outside them leaves none.
     left: (usize, usize),
 }
 
-/// Says the next word of an entry at a place, if it has one.
+/// Gives the next answer for an entry at a position, if it has one.
 fn after(talk: Talk, p: P0, place: Option<usize>) -> Talk {
     let (low, high) = talk.left;
     let word = WORDS[talk.next % 3];
@@ -43,14 +43,14 @@ fn after(talk: Talk, p: P0, place: Option<usize>) -> Talk {
     }
 }
 
-/// Says the next word.
+/// Gives the next answer.
 fn say(talk: &mut Talk, rows: &[Row], p: P0) -> Ordering {
     let word = WORDS[talk.next % 3];
     *talk = after(*talk, p, place_of(rows, p));
     word
 }
 
-/// Nothing is said yet of so many entries.
+/// The state before any answer, for `len` entries.
 fn silent(next: usize, len: usize) -> Talk {
     Talk {
         next,
@@ -61,7 +61,7 @@ fn silent(next: usize, len: usize) -> Talk {
     }
 }
 
-/// What a search for a similar entry finds, how many entries it visits, and what was said then.
+/// The result of a search for a similar entry, its visits, and the answers given.
 fn similar_by(a: &Numbers, rows: &[Row], next: usize) -> (Option<(P0, Ordering)>, u128, Talk) {
     let mut talk = silent(next, rows.len());
     let mut closure = |p: P0, _item: &Item| say(&mut talk, rows, p);
@@ -69,7 +69,7 @@ fn similar_by(a: &Numbers, rows: &[Row], next: usize) -> (Option<(P0, Ordering)>
     (similar, visits.count(), talk)
 }
 
-/// What the search for an equal entry finds, how many entries it visits, and what was said then.
+/// The result of the search for an equal entry, its visits, and the answers given.
 fn equal_by(a: &Numbers, rows: &[Row], next: usize) -> (Option<P0>, u128, Talk) {
     let mut talk = silent(next, rows.len());
     let mut closure = |p: P0, _item: &Item| say(&mut talk, rows, p);
@@ -77,13 +77,13 @@ fn equal_by(a: &Numbers, rows: &[Row], next: usize) -> (Option<P0>, u128, Talk) 
     (found, visits.count(), talk)
 }
 
-/// Whether so many visits are the calls, of which there are at most four among six entries.
+/// Whether the visits equal the calls, of which there are at most four among six entries.
 fn is_counted(visits: u128, calls: usize) -> bool {
     visits == calls as u128 && calls <= 4
 }
 
-/// Whether both searches by the same words show the same entries, each of them one that the words before have left, until none is left;
-/// they are counted, and the answers are what was said last.
+/// Whether both searches with the same answers show the same entries. Each must be one that the answers before have left, until none is
+/// left. The visits must be counted, and the results must match the last answer.
 fn hold_by(a: &Numbers, rows: &[Row], next: usize) -> bool {
     let (similar, visits, said) = similar_by(a, rows, next);
     let (found, visits_again, again) = equal_by(a, rows, next);
@@ -97,7 +97,7 @@ fn hold_by(a: &Numbers, rows: &[Row], next: usize) -> bool {
         && is_counted(visits_again, said.calls)
 }
 
-/// Every three words.
+/// Every sequence of three answers.
 pub(super) fn hold(a: &Numbers, rows: &[Row]) -> bool {
     for next in 0usize..27 {
         if !hold_by(a, rows, next) {

@@ -1,4 +1,4 @@
-//! What an insertion of each kind may do.
+//! The allowed effects of an insertion of each kind.
 use super::Row;
 use super::places::{gap_at, is_changed, place_of};
 use std::cmp::Ordering;
@@ -7,13 +7,13 @@ use triple_ord::{BasePtr, OrdEntryKind, OrdInsertKind, OrdInsertionError, P0};
 /// A kind of insertion, by a key or beside an index.
 type Kind<'k> = OrdInsertKind<P0, &'k u64>;
 
-/// At most how many steps along the list go before a search.
+/// Maximum numbers of steps along the list before a search.
 const STEPS: [usize; 4] = [0, 1, 2, usize::MAX];
 
-/// Where an entry goes beside another.
+/// The sides of an entry, and the entry itself.
 const DIRECTIONS: [Ordering; 3] = [Ordering::Less, Ordering::Equal, Ordering::Greater];
 
-/// A kind of each number: those by a key, from a hint or without one, those beside an index, and the one for no entry.
+/// The kind with each number: those by a key, with a hint or without, those beside an index, and the one for an empty arena.
 pub(super) fn kind_numbered(number: u32, k: &u64) -> Kind<'_> {
     let i = number % 8;
     let num = STEPS[number as usize / 8 % 4];
@@ -32,8 +32,7 @@ pub(super) fn kind_numbered(number: u32, k: &u64) -> Kind<'_> {
     }
 }
 
-/// Whether a kind beside the entry at a place, of which there may be none, may have its entry at this place, in the place of another or
-/// not.
+/// Whether an insertion beside the entry at `target`, if any, may have its entry at `place`, replacing an item or not.
 fn may_go_beside(target: Option<usize>, direction: Ordering, place: usize, is_over: bool) -> bool {
     let Some(target) = target else {
         return false;
@@ -45,7 +44,7 @@ fn may_go_beside(target: Option<usize>, direction: Ordering, place: usize, is_ov
     }
 }
 
-/// Whether a kind may have its entry at this place, in the place of another or not.
+/// Whether a kind may have its entry at this position, replacing an item or not.
 fn may_go(old: &[Row], kind: Kind, k: u64, place: usize, is_over: bool) -> bool {
     let (least, next) = gap_at(old, place);
     match kind {
@@ -68,7 +67,7 @@ fn may_go(old: &[Row], kind: Kind, k: u64, place: usize, is_over: bool) -> bool 
     }
 }
 
-/// Whether a kind is refused.
+/// Whether a kind may fail.
 fn may_refuse(old: &[Row], kind: Kind) -> bool {
     match kind {
         OrdInsertKind::Manual { p_target, .. } => {
@@ -79,7 +78,7 @@ fn may_refuse(old: &[Row], kind: Kind) -> bool {
     }
 }
 
-/// Whether the item of an entry is the one that is put in.
+/// Whether the item of an entry is the inserted one.
 fn is_item(row: Option<&Row>) -> bool {
     matches!(
         row,
@@ -91,7 +90,7 @@ fn is_item(row: Option<&Row>) -> bool {
     )
 }
 
-/// Whether the entries are now as after an insertion of this entry, in the place of another or not.
+/// Whether the entries are right after an insertion of this entry, replacing an item or not.
 fn is_put(old: &[Row], new: &[Row], kind: Kind, k: u64, p: P0, is_over: bool) -> bool {
     match place_of(new, p) {
         Some(place) => {
@@ -104,7 +103,7 @@ fn is_put(old: &[Row], new: &[Row], kind: Kind, k: u64, p: P0, is_over: bool) ->
     }
 }
 
-/// Whether the entries are now as the answer to an insertion says, or as they were where the kind is refused.
+/// Whether the entries match the result of an insertion, or are unchanged if the kind fails.
 pub(super) fn is_inserted(
     old: &[Row],
     new: &[Row],

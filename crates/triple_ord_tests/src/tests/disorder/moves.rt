@@ -1,4 +1,4 @@
-//! Clones in which one entry gets another key and goes to the place of that key.
+//! Clones in which one entry gets another key and moves to the place of that key.
 use super::places::{gap_at, place_of};
 use super::trees::has_ranks;
 use super::{Numbers, Row, cloned, row_of, rows};
@@ -6,7 +6,7 @@ use std::alloc::Global;
 use std::process::Abort;
 use triple_ord::{OrdPair, P0};
 
-/// A move: the place of an entry, its new key, and whether that is written before the entry moves.
+/// A move: the position of an entry, its new key, and whether the key is written before the entry moves.
 #[derive(Clone, Copy)]
 struct Move {
     from: usize,
@@ -14,10 +14,10 @@ struct Move {
     is_written: bool,
 }
 
-/// How many moves there are of each entry: to each key, in both ways.
+/// The number of moves of each entry: to each key, in both ways.
 const MOVES: usize = 16;
 
-/// A move of each number.
+/// The move with each number.
 fn move_numbered(number: usize) -> Move {
     Move {
         from: number / MOVES,
@@ -26,7 +26,7 @@ fn move_numbered(number: usize) -> Move {
     }
 }
 
-/// Gives the entry of a row another key and the value 99. Tells whether the answer is right.
+/// Gives the entry of a row another key and the value 99. Returns whether the result is right.
 fn is_made(b: &mut Numbers, row: &Row, step: Move) -> bool {
     if step.is_written {
         if let Some(pair) = b.get_mut(row.p) {
@@ -40,15 +40,14 @@ fn is_made(b: &mut Numbers, row: &Row, step: Move) -> bool {
     }
 }
 
-/// Whether the entry before a place, if any, has a key at most this one, and the entry after it, if any, a greater one.
+/// Whether the entry before a position, if any, has a key at most this one, and the entry after it, if any, a greater one.
 fn fits(rows: &[Row], place: usize, key: u64) -> bool {
     let (least, _) = gap_at(rows, place);
     let (_, next) = gap_at(rows, place.saturating_add(1));
     least <= key.saturating_add(1) && key < next
 }
 
-/// Whether two lists are the same without an entry each, which stands at the place `low` of the first and `high` of the second, which
-/// is not less.
+/// Whether two lists are equal apart from one entry each, at position `low` of the first and at position `high >= low` of the second.
 fn are_shifted(first: &[Row], second: &[Row], low: usize, high: usize) -> bool {
     let behind = high.saturating_add(1);
     first.get(..low) == second.get(..low)
@@ -56,7 +55,7 @@ fn are_shifted(first: &[Row], second: &[Row], low: usize, high: usize) -> bool {
         && first.get(behind..) == second.get(behind..)
 }
 
-/// Whether the entry of a pointer has moved to where its new key fits, with the value 99, and the others stand as they stood.
+/// Whether the entry of a pointer has moved to where its new key fits, with the value 99, and the others have kept their order.
 fn is_moved(old: &[Row], new: &[Row], step: Move, p: P0) -> bool {
     let Some(to) = place_of(new, p) else {
         return false;

@@ -1,10 +1,10 @@
-//! What a search and an insertion may do, by the entries in order alone.
+//! The allowed effects of searches and insertions, given only the entries in order.
 use super::Row;
 use std::cmp::Ordering;
 use triple_ord::P0;
 
-/// The gap before a place, by its keys: the least key above that of the entry before it, and the key of the entry after it, which is also
-/// the one at this place. They are 0 and `u64::MAX` where there is no entry.
+/// The gap before a position, by its keys: the least key above that of the entry before it, and the key of the entry after it, which is
+/// the one at this position. They are 0 and `u64::MAX` if there is no entry.
 pub(super) fn gap_at(rows: &[Row], place: usize) -> (u64, u64) {
     let least = match rows.get(place.wrapping_sub(1)) {
         Some(row) => row.key.saturating_add(1),
@@ -17,15 +17,15 @@ pub(super) fn gap_at(rows: &[Row], place: usize) -> (u64, u64) {
     (least, next)
 }
 
-/// A search for a key with c visits may stop at the gap before a place: the entry before it, if any, has a lesser key, the one after it,
-/// if any, a greater one, and no more than c entries stand beside it.
+/// Whether a search for a key with c visits may stop at the gap before a position: the entry before it, if any, has a smaller key, the
+/// one after it, if any, a greater one, and at most c entries are beside it.
 fn may_stop(rows: &[Row], place: usize, k: u64, c: u128) -> bool {
     let (least, next) = gap_at(rows, place);
     let neighbours = (place > 0) as u128 + (place < rows.len()) as u128;
     least <= k && k < next && neighbours <= c
 }
 
-/// The place of the entry that a pointer names.
+/// The position of the entry that a pointer names.
 pub(super) fn place_of(rows: &[Row], p: P0) -> Option<usize> {
     for place in 0..rows.len() {
         if rows[place].p == p {
@@ -35,8 +35,8 @@ pub(super) fn place_of(rows: &[Row], p: P0) -> Option<usize> {
     None
 }
 
-/// What a search for a similar key with c visits may answer: an entry with an equal key whose previous entry, if any, has a lesser one,
-/// or an entry beside a gap at which it may stop.
+/// Whether a search for a similar key with c visits may have this result: an entry with an equal key whose predecessor, if any, has a
+/// smaller one, or an entry beside a gap where it may stop.
 pub(super) fn may_be_similar(
     rows: &[Row],
     k: u64,
@@ -59,7 +59,7 @@ pub(super) fn may_be_similar(
     }
 }
 
-/// The entry that was found by an equal key.
+/// The entry found with an equal key.
 pub(super) fn equal_of(similar: Option<(P0, Ordering)>) -> Option<P0> {
     match similar {
         Some((p, Ordering::Equal)) => Some(p),
@@ -67,7 +67,7 @@ pub(super) fn equal_of(similar: Option<(P0, Ordering)>) -> Option<P0> {
     }
 }
 
-/// Whether at this place so many entries were taken out and so many put in, and nothing else changed.
+/// Whether at this position `taken` entries were removed and `put` inserted, and nothing else changed.
 pub(super) fn is_changed(old: &[Row], new: &[Row], place: usize, taken: usize, put: usize) -> bool {
     old.get(..place) == new.get(..place)
         && old.get(place.saturating_add(taken)..) == new.get(place.saturating_add(put)..)

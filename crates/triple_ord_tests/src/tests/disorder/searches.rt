@@ -4,16 +4,16 @@ use super::{Numbers, Row};
 use std::cmp::Ordering;
 use triple_ord::{BasePtr, P0};
 
-/// How many entries a search among n may visit after insertions alone: c with `fib(c+2) <= n+1`.
+/// The maximum number of visits among n entries after only insertions: c with `fib(c+2) <= n+1`.
 const TIGHT: [u128; 8] = [0, 1, 2, 2, 3, 3, 3, 4];
 
-/// At most how many steps along the list go before a search.
+/// Maximum numbers of steps along the list before a search.
 const STEPS: [usize; 5] = [0, 1, 2, 3, usize::MAX];
 
-/// What a search for a similar key finds, and how many entries it visits; and whether the same search without the count finds the same.
+/// The result of a search for a similar key, its visits, and whether the search without the count has the same result.
 type Similar = (Option<(P0, Ordering)>, u128, bool);
 
-/// The same of a search for an equal key.
+/// The same for a search for an equal key.
 type Equal = (Option<P0>, u128, bool);
 
 /// The search for a similar key.
@@ -45,13 +45,13 @@ fn equal_from(a: &Numbers, hint: P0, num: usize, k: u64) -> Equal {
     )
 }
 
-/// Whether a search for a similar key is answered as it may be, after at most so many visits.
+/// Whether a search for a similar key has an allowed result, after at most `most` visits.
 fn is_right(rows: &[Row], k: u64, answer: Similar, most: u128) -> bool {
     let (entry, c, is_same) = answer;
     is_same && c <= most && may_be_similar(rows, k, entry, c)
 }
 
-/// The searches for a key from the root. Both go the same way.
+/// The searches for a key from the root. Both take the same path.
 fn hold_from_root(a: &Numbers, rows: &[Row], k: u64) -> bool {
     let (entry, c, _) = similar(a, k);
     let (found, found_c, is_same) = equal(a, k);
@@ -59,7 +59,7 @@ fn hold_from_root(a: &Numbers, rows: &[Row], k: u64) -> bool {
     is_equal && is_same && found_c == c && is_right(rows, k, similar(a, k), TIGHT[rows.len() % 8])
 }
 
-/// The searches for a key from a hint. For an equal key a whole search follows the steps.
+/// The searches for a key from a hint. A search for an equal key makes a whole search after the steps.
 fn hold_from(a: &Numbers, rows: &[Row], hint: P0, num: usize, k: u64) -> bool {
     let most = TIGHT[rows.len() % 8].saturating_add(num.min(rows.len()) as u128);
     let (found, c, is_same) = equal_from(a, hint, num, k);
@@ -72,7 +72,7 @@ fn hold_from(a: &Numbers, rows: &[Row], hint: P0, num: usize, k: u64) -> bool {
         && is_right(rows, k, similar_from(a, hint, num, k), most)
 }
 
-/// All searches for a key, those from a hint also by pointers that name no entry.
+/// All searches for a key, with hints that name an entry and hints that don't.
 fn hold_for(a: &Numbers, rows: &[Row], k: u64) -> bool {
     for number in 0u32..80 {
         let generation = if number < 40 { 2 } else { 9 };
@@ -84,7 +84,7 @@ fn hold_for(a: &Numbers, rows: &[Row], k: u64) -> bool {
     hold_from_root(a, rows, k)
 }
 
-/// All searches for each key, and for those beyond.
+/// All searches for each key, and for keys beyond them.
 pub(super) fn hold(a: &Numbers, rows: &[Row]) -> bool {
     for k in 0..=(rows.len() as u64).saturating_add(1) {
         if !hold_for(a, rows, k) {

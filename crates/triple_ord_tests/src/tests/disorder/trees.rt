@@ -1,4 +1,4 @@
-//! What the nodes say of a tree: ranks, and which node hangs on which.
+//! What the nodes say about a tree: ranks, parents and children.
 use super::Numbers;
 use triple_ord::BasePtr;
 
@@ -11,7 +11,7 @@ struct Node {
     greater: Option<u32>,
 }
 
-/// The node at an index; of rank 0, and alone, where there is none.
+/// The node at an index; rank 0 and no links if there is none.
 fn node_at(a: &Numbers, i: u32) -> Node {
     match a.get_inx_node(i) {
         Some((_, node)) => Node {
@@ -29,12 +29,12 @@ fn node_at(a: &Numbers, i: u32) -> Node {
     }
 }
 
-/// By how much a node's rank is greater than that of a child, which is 0 where there is none.
+/// By how much a node's rank exceeds that of a child, which is 0 if there is none.
 fn difference(a: &Numbers, rank: u8, child: Option<u32>) -> u8 {
     rank.saturating_sub(node_at(a, child.unwrap_or(0)).rank)
 }
 
-/// Whether the rank of the node at an index is greater than that of each child by one or two, and that of a leaf is 1.
+/// Whether the rank of the node at an index exceeds that of each child by one or two, and a leaf has rank 1.
 fn keeps_rules(a: &Numbers, i: u32) -> bool {
     let node = node_at(a, i);
     let is_leaf = node.lesser.is_none() && node.greater.is_none();
@@ -43,7 +43,7 @@ fn keeps_rules(a: &Numbers, i: u32) -> bool {
         && (node.rank == 1 || !is_leaf)
 }
 
-/// The rank rules, read from the nodes.
+/// Whether the rank rules hold, as read from the nodes.
 pub(super) fn has_ranks(a: &Numbers) -> bool {
     for (p, _) in a {
         if !keeps_rules(a, p.inx()) {
@@ -53,7 +53,7 @@ pub(super) fn has_ranks(a: &Numbers) -> bool {
     true
 }
 
-/// How many entries that are in both arenas have another parent in the second one. All indexes are at most 7.
+/// The number of entries in both arenas that have another parent in the second one. All indexes are at most 7.
 pub(super) fn moved(a: &Numbers, b: &Numbers) -> u32 {
     let mut moved = 0u32;
     for i in 1u32..=7 {

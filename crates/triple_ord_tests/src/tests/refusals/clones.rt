@@ -1,4 +1,4 @@
-//! Clones of items that own text, into receivers of all four kinds.
+//! Clones of items that own text, into all kinds of receivers.
 ghost use Rattle.std.specs.Prelude.{◌≡◌};
 
 use super::{OnHeap, leave, look, looks_like, new_heap};
@@ -50,12 +50,12 @@ fn item<'h>(rt: &impl Abort, heap: &'h LocalHeap, key: u64, word: &str) -> Item<
     OrdPair::new(key, Text { text })
 }
 
-/// Puts a text in by its key. Tells whether it went in.
+/// Inserts a text by its key. Returns whether that succeeded.
 fn is_put<'h>(texts: &mut Texts<'h>, item: Item<'h>) -> bool {
     texts.insert(item).is_ok()
 }
 
-/// Puts texts in by their keys.
+/// Inserts texts by their keys.
 fn put_texts<'h>(
     rt: &impl Abort,
     heap: &'h LocalHeap,
@@ -67,7 +67,7 @@ fn put_texts<'h>(
     }
 }
 
-/// An arena with room for so many entries, into which texts are put by their keys.
+/// An arena with room for `capacity` entries, with texts inserted by their keys.
 fn filled<'h>(
     rt: &impl Abort,
     heap: &'h LocalHeap,
@@ -87,33 +87,33 @@ const ROWS: &[(u64, &str)] = &[
     (1, "the first in order"),
 ];
 
-/// The source: the second text is taken out again, and the indexes 4, 1 and 3 stay, in order.
+/// The source. The second text is removed again, which leaves the indexes 4, 1 and 3, in order.
 fn source<'h>(rt: &impl Abort, heap: &'h LocalHeap) -> Texts<'h> {
     let mut texts = filled(rt, heap, 4, ROWS);
     let _ = texts.remove(P0::_from_raw(2, 2));
     texts
 }
 
-/// What the source looks like, and any clone of it.
+/// What the source looks like, and every clone of it.
 const SOURCE: &str =
     "(3, 4, None, 3) P0[4](2)=(1, Text { text: \"the first in order\" }):1 P0[1](2)=(2, Text { text: \"a text that needs room of its own\" }):3 P0[3](2)=(3, Text { text: \"a third one, no shorter than the first\" }):1";
 
 /// The texts of a receiver with entries.
 const OLD: &[(u64, &str)] = &[(7, "an old one"), (6, "an older one")];
 
-/// What a receiver with room for two looks like where its growth is refused: as it was.
+/// What a receiver with room for two looks like after its growth fails: as before.
 const KEPT: &str =
     "(2, 2, None, 2) P0[2](2)=(6, Text { text: \"an older one\" }):1 P0[1](2)=(7, Text { text: \"an old one\" }):2";
 
-/// What any receiver looks like where the clone of an item is refused: it is empty.
+/// What every receiver looks like after cloning an item fails: it is empty.
 const EMPTIED: &str = "(0, 4, None, 3)";
 
-/// What a source is cloned into.
+/// What the source is cloned into.
 #[derive(Clone, Copy)]
 enum Kind {
     /// A new arena.
     New,
-    /// An arena with entries whose capacity has to grow.
+    /// An arena with entries whose capacity must grow.
     Growing,
     /// An arena with entries and room.
     Roomy,
@@ -141,7 +141,7 @@ fn make_receivers<'h>(rt: &impl Abort, heap: &'h LocalHeap, kind: Kind) -> Recei
     }
 }
 
-/// Clones the source. Answers 0 for a clone and 1 for a refusal.
+/// Clones the source. Returns 0 on success and 1 on `Err`.
 fn to_new(rt: &impl Abort, alloc: Global, source: &Texts) -> usize {
     match source.clone() {
         Ok(texts) => {
@@ -152,7 +152,7 @@ fn to_new(rt: &impl Abort, alloc: Global, source: &Texts) -> usize {
     }
 }
 
-/// The number of an outcome: 0 where it went well, 1 where memory was refused, and 3 else.
+/// The number of an outcome: 0 on success, 1 if there was no memory, else 3.
 fn number_of(outcome: Result<(), ReallocationError>) -> usize {
     match outcome {
         Ok(()) => 0,
@@ -161,8 +161,8 @@ fn number_of(outcome: Result<(), ReallocationError>) -> usize {
     }
 }
 
-/// What became of a receiver with entries after the outcome of a number: 0 where it is a clone, 1 where it was kept, 2 where it was
-/// emptied, and 3 where it is none of these.
+/// What became of a receiver with entries, given the number of the outcome: 0 if it is a clone, 1 if it is unchanged, 2 if it is empty,
+/// else 3.
 fn left_by(number: usize, now: &str) -> usize {
     if number == 0 && now == SOURCE {
         0
@@ -186,8 +186,8 @@ fn to_texts<'h>(
     left_by(number_of(outcome), look(rt, alloc, texts).as_str())
 }
 
-/// What became of a container without room after the outcome of a number, by its length, its capacity and its generation: 0 where it is a
-/// clone, 1 where it was kept, and 3 where it is neither.
+/// What became of a container without room, given the number of the outcome and its length, capacity and generation: 0 if it is a clone,
+/// 1 if it is unchanged, else 3.
 fn made_by(number: usize, len: usize, capacity: usize, generation: u64) -> usize {
     if number == 0 && len == 3 && capacity == 4 && generation == 3 {
         0
@@ -225,7 +225,7 @@ fn to_chain(source: &Texts, chain: &mut Chain) -> usize {
     )
 }
 
-/// Clones the source. Answers what became of the receiver.
+/// Clones the source. Returns what became of the receiver.
 fn clone_to<'h>(
     rt: &impl Abort,
     alloc: Global,
@@ -241,7 +241,7 @@ fn clone_to<'h>(
     }
 }
 
-/// The same where so many units of room are left.
+/// The same with this many units of room left.
 fn clone_in_little<'h>(
     rt: &impl Abort,
     alloc: Global,
@@ -255,7 +255,7 @@ fn clone_in_little<'h>(
     clone_to(rt, alloc, source, kind, receivers)
 }
 
-/// Clones the source where so many units of room are left, and then once more with memory. Answers what became of the receiver at first.
+/// Clones the source with this many units of room left, and then once more with memory. Returns what became of the receiver at first.
 fn left_of<'h>(
     rt: &impl Abort,
     alloc: Global,
@@ -270,7 +270,7 @@ fn left_of<'h>(
     left
 }
 
-/// The same with receivers that are made for it.
+/// The same with new receivers.
 fn left_on<'h>(
     rt: &impl Abort,
     alloc: Global,
@@ -283,7 +283,7 @@ fn left_on<'h>(
     left_of(rt, alloc, source, kind, heap, units, &mut receivers)
 }
 
-/// What becomes of a receiver, here or there: a growth is refused first, and without one only an item's clone.
+/// The possible outcomes for a receiver: growing fails first, and without growing only cloning an item can fail.
 fn wanted_of(kind: Kind) -> [bool; 4] {
     match kind {
         Kind::Roomy => [true, false, true, false],
@@ -291,7 +291,7 @@ fn wanted_of(kind: Kind) -> [bool; 4] {
     }
 }
 
-/// The source is cloned on a heap on which little room is left, and on which there is enough. It stays as it is.
+/// The source is cloned on a heap with little room, and on one with enough. It is unchanged.
 fn each_request_into<'h>(
     rt: &impl Abort,
     alloc: Global,
@@ -323,7 +323,7 @@ fn each_request_of<'h>(rt: &impl Abort, alloc: Global, heap: &'h LocalHeap, sour
     }
 }
 
-/// The same with a source that is made for it.
+/// The same with a new source.
 fn each_request_on(rt: &impl Abort, alloc: Global, heap: &LocalHeap) {
     let source = source(rt, heap);
     each_request_of(rt, alloc, heap, &source);

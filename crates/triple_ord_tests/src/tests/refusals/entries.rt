@@ -8,7 +8,7 @@ use triple_ord::{OrdInsertKind, OrdInsertionError, OrdPair, P0, SimpleOrdArenaIn
 /// An entry of an arena on a heap.
 type Entry<'a, 'h> = SimpleOrdArenaInsertEntry<'a, P0, OrdPair<u64, u64>, &'h LocalHeap>;
 
-/// Asks for an entry by a key.
+/// Requests an entry by a key.
 fn entry_by<'a, 'h>(
     call: Call,
     a: &'a mut Numbers<'h>,
@@ -22,7 +22,7 @@ fn entry_by<'a, 'h>(
     }
 }
 
-/// Puts a key in by an entry. Answers the refusal.
+/// Inserts a key by an entry. Returns the error, if any.
 fn put_by(call: Call, a: &mut Numbers, key: u64) -> Option<OrdInsertionError> {
     match entry_by(call, a, &key) {
         Ok(entry) => {
@@ -33,15 +33,15 @@ fn put_by(call: Call, a: &mut Numbers, key: u64) -> Option<OrdInsertionError> {
     }
 }
 
-/// A full arena, of which the item with the key 7 was replaced.
+/// The full arena after the item with the key 7 was replaced.
 const REPLACED: &str =
     "(5, 5, None, 2) P0[1](2)=(0, 0):2 P0[4](2)=(1, 0):1 P0[2](2)=(7, 99):3 P0[5](2)=(8, 0):1 P0[3](2)=(14, 0):2";
 
-/// The same, grown by an entry.
+/// The same after an entry made it grow.
 const GROWN: &str =
     "(6, 10, None, 2) P0[1](2)=(0, 0):1 P0[4](2)=(1, 0):2 P0[6](2)=(5, 99):1 P0[2](2)=(7, 99):3 P0[5](2)=(8, 0):1 P0[3](2)=(14, 0):2";
 
-/// The number of a refusal; 2 where it is none of this call. A call that may not grow asks for no memory.
+/// The number of an error; 2 if this call can't return it. A call that may not grow requests no memory.
 fn number_of(call: Call, refusal: Option<OrdInsertionError>) -> usize {
     let is_within = matches!(call, Call::Within);
     match refusal {
@@ -52,7 +52,7 @@ fn number_of(call: Call, refusal: Option<OrdInsertionError>) -> usize {
     }
 }
 
-/// A full arena replaces an item, and then refuses a new entry or grows.
+/// A full arena replaces an item, and then rejects a new entry or grows.
 pub(super) fn put_entries(rt: &impl Abort, alloc: Global, call: Call, full: &mut Numbers) -> usize {
     assert!(rt; put_by(call, full, 7).is_none());
     let refusal = put_by(call, full, 5);

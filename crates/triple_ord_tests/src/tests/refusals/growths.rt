@@ -1,12 +1,11 @@
-//! Growths: by twenty insertions, by a reservation, and by a transfer.
+//! Growing by twenty insertions, by a reservation, and by a transfer.
 use super::{FULL, Numbers, is_put, look, looks_like, text_if};
 use linked_list_allocator::LocalHeap;
 use std::alloc::Global;
 use std::process::Abort;
 use triple_ord::{InvalidationOption, OrdPair, P0, ReallocationError};
 
-/// Inserts the keys of the turns that are left up to the first that is refused, which changes nothing. Answers its number, 0 where there
-/// is none.
+/// Inserts the keys of the remaining turns up to the first that fails, which changes nothing. Returns its number, 0 if there is none.
 pub(super) fn put_rest(rt: &impl Abort, alloc: Global, a: &mut Numbers) -> usize {
     for turn in a.len()..20 {
         let before = look(rt, alloc, a);
@@ -18,7 +17,7 @@ pub(super) fn put_rest(rt: &impl Abort, alloc: Global, a: &mut Numbers) -> usize
     0
 }
 
-/// Whether a call was refused memory.
+/// Whether a call failed for lack of memory.
 fn is_refusal(outcome: Result<(), ReallocationError>) -> bool {
     matches!(outcome, Err(ReallocationError::AllocError))
 }
@@ -34,7 +33,7 @@ pub(super) fn reserve(rt: &impl Abort, alloc: Global, full: &mut Numbers) -> usi
     is_refused as usize
 }
 
-/// Takes all entries of the source over, each value raised by one. Answers how often the closure was called too.
+/// Transfers all entries of the source, each value raised by one. Returns also how often the closure was called.
 fn transfer(a: &mut Numbers, source: &mut Numbers) -> (Result<(), ReallocationError>, u64) {
     let mut calls = 0u64;
     let outcome = a.transfer_canonical_reallocating(
@@ -49,16 +48,16 @@ fn transfer(a: &mut Numbers, source: &mut Numbers) -> (Result<(), ReallocationEr
     (outcome, calls)
 }
 
-/// What a new arena looks like, and one that took five entries over.
+/// What a new arena looks like, and one after a transfer of five entries.
 const NEW: &str = "(0, 0, None, 2)";
 
 const TAKEN: &str =
     "(5, 5, None, 9) P0[1](9)=(0, 1):1 P0[2](9)=(1, 1):2 P0[3](9)=(7, 1):3 P0[4](9)=(8, 1):1 P0[5](9)=(14, 1):2";
 
-/// What the arena looks like that had them.
+/// What the source of these entries looks like.
 const LEFT: &str = "(0, 5, None, 7)";
 
-/// Takes five keys over into an arena.
+/// Transfers five keys to an arena.
 fn take_into(rt: &impl Abort, alloc: Global, a: &mut Numbers, full: &mut Numbers) -> bool {
     let (outcome, calls) = transfer(a, full);
     let is_refused = is_refusal(outcome);
@@ -68,7 +67,7 @@ fn take_into(rt: &impl Abort, alloc: Global, a: &mut Numbers, full: &mut Numbers
     is_refused
 }
 
-/// Takes five keys over into a new arena.
+/// Transfers five keys to a new arena.
 pub(super) fn take_over<'h>(
     rt: &impl Abort,
     alloc: Global,
