@@ -1,7 +1,7 @@
 -- What a growth to a given capacity leaves.
 use Rattle.std.proofs.Common.{◌≡◌, ℕ, ◌<◌, ap, arith, Result, Ok, Err, OnOk, OnErr, max}
 use Rattle.chain_base.specs.Chain.{with_capacity, greatest_index, IsSound as IsSoundChain}
-use Rattle.chain_base.proofs.Room.{greatest-within}
+use Rattle.chain_base.proofs.CallerLemmas.{greatest-within}
 use Rattle.ord_tree.specs.Tree.{Tree}
 use Rattle.agenda.specs.Agenda.{most_jobs}
 use Rattle.agenda.specs.Layout.{greatest_generation, agenda_of}

@@ -5,7 +5,7 @@ use Rattle.std.specs.Ordering.{int_cmp, is_eq}
 use Rattle.std.specs.declared.cmp.Ordering.{Ordering}
 use Rattle.chain_base.specs.Chain.{Entry as Listed, IsDistinct, last_pointer, item_of}
 use Rattle.sorted_arena.specs.Sorted.{first_where, key_of, last_item}
-use Rattle.sorted_arena.proofs.Cutting.{last-named, last-none}
+use Rattle.sorted_arena.proofs.CallerLemmas.{last-named, last-none}
 use Rattle.arena_c.specs.declared.entry.Entry.{Entry}
 use Rattle.arena_c.specs.Shown.{Arena, entry_found}
 use Rattle.std.specs.List.{Contains}

@@ -9,7 +9,7 @@ use Rattle.sorted_arena.specs.Sorted.{Inserts, next_of, pointer_of, first_item, 
 use Rattle.arena_c.specs.declared.entry.Entry.{Entry as Shown}
 use Rattle.arena_c.specs.Shown.{Arena, most, entry_at, entry_found, shown_entry, numbers_of}
 use Rattle.arena_c.specs.Batch.{first_fall}
-use Rattle.sorted_arena.proofs.{Cutting.first-named, Cutting.next-here, Cutting.found-here, Extending.appended}
+use Rattle.sorted_arena.proofs.CallerLemmas.{first-named, next-here, found-here, appended}
 
 -- a key that is not smaller than the one before it, and then the rest
 pub fall-step : (before : Option ℤ) (k : ℤ) (ks : List ℤ) (i : ℕ) → first_fall before (k ∷ ks) i ≡ None

@@ -6,6 +6,8 @@ use Rattle.chain_base.specs.Chain.{Entry, times, IsDistinct, last_pointer, entry
 use Rattle.chain_base.specs.Compression.{lesser, compressed_index, moved, at_compressed_index, numbered}
 use Rattle.chain_base.proofs.Lists.{Stands-occurs, with_item_among-changed_at, with_generation-changed_at, entry_at-changed_at_other, entry_at-changed_at, same-changed_at}
 use Rattle.chain_base.proofs.{Renumbering.times-source, Renumbering.entry_at-renumbered, Ranking.place-found, Ranking.place-injective, Canonical.entry-absent}
+-- the greatest index of the entries is within the capacity
+pub use Rattle.chain_base.proofs.Room.{greatest-within}
 -- the steps of a transfer in terms of other items
 pub use Rattle.chain_base.proofs.Transferring.{steps-retold}
 -- a list in two parts; an entry is its link without the neighbours; an index that no entry has finds none

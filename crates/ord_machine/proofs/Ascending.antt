@@ -6,7 +6,7 @@ use Rattle.std.specs.{Cmp.IsTotalOrder, Cmp.alike_right, List.Sorted.IsStrictlyS
 use Rattle.std.specs.{Ordering.ordering_reverse, List.AllByRecursion}
 use Rattle.chain_base.specs.Chain.{Entry, Chain, IsDistinct, entry_at, without, with_item_among}
 use Rattle.triple_ord.specs.{Gap.first_of, Gap.last_of, Search.order_to, Place.at_key}
-use Rattle.triple_ord.proofs.OrderLaws.{recursion-map}
+use Rattle.triple_ord.proofs.CallerLemmas.{recursion-map}
 use Rattle.ord_machine.specs.{Ascending.KeepsApart, Ascending.AscendingKeysLaw, Machine.Reading, Machine.Calls, Machine.State, Machine.Runs}
 use Rattle.ord_machine.specs.{declared.command.Command.Command, declared.reply.Reply.Reply}
 use Rattle.ord_machine.proofs.Outcomes.{keys-renewed, Change, stays, comes, writes, rekeys, leaves, renews, relays, empties, outcome}

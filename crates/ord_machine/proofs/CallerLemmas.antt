@@ -10,6 +10,8 @@ use Rattle.ord_machine.specs.{declared.reply.Reply.TheVariants.Item, declared.re
 use Rattle.triple_ord.specs.declared.error.OrdInsertionError.TheVariants.{AllocError}
 use Rattle.ord_machine.specs.declared.command.Command.{Command}
 use Rattle.ord_machine.specs.declared.command.Command.TheVariants as commands
+-- the first rank by the public definitions
+pub use Rattle.ord_machine.proofs.FirstRank.{first_rank}
 
 -- the empty shape is rebuilt
 rebuilt_missing : IsRebuilt missing

@@ -15,9 +15,8 @@ use Rattle.triple_ord.specs.declared.insert_kind.OrdInsertKind.TheVariants.{Norm
 use Rattle.triple_ord.specs.declared.entry_kind.OrdEntryKind.TheVariants.{New, Replacing}
 use Rattle.triple_ord.specs.{Insertion.Growth, Insertion.within, Insertion.reallocating, Insertion.with_room_by, Gap.Gap, Gap.with_between}
 use Rattle.triple_ord.specs.{declared.insert_kind.OrdInsertKind.OrdInsertKind, declared.entry_kind.OrdEntryKind.OrdEntryKind, declared.error.OrdInsertionError.OrdInsertionError}
-use Rattle.triple_ord.proofs.{CallerLemmas.entries-with_room_by, CallerLemmas.numbers-with_room_by, CallerLemmas.rekeys-updates, Inserting.entry_at-after}
-use Rattle.triple_ord.proofs.{KeptOrder.kept_order, RekeyOrder.rekeyed_order, RekeyOrder.in_order-without}
-use Rattle.triple_ord.proofs.OrderLaws.{in_order-one, in_order-more, IsInOrder-rest}
+use Rattle.triple_ord.proofs.{CallerLemmas.entries-with_room_by, CallerLemmas.numbers-with_room_by, CallerLemmas.rekeys-updates, CallerLemmas.entry_at-after}
+use Rattle.triple_ord.proofs.CallerLemmas.{kept_order, rekeyed_order, in_order-without, in_order-one, in_order-more, IsInOrder-rest}
 use Rattle.triple_ord.specs.{Rekey.Rekeys, Order.IsInOrder, OrderLaws.GoesBy, Insertion.InsertsBy}
 use Rattle.ord_machine.specs.declared.reply.Reply.TheVariants.{Inserted, Refused, Item, Removed, Renewed, Changed, Entries, Done, ReductionRefused}
 use Rattle.ord_machine.specs.Machine.{Calls, Reading, State, Effect, adds, removes, moves, rebuilds, keeps, told_effect, effect_of, Inserts, Does, IsTakenOut, entry_of, removed_each}

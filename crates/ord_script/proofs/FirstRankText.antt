@@ -10,7 +10,7 @@ use Rattle.ord_machine.specs.{Machine.State, Machine.Inserts, Machine.Runs, Laws
 use Rattle.ord_script.specs.Pairs.{Pair, Pointer, PairCommand, PairReply, reading, beginning, script_calls}
 use Rattle.ord_script.specs.{Laws.FirstRankTextLaw, Laws.first_answers, declared.form.Form.TheVariants.Plain, declared.form.Form.Form}
 use Rattle.ord_script.specs.{Script.Script, Script.script_of, Arguments.arguments_in, Text.reply_lines, Service.Answers}
-use Rattle.ord_machine.proofs.FirstRank.{first_rank}
+use Rattle.ord_machine.proofs.CallerLemmas.{first_rank}
 
 -- the script as read
 two_lines : script_of (codes "insert 5 1\nranks\n") ≡ record { commands = commands.Insert (pos 5, 1) ∷ commands.Ranks ∷ []; fault = None }

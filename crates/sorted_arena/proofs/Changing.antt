@@ -7,7 +7,7 @@ use Rattle.std.specs.declared.cmp.Ordering.{Ordering, TheVariants.Less, TheVaria
 use Rattle.arena_base.specs.Arena.{limit_of}
 use Rattle.chain_base.specs.Chain.{Entry, Chain, IsSound as IsSoundChain, chain_limit, removed, with_capacity, greatest_index}
 use Rattle.chain_base.proofs.CallerLemmas.{after-insertion}
-use Rattle.chain_base.proofs.Room.{greatest-within}
+use Rattle.chain_base.proofs.CallerLemmas.{greatest-within}
 use Rattle.ord_tree.specs.Tree.{Tree}
 use Rattle.triple_ord.specs.Arena.{item_of as item_of_arena, count as count_arena, Updates as UpdatesArena}
 use Rattle.triple_ord.specs.Insertion.{reallocating, with_room_by, InsertsNew}

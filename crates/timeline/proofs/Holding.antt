@@ -8,7 +8,7 @@ use Rattle.ord_tree.specs.Tree.{Tree}
 use Rattle.triple_ord.specs.{Insertion.within, Insertion.InsertsBy, Gap.Gap, Gap.before, Gap.after, Gap.last_of}
 use Rattle.triple_ord.specs.declared.entry_kind.OrdEntryKind.{OrdEntryKind, TheVariants.New, TheVariants.Replacing}
 use Rattle.triple_ord.specs.{Search.IsFirstEqual, Place.at_key}
-use Rattle.triple_ord.proofs.KeptOrder.{listed-new}
+use Rattle.triple_ord.proofs.CallerLemmas.{listed-new}
 use Rattle.timeline.specs.Layout.{change, told_of, changes_of, earlier, later, last_value, IsChanged, IsLastUntil, IsTakenOut}
 use Rattle.timeline.specs.Timeline.{Change, value_at, IsRising}
 use Rattle.timeline.proofs.Cutting.{AreBefore, AreUntil, AreFrom, AreAfter, all-back, all-weaker, cut-before, cut-after, cut-earlier, earlier-before, later-after, rising-front, rising-back, rising-last, rising-without, earlier-without, later-without}

@@ -4,7 +4,7 @@ use Rattle.std.proofs.lemmas.List.{append_assoc}
 use Rattle.std.specs.Option.{option_map}
 use Rattle.chain_base.specs.{Chain.Entry, Chain.IsDistinct, Chain.entry_at, Chain.link_at, Chain.first_pointer, Link.Link}
 use Rattle.triple_ord.specs.Gap.{before, after, first_of}
-use Rattle.triple_ord.proofs.Inserting.{entry_at-after}
+use Rattle.triple_ord.proofs.CallerLemmas.{entry_at-after}
 use Rattle.timeline.specs.Timeline.{Change, value_at, IsRising, IsJoinedAfter, AreChanges}
 use Rattle.timeline.specs.Layout.{change, told_of, last_value, IsLastUntil, HoldsUntil}
 use Rattle.timeline.proofs.Cutting.{AreAfter, all-append, all-weaker, rising-back, joined-back}

@@ -8,7 +8,7 @@ use Rattle.chain_base.specs.Link.{Link}
 use Rattle.chain_base.proofs.CallerLemmas.{times-append}
 use Rattle.triple_ord.specs.Gap.{Gap, before, after, first_of, last_of}
 use Rattle.triple_ord.specs.Search.{IsFirstEqual, IsBeside, FindsSimilar}
-use Rattle.triple_ord.proofs.Inserting.{entry_at-after}
+use Rattle.triple_ord.proofs.CallerLemmas.{entry_at-after}
 use Rattle.timeline.specs.{Layout.change, Layout.told_of, Layout.IsLastUntil, Timeline.Change, Timeline.IsRising}
 use Rattle.timeline.proofs.Cutting.{AreUntil, AreAfter, rising-front, rising-back}
 

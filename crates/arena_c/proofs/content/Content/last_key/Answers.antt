@@ -1,7 +1,7 @@
 use Rattle.std.proofs.Common.{◌∙◌, sym, ap, ℤ, ℕ}
 use Rattle.std.specs.Option.{option_map}
 use Rattle.sorted_arena.specs.Sorted.{last_item}
-use Rattle.sorted_arena.proofs.Cutting.{last-named}
+use Rattle.sorted_arena.proofs.CallerLemmas.{last-named}
 use Rattle.arena_c.specs.Shown.{Arena}
 use Rattle.arena_c.proofs.content.Content.last_key.Goals as goal
 

@@ -1,5 +1,5 @@
 use Rattle.triple_ord.proofs.{Bare.found-occupied, CallerLemmas.updates-removed, CallerLemmas.count-removed, Words.sym}
-use Rattle.ord_tree.proofs.Shrunk.{some_always}
+use Rattle.ord_tree.proofs.CallerLemmas.{some_always}
 use Rattle.triple_ord.proofs.arena.SimpleOrdArena.remove.Goals as goal
 
 pub remove_entry-requires : goal.remove_entry-requires
