@@ -22,7 +22,7 @@ most_jobs = 4294967294
 
 -- the capacity after a growth: twice as much, at least 4, and at most as many jobs as there can be
 abbrev pub grown : ℕ → ℕ
-grown capacity = min most_jobs (max 4 (2 * capacity))
+grown capacity = doubled_capacity most_jobs capacity
 
 -- the capacity after room for so many jobs was made: if it is too small, it grows at least as for one more job
 abbrev pub capacity_for : ℕ → ℕ → ℕ

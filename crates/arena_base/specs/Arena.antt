@@ -1,5 +1,5 @@
 -- An arena as contracts see it: its slots by index, and its free list.
-use Rattle.std.specs.Prelude.{◌≡◌, ◌≢◌, ◌⊎◌, ℕ, ◌+◌, ◌-◌, ◌*◌, ◌<◌, ◌≤◌, Option, Some, None, List, [], ◌∷◌, ◌++◌, ◌==◌, min, max, if◌then◌else◌, is_some, length, take, drop, replicate, count_by, slice_get, slice_index_or, slice_set, IsSome}
+use Rattle.std.specs.Prelude.{◌≡◌, ◌≢◌, ◌⊎◌, ℕ, ◌+◌, ◌-◌, ◌*◌, ◌<◌, ◌≤◌, nat_lt, Option, Some, None, List, [], ◌∷◌, ◌++◌, ◌==◌, min, max, if◌then◌else◌, is_some, length, take, drop, replicate, count_by, slice_get, slice_index_or, slice_set, IsSome}
 use Rattle.std.specs.{Option.option_map, Option.ForSome, List.list_any}
 use Rattle.arena_base.specs.Generation.{first_generation, next_generation, IsLawfulGeneration}
 
@@ -10,6 +10,14 @@ pub record Arena (T : Type 0) : Type 0 where
   pub vacant : List ℕ
   pub generation : ℕ
   pub maximum : Option ℕ
+
+-- the capacity after a growth within a limit: twice as much, but at least 4
+abbrev pub doubled_capacity : ℕ → ℕ → ℕ
+doubled_capacity limit capacity = min limit (max 4 (2 * capacity))
+
+-- the capacity after room for so many entries was made: if it is too small, it grows at least as for one more entry
+abbrev pub capacity_for : ℕ → ℕ → ℕ → ℕ
+capacity_for limit capacity needed = if nat_lt capacity needed then max needed (doubled_capacity limit capacity) else capacity
 
 module _ {X : Type 0} where
   -- the indexes of the vacant slots, if the first slot has index `from`
@@ -176,7 +184,7 @@ module _ {T : Type 0} where
 
   -- the capacity after a growth
   abbrev pub grown_capacity : ℕ → Arena T → ℕ
-  grown_capacity most a = min (arena_limit most a) (max 4 (2 * arena_capacity a))
+  grown_capacity most a = doubled_capacity (arena_limit most a) (arena_capacity a)
 
   -- an entry with the item of another
   abbrev pub with_item_of : Option (ℕ × T) → Option (ℕ × T) → Option (ℕ × T)

@@ -21,6 +21,7 @@ use crate::invalidation::InvalidationOption;
 use crate::ptr::{BasePtr, BasePtrGen, BasePtrInx, P0, P8};
 use crate::slot::Slot;
 pub use drain::Drain;
+pub use growth::doubled_capacity;
 use std::alloc::{Allocator, Global};
 use std::marker::Model;
 use std::mem::size_of;

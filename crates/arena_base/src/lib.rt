@@ -16,7 +16,7 @@ mod slot;
 mod traits;
 
 pub use advancer::Advancer;
-pub use arena::{Arena, Drain, PtrAdvancer};
+pub use arena::{Arena, Drain, PtrAdvancer, doubled_capacity};
 pub use clone_entry::{CloneEntry, TryCalls};
 pub use error::{InsertionError, MaxCapacityReductionError, ReallocationError};
 pub use invalidation::{InvalidationOption, InvalidationResult};

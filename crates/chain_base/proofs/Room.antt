@@ -1,6 +1,7 @@
 -- Room for one more entry: when a chain has it, and what growing does.
 use Rattle.std.proofs.Common.{◌≡◌, ℕ, zero, suc, ◌+◌, ◌*◌, ◌<◌, ◌≤◌, List, [], ◌∷◌, length, Option, None, IsSome, is_some, Bool, true, false, refl, sym, ap, ◌∙◌, slice_get, Some, Result, Ok, Err, IfOk, OnErr, min, max, nat_lt, if◌then◌else◌, arith}
 use Rattle.std.proofs.lemmas.Grind.{common_steps}
+use Rattle.arena_base.specs.Arena.{doubled_capacity}
 use Rattle.chain_base.specs.Chain.{Entry, Chain, times, inserted_at, greatest_index, vacant_among, next_index, grown_capacity, with_capacity, with_room, IsSound}
 use Rattle.chain_base.specs.Insert.{IsInsertion}
 use Rattle.chain_base.proofs.Vacancy.{greatest-occurs}
@@ -23,7 +24,7 @@ module _ {T : Type 0} where
   module _ (most : ℕ) (c : Chain T) where
     -- without a maximum, the capacity grows exactly if no slot is vacant
     abbrev pub roomy_capacity : ℕ
-    roomy_capacity = if nat_lt (length c.entries) c.capacity then c.capacity else min most (max 4 (2 * c.capacity))
+    roomy_capacity = if nat_lt (length c.entries) c.capacity then c.capacity else doubled_capacity most c.capacity
 
     module _ (counted : length c.entries + length c.vacant ≡ c.capacity) where
       pub capacity-vacant : is_some (next_index c) ≡ true → c.capacity ≡ roomy_capacity

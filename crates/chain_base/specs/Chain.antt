@@ -1,7 +1,7 @@
 -- A chain arena as contracts see it: one list of entries, and the numbers around it.
 use Rattle.std.specs.Prelude.{◌≡◌, ℕ, zero, suc, ◌+◌, ◌*◌, ◌<◌, ◌≤◌, ◌==◌, if◌then◌else◌, min, max, List, [], ◌∷◌, length, Option, Some, None, IsSome, is_some, slice_get}
 use Rattle.std.specs.Option.{option_map, ForSome}
-use Rattle.arena_base.specs.Arena.{Arena, times as times_among, limit_of, slot, item_if, arena_capacity}
+use Rattle.arena_base.specs.Arena.{Arena, times as times_among, limit_of, doubled_capacity, slot, item_if, arena_capacity}
 use Rattle.arena_base.specs.Generation.{first_generation, next_generation, IsLawfulGeneration}
 use Rattle.chain_base.specs.Link.{Link}
 
@@ -109,7 +109,7 @@ module _ {T : Type 0} where
 
   -- the capacity after a growth
   abbrev pub grown_capacity : ℕ → Chain T → ℕ
-  grown_capacity most c = min (chain_limit most c) (max 4 (2 * c.capacity))
+  grown_capacity most c = doubled_capacity (chain_limit most c) c.capacity
 
   -- What holds of every chain arena. `most` is the greatest index of an entry, `greatest` describes the generations.
   pub record IsSound (most : ℕ) (greatest : Option ℕ) (c : Chain T) : Type 0 where

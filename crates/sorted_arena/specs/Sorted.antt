@@ -19,10 +19,6 @@ abbrev pub generation_after : Option ℕ → ℕ → ℕ → ℕ
 generation_after greatest zero g = g
 generation_after greatest (suc n) g = next_generation greatest (generation_after greatest n g)
 
--- the capacity after an insertion that grows the arena: twice as much, but at least 4 and at most `most`
-abbrev pub grown_capacity : ℕ → ℕ → ℕ
-grown_capacity most capacity = min most (max 4 (2 * capacity))
-
 -- the capacity after room for so many entries was made: if it is too small, it grows at least as for an insertion
 abbrev pub capacity_for : ℕ → ℕ → ℕ → ℕ
 capacity_for most capacity needed = if nat_lt capacity needed then max needed (grown_capacity most capacity) else capacity

@@ -125,7 +125,7 @@ impl<K: Ord, V, P: BasePtr, A: Allocator> SortedArena<K, V, P, A> {
         if needed <= capacity {
             return Ok(());
         }
-        let grown = P::Inx::limit().min(capacity.saturating_mul(2).max(4));
+        let grown = doubled_capacity(P::Inx::limit(), capacity);
         self.pairs.reallocate_min_capacity(needed.max(grown))
     }
 

@@ -12,4 +12,5 @@ pub mod NearEnds
 pub mod Bare
 pub mod Content
 pub mod CallerLemmas
+pub mod Room
 pub mod Places

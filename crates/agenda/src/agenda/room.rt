@@ -42,7 +42,7 @@ impl<J, A: Allocator> Agenda<J, A> {
         if needed <= capacity {
             return Ok(());
         }
-        let grown = capacity.saturating_mul(2).max(4).min(MOST_JOBS);
+        let grown = doubled_capacity(MOST_JOBS, capacity);
         self.jobs.reallocate_min_capacity(needed.max(grown))
     }
 }

@@ -1,6 +1,6 @@
 //! New arenas, and changes of the capacity.
 ghost use Rattle.std.specs.Prelude.{◌≡◌, ◌≢◌, ◌+◌, ◌-◌, ◌<◌, ◌≤◌, ◌↔◌, ◌++◌, ◌⊎◌, ℕ, map, max, reverse, take, replicate, length, vec_len, vec_capacity, slice_index_or, IsOk, IsErr, IfOk, OnOk, OnErr, MatchResult};
-ghost use Rattle.arena_base.specs.Arena.{IsOccupied, slot, arena_len, arena_capacity, arena_limit, new_arena, with_capacity, cleared, emptied, greatest_occupied};
+ghost use Rattle.arena_base.specs.Arena.{doubled_capacity, IsOccupied, slot, arena_len, arena_capacity, arena_limit, new_arena, with_capacity, cleared, emptied, greatest_occupied};
 ghost use Rattle.arena_base.specs.Generation.{overflows_after};
 ghost use Rattle.arena_base.specs.Invalidation.{is_overflow};
 ghost use Rattle.arena_base.specs.Slot.{vacant_slots, AllVacantFrom};
@@ -12,6 +12,13 @@ use crate::invalidation::InvalidationOption;
 use crate::ptr::{BasePtr, BasePtrGen, BasePtrInx};
 use crate::slot::Slot;
 use std::alloc::{AllocError, Allocator};
+
+/// Returns the capacity after a growth within a limit: twice as much, but at least 4.
+pub fn doubled_capacity(limit: usize, capacity: usize) -> usize
+    ensures { result ≡ doubled_capacity limit capacity }
+{
+    limit.min(capacity.saturating_mul(2).max(4))
+}
 
 impl<P: BasePtr, T, A: Allocator> Arena<P, T, A> {
     /// Creates an empty arena with capacity 0 and no maximum. It takes no memory until it grows.

@@ -4,6 +4,7 @@ ghost use Rattle.arena_base.specs.Arena.{arena_len, arena_capacity, arena_limit,
 
 use super::Arena;
 use super::get::position_at;
+use super::growth::doubled_capacity;
 use crate::error::InsertionError;
 use crate::ptr::{BasePtr, BasePtrInx};
 use crate::slot::Slot;
@@ -77,7 +78,7 @@ impl<P: BasePtr, T: Drop, A: Allocator> Arena<P, T, A> {
         if capacity >= limit {
             return Err(InsertionError::BeyondMaxCapacity);
         }
-        match self.set_capacity(limit.min(capacity.saturating_mul(2).max(4))) {
+        match self.set_capacity(doubled_capacity(limit, capacity)) {
             Ok(()) => Ok(()),
             Err(_) => Err(InsertionError::AllocError),
         }

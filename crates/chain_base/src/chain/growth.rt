@@ -7,7 +7,7 @@ ghost use Rattle.chain_base.specs.Chain.{new_chain, with_capacity, with_room, cl
 use super::ChainArena;
 use arena_base::{
     Arena, BasePtr, BasePtrInx, InsertionError, InvalidationOption, MaxCapacityReductionError,
-    ReallocationError,
+    ReallocationError, doubled_capacity,
 };
 use std::alloc::{AllocError, Allocator};
 
@@ -98,14 +98,14 @@ impl<P: BasePtr, T, A: Allocator> ChainArena<P, T, A> {
         if capacity >= limit {
             return Err(InsertionError::BeyondMaxCapacity);
         }
-        match self.reallocate_min_capacity(limit.min(capacity.saturating_mul(2).max(4))) {
+        match self.reallocate_min_capacity(doubled_capacity(limit, capacity)) {
             Ok(()) => Ok(()),
             Err(_) => Err(InsertionError::AllocError),
         }
     }
 
-    // The greatest capacity that the arena may have.
-    fn limit(&self) -> usize
+    /// Returns the greatest capacity that the arena may have: its maximum, if one is set, and at most the greatest index of a pointer.
+    pub fn limit(&self) -> usize
         ensures { result ≡ chain_limit P.Inx.most self.now }
     {
         match self.max_capacity() {

@@ -1,11 +1,12 @@
 //! Creating an arena, and changing its capacity.
-ghost use Rattle.std.specs.Prelude.{◌≡◌, ◌<◌, ◌↔◌, Some, Err, max, IsOk, IsErr, IfOk, OnOk, OnErr};
+ghost use Rattle.std.specs.Prelude.{◌≡◌, ◌+◌, ◌≤◌, ◌<◌, ◌↔◌, Some, Err, max, IsOk, IsErr, IfOk, OnOk, OnErr};
+ghost use Rattle.arena_base.specs.Arena.{capacity_for};
 ghost use Rattle.chain_base.specs.Chain.{new_chain, with_capacity, greatest_index, chain_limit};
 ghost use Rattle.ord_tree.specs.Shape.{missing};
 ghost use Rattle.triple_ord.specs.Arena.{count, FindSame};
 
 use super::SimpleOrdArena;
-use arena_base::{BasePtr, MaxCapacityReductionError, ReallocationError};
+use arena_base::{BasePtr, MaxCapacityReductionError, ReallocationError, doubled_capacity};
 use ord_tree::OrdTree;
 use std::alloc::{AllocError, Allocator};
 
@@ -60,6 +61,43 @@ impl<P: BasePtr, T, A: Allocator> SimpleOrdArena<P, T, A> {
         ensures err { OnErr result (self.new ≡ self.old) }
     {
         self.tree.reallocate_min_capacity(n)
+    }
+
+    /// Makes room for `additional` more entries. If the arena grows, it grows at least as far as an insertion grows it.
+    ///
+    /// O(capacity) if the arena grows, else O(1). So a `reserve(1)` before each insertion is amortized O(1).
+    ///
+    /// # Errors
+    ///
+    /// The arena is unchanged.
+    /// - `BeyondMaxCapacity`: there would be more entries than the maximum, or than pointers have indexes.
+    /// - `AllocError`: growing failed.
+    pub fn reserve(&mut self, additional: usize) -> Result<(), ReallocationError>
+        ensures found { FindSame self.old self.new }
+        ensures entries { self.new.list.entries ≡ self.old.list.entries }
+        ensures generation { self.new.list.generation ≡ self.old.list.generation }
+        ensures maximum { self.new.list.maximum ≡ self.old.list.maximum }
+        ensures shape { self.new.shape ≡ self.old.shape }
+        ensures room { OnOk result (count self.old + additional ≤ self.new.list.capacity) }
+        ensures capacity { OnOk result (self.new.list.capacity
+            ≡ capacity_for (chain_limit P.Inx.most self.old.list) self.old.list.capacity
+            (count self.old + additional)) }
+        ensures beyond { (result ≡ Err ReallocationError.BeyondMaxCapacity)
+            ↔ (chain_limit P.Inx.most self.old.list < count self.old + additional) }
+        ensures memory { result ≡ Err ReallocationError.AllocError
+            → self.old.list.capacity < count self.old + additional }
+        ensures err { OnErr result (self.new ≡ self.old) }
+    {
+        // For the prover: the list is sound.
+        let Some(needed) = self.len().checked_add(additional) else {
+            return Err(ReallocationError::BeyondMaxCapacity);
+        };
+        let capacity = self.capacity();
+        if needed <= capacity {
+            return Ok(());
+        }
+        let limit = self.tree.chain().limit();
+        self.reallocate_min_capacity(needed.max(doubled_capacity(limit, capacity)))
     }
 
     /// Sets a maximum for the capacity, in O(1). On `Err` the capacity is already greater, and the arena is unchanged.

@@ -13,11 +13,11 @@ returns-then-needed-capacity-clause-step g c = step-stays _ _ refl
 pub returns-clause-capacity : goal.returns-clause-capacity
 returns-clause-capacity g c =
     let a = c.self.inside.jobs in
-    let size : c.max-2.result ≡ capacity_for a.list.capacity c.in-Some.needed = grind (arith, nat_tests) in
+    let size : c.max.result ≡ capacity_for a.list.capacity c.in-Some.needed = grind (arith, nat_tests) in
     let sum : c.in-Some.needed ≡ length (map scheduled a.list.entries) + c.args.additional = omega (arith, c.in-Some.ensures, c.len.ensures.value, length-map a.list.entries (scheduled {J = g.row.J.Denot})) in
-    rw (← c.self.view_is) (capacity-made a c.reallocate_min_capacity.new.self c.max-2.result c.reallocate_min_capacity.result c.reallocate_min_capacity.ensures.ok
+    rw (← c.self.view_is) (capacity-made a c.reallocate_min_capacity.new.self c.max.result c.reallocate_min_capacity.result c.reallocate_min_capacity.ensures.ok
     c.len.ensures.sound (omega (arith, c.if-needed-capacity.false, c.capacity-capacity.ensures)) _ (size ∙ ap (capacity_for a.list.capacity) sum))
 
 pub returns-clause-step : goal.returns-clause-step
 returns-clause-step g c =
-    rw (← c.self.view_is) (step-made c.self.inside.jobs c.reallocate_min_capacity.new.self c.max-2.result c.reallocate_min_capacity.result c.reallocate_min_capacity.ensures.ok c.reallocate_min_capacity.ensures.err)
+    rw (← c.self.view_is) (step-made c.self.inside.jobs c.reallocate_min_capacity.new.self c.max.result c.reallocate_min_capacity.result c.reallocate_min_capacity.ensures.ok c.reallocate_min_capacity.ensures.err)

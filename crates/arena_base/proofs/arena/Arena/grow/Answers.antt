@@ -6,4 +6,4 @@ set_capacity-requires-clause-entries g c = omega (arith, greatest_occupied-below
 
 pub returns-in-Ok-clause-room : goal.returns-in-Ok-clause-room
 returns-in-Ok-clause-room g c =
-    rw c.in-Ok.ensures.ok (resized-room c.min.result c.args.self.now.slots c.capacity-capacity.ensures.sound.begins (omega arith))
+    rw c.in-Ok.ensures.ok (resized-room c.doubled_capacity.result c.args.self.now.slots c.capacity-capacity.ensures.sound.begins (omega arith))
