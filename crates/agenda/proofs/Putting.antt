@@ -11,7 +11,8 @@ use Rattle.triple_ord.specs.{Gap.Gap, Gap.before, Gap.after, Gap.with_between}
 use Rattle.triple_ord.specs.{Place.behind_key}
 use Rattle.triple_ord.proofs.CallerLemmas.{entries-with_room_by, numbers-with_room_by, numbers-inserted, capacity-inserted}
 use Rattle.agenda.specs.Layout.{greatest_generation, scheduled, deadline_of, agenda_of, IsArenaOfJobs}
-use Rattle.agenda.specs.Agenda.{Schedules, IsInOrder, most_jobs, grown, count}
+use Rattle.arena_base.specs.Arena.{doubled_capacity}
+use Rattle.agenda.specs.Agenda.{Schedules, IsInOrder, most_jobs, count}
 use Rattle.agenda.proofs.Deadlines.{in_order-between, in_order-back, none-later, all-later}
 use Rattle.agenda.proofs.Leaving.{job_of-found}
 
@@ -40,10 +41,10 @@ module _ {J : Type 0} (growth : Growth) (old new : Tree (ℕ × J)) (d : ℕ) (j
     in_order = rw (← jobs-before) holds.in_order
 
     -- the capacity grows where there was no room
-    capacity-put : new.list.capacity ≡ (if nat_lt (count (agenda_of old)) old.list.capacity then old.list.capacity else grown old.list.capacity)
+    capacity-put : new.list.capacity ≡ (if nat_lt (count (agenda_of old)) old.list.capacity then old.list.capacity else doubled_capacity most_jobs old.list.capacity)
     capacity-put =
         capacity-inserted growth most_jobs old.list new.list (with_between gap) (d, job) p.0 p.1 inserted sound.counted holds.unlimited
-        ∙ ap (λ n. if nat_lt n old.list.capacity then old.list.capacity else grown old.list.capacity) (sym (length-map old.list.entries (scheduled {J = J})))
+        ∙ ap (λ n. if nat_lt n old.list.capacity then old.list.capacity else doubled_capacity most_jobs old.list.capacity) (sym (length-map old.list.entries (scheduled {J = J})))
 
     schedules-put : Schedules (agenda_of old) p d job (agenda_of new)
     schedules-put = record {

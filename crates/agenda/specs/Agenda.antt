@@ -1,7 +1,7 @@
 -- What an agenda is: one list of jobs, each with its ticket and its deadline, in the order in which they leave.
-use Rattle.std.specs.Prelude.{◌≡◌, ◌≢◌, ℕ, ◌+◌, ◌≤◌, ◌<◌, ◌*◌, min, max, ◌==◌, ◌&&◌, leb, nat_lt, if◌then◌else◌, Bool, List, [], ◌∷◌, ◌++◌, length, Option, Some, None}
+use Rattle.std.specs.Prelude.{◌≡◌, ◌≢◌, ℕ, ◌+◌, ◌≤◌, ◌<◌, ◌==◌, ◌&&◌, leb, nat_lt, if◌then◌else◌, Bool, List, [], ◌∷◌, ◌++◌, length, Option, Some, None}
 use Rattle.std.specs.{Option.option_map, List.All, Borrow.Bor}
-use Rattle.arena_base.specs.Generation.{next_generation}
+use Rattle.arena_base.specs.{Arena.doubled_capacity, Generation.next_generation}
 
 -- a job on the agenda: the ticket that names it, which is an index and a generation; its deadline; and the job itself
 pub record Scheduled (J : Type 0) : Type 0 where
@@ -19,14 +19,6 @@ pub record Agenda (J : Type 0) : Type 0 where
 -- how many jobs an agenda can have
 abbrev pub most_jobs : ℕ
 most_jobs = 4294967294
-
--- the capacity after a growth: twice as much, at least 4, and at most as many jobs as there can be
-abbrev pub grown : ℕ → ℕ
-grown capacity = doubled_capacity most_jobs capacity
-
--- the capacity after room for so many jobs was made: if it is too small, it grows at least as for one more job
-abbrev pub capacity_for : ℕ → ℕ → ℕ
-capacity_for capacity needed = if nat_lt capacity needed then max needed (grown capacity) else capacity
 
 -- the generation after g: one more, and 2 after the greatest number of 64 bits
 abbrev pub generation_after : ℕ → ℕ
@@ -112,7 +104,7 @@ module _ {J : Type 0} where
     pub unused : job_of old.jobs ticket ≡ None
     pub of_generation : ticket.1 ≡ old.generation
     pub generation : new.generation ≡ old.generation
-    pub capacity : new.capacity ≡ (if nat_lt (count old) old.capacity then old.capacity else grown old.capacity)
+    pub capacity : new.capacity ≡ (if nat_lt (count old) old.capacity then old.capacity else doubled_capacity most_jobs old.capacity)
 
   -- a ticket's job leaves and is scheduled again, at this deadline and under the ticket u
   pub record Reschedules (old : Agenda J) (t u : ℕ × ℕ) (deadline : ℕ) (new : Agenda J) : Type 0 where

@@ -45,12 +45,6 @@ module _ {K V : Type 0} (cmp : K → K → Ordering) (most : ℕ) (greatest : Op
     unlimited = rw after holds.unlimited;
   }
 
-  -- a greater capacity than the present one is made as asked for
-  pub room-made : {E : Type 0} (old new : Tree (K × V)) → IsSoundChain most greatest old.list → (n wanted : ℕ) → old.list.capacity < n → n ≡ wanted → (r : Result (Unit {0}) E)
-      → OnOk r (new ≡ record old { list = with_capacity old.list (max n (greatest_index old.list.entries)) }) → OnOk r (new.list.capacity ≡ wanted)
-  room-made old new sound n wanted more is (Ok u) ok = omega (arith, ap (λ (a : Tree (K × V)). a.list.capacity) ok, greatest-within most greatest old.list sound, is, more)
-  room-made old new sound n wanted more is (Err e) ok = tt
-
   -- an arena that took a new entry wasn't full
   pub not_full : (old new : Tree (K × V)) (k : K) (item : K × V) (p : ℕ × ℕ) → InsertsNew item_key cmp most reallocating (behind_key k) old item p new → IsSoundChain most greatest new.list
       → length old.list.entries ≡ chain_limit most old.list → ⊥

@@ -3,7 +3,7 @@ use Rattle.std.specs.Prelude.{◌≡◌, ◌≢◌, ℕ, zero, suc, ◌+◌, ◌
 use Rattle.std.specs.Prelude.{Option, Some, None, IsSome, IsSomeAnd}
 use Rattle.std.specs.{List.All, Ordering.is_le, Ordering.is_eq, Option.option_map, declared.cmp.Ordering.Ordering}
 use Rattle.std.specs.declared.cmp.Ordering.TheVariants.{Less, Equal, Greater}
-use Rattle.arena_base.specs.Generation.{next_generation}
+use Rattle.arena_base.specs.{Arena.doubled_capacity, Generation.next_generation}
 use Rattle.triple_ord.specs.Gap.{last_of}
 use Rattle.chain_base.specs.Chain.{Entry, IsDistinct, item_of as item_at, without as without_index, with_item_among, first_pointer}
 
@@ -18,10 +18,6 @@ pub record Sorted (K V : Type 0) : Type 0 where
 abbrev pub generation_after : Option ℕ → ℕ → ℕ → ℕ
 generation_after greatest zero g = g
 generation_after greatest (suc n) g = next_generation greatest (generation_after greatest n g)
-
--- the capacity after room for so many entries was made: if it is too small, it grows at least as for an insertion
-abbrev pub capacity_for : ℕ → ℕ → ℕ → ℕ
-capacity_for most capacity needed = if nat_lt capacity needed then max needed (grown_capacity most capacity) else capacity
 
 -- A search among n entries visits c of them with 2 ^ (c + 1) ≤ (n + 1) ^ 2, and none if there are none.
 pub record IsWithinRankedBound (n c : ℕ) : Type 0 where
@@ -163,7 +159,7 @@ module _ {K V : Type 0} where
       pub unused : pair_of old p ≡ None
       pub of_generation : p.1 ≡ old.generation
       pub generation : new.generation ≡ old.generation
-      pub capacity : new.capacity ≡ (if nat_lt (count old) old.capacity then old.capacity else grown_capacity most old.capacity)
+      pub capacity : new.capacity ≡ (if nat_lt (count old) old.capacity then old.capacity else doubled_capacity most old.capacity)
 
     -- If no entry has an equal key, a new one is inserted. Otherwise the first that has one gets the value, and keeps its key and pointer.
     abbrev pub InsertsOrReplaces : ℕ → Sorted K V → ℕ × ℕ → K → V → Option V → Sorted K V → Type 0

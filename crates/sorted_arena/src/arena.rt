@@ -1,10 +1,11 @@
 //! `SortedArena`: entries in the order of their keys.
 
 ghost use Rattle.std.specs.Prelude.{◌≡◌, ◌==◌, ◌↔◌, ◌+◌, ◌≤◌, ◌<◌, ℕ, [], map, slice_get, Err, OnOk, OnErr};
+ghost use Rattle.arena_base.specs.Arena.{capacity_for};
 ghost use Rattle.arena_base.specs.Generation.{first_generation, next_generation};
 ghost use Rattle.chain_base.specs.Chain.{greatest_index};
 ghost use Rattle.sorted_arena.specs.Layout.{sorted_of, IsSortedArena};
-ghost use Rattle.sorted_arena.specs.Sorted.{IsSound, count, pair_of, item_of, with_left, capacity_for};
+ghost use Rattle.sorted_arena.specs.Sorted.{IsSound, count, pair_of, item_of, with_left};
 
 mod access;
 mod append;
@@ -117,16 +118,7 @@ impl<K: Ord, V, P: BasePtr, A: Allocator> SortedArena<K, V, P, A> {
             → self.old.capacity < count self.old + additional }
         ensures err { OnErr result (self.new ≡ self.old) }
     {
-        // with its length an arena tells what holds of its list
-        let Some(needed) = self.pairs.len().checked_add(additional) else {
-            return Err(ReallocationError::BeyondMaxCapacity);
-        };
-        let capacity = self.pairs.capacity();
-        if needed <= capacity {
-            return Ok(());
-        }
-        let grown = doubled_capacity(P::Inx::limit(), capacity);
-        self.pairs.reallocate_min_capacity(needed.max(grown))
+        self.pairs.reserve(additional)
     }
 
     /// Gives back the memory that no entry needs: the capacity becomes the greatest index of an entry. O(capacity).

@@ -1,5 +1,5 @@
 -- What a change of the capacity leaves.
-use Rattle.std.proofs.Common.{◌≡◌, ℕ, ◌<◌, ap, ◌∙◌, arith, Result, Ok, Err, OnOk, OnErr, Option, max}
+use Rattle.std.proofs.Common.{◌≡◌, ℕ, ◌<◌, ap, subst, ◌∙◌, arith, Result, Ok, Err, OnOk, OnErr, Option, max}
 use Rattle.chain_base.specs.Chain.{with_capacity, greatest_index, IsSound}
 use Rattle.chain_base.proofs.CallerLemmas.{greatest-within}
 use Rattle.ord_tree.specs.Tree.{Tree}
@@ -17,6 +17,8 @@ module _ {T : Type 0} where
 
   -- a capacity greater than the present one is made as asked for
   pub resizing-makes : {E : Type 0} (most : ℕ) (greatest : Option ℕ) (old new : Tree T) (n : ℕ) → IsSound most greatest old.list → old.list.capacity < n
-      → (r : Result (Unit {0}) E) → OnOk r (new ≡ resized old n) → OnOk r (new.list.capacity ≡ n)
-  resizing-makes most greatest old new n sound more (Ok u) ok = omega (arith, ap (λ (a : Tree T). a.list.capacity) ok, greatest-within most greatest old.list sound, more)
-  resizing-makes most greatest old new n sound more (Err e) ok = tt
+      → (P : ℕ → Type 0) → P n → (r : Result (Unit {0}) E) → OnOk r (new ≡ resized old n) → OnOk r (P new.list.capacity)
+  resizing-makes most greatest old new n sound more P asked (Ok u) ok =
+      let size : n ≡ new.list.capacity = omega (arith, ap (λ (a : Tree T). a.list.capacity) ok, greatest-within most greatest old.list sound, more) in
+      subst P size asked
+  resizing-makes most greatest old new n sound more P asked (Err e) ok = tt

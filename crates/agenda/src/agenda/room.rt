@@ -1,15 +1,13 @@
 //! Capacity, clearing and clones.
 
 ghost use Rattle.std.specs.Prelude.{◌≡◌, ◌↔◌, ◌+◌, ◌<◌, [], Err, IfOk, IsOk, OnOk, OnErr};
-ghost use Rattle.agenda.specs.Agenda.{most_jobs, count, capacity_for, with_left, HasRoomFor};
+ghost use Rattle.arena_base.specs.Arena.{capacity_for};
+ghost use Rattle.agenda.specs.Agenda.{most_jobs, count, with_left, HasRoomFor};
 ghost use Rattle.agenda.specs.Tickets.{IsStep};
 
 use super::Agenda;
 use std::alloc::{AllocError, Allocator};
 use triple_ord::ReallocationError;
-
-/// The greatest number of jobs: as many as tickets have indexes.
-const MOST_JOBS: usize = 4294967294;
 
 impl<J, A: Allocator> Agenda<J, A> {
     /// Makes room for `additional` more jobs: scheduling them will not fail. O(capacity) if the agenda grows, else O(1).
@@ -25,7 +23,7 @@ impl<J, A: Allocator> Agenda<J, A> {
         ensures jobs { self.new.jobs ≡ self.old.jobs }
         ensures generation { self.new.generation ≡ self.old.generation }
         ensures capacity { OnOk result
-            (self.new.capacity ≡ capacity_for self.old.capacity (count self.old + additional)) }
+            (self.new.capacity ≡ capacity_for most_jobs self.old.capacity (count self.old + additional)) }
         ensures room { OnOk result (HasRoomFor additional self.new) }
         ensures full { (result ≡ Err ReallocationError.BeyondMaxCapacity)
             ↔ (most_jobs < count self.old + additional) }
@@ -34,16 +32,7 @@ impl<J, A: Allocator> Agenda<J, A> {
         ensures err { OnErr result (self.new ≡ self.old) }
         ensures step { IsStep self.old self.new }
     {
-        // with its length an arena tells what holds of its list
-        let Some(needed) = self.jobs.len().checked_add(additional) else {
-            return Err(ReallocationError::BeyondMaxCapacity);
-        };
-        let capacity = self.jobs.capacity();
-        if needed <= capacity {
-            return Ok(());
-        }
-        let grown = doubled_capacity(MOST_JOBS, capacity);
-        self.jobs.reallocate_min_capacity(needed.max(grown))
+        self.jobs.reserve(additional)
     }
 }
 

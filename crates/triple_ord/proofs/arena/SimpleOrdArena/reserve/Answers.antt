@@ -1,4 +1,4 @@
-use Rattle.std.proofs.Common.{◌≡◌, ◌+◌, ◌≤◌, OnOk, length, refl, arith}
+use Rattle.std.proofs.Common.{◌≡◌, ◌+◌, ◌≤◌, ℕ, length, refl, arith}
 use Rattle.std.proofs.lemmas.Bool.Decides.{nat_tests}
 use Rattle.arena_base.specs.Arena.{capacity_for}
 use Rattle.chain_base.specs.Chain.{chain_limit}
@@ -9,3 +9,34 @@ pub returns-clause-entries : goal.returns-clause-entries
 returns-clause-entries g c =
     resizing-keeps c.args.self.now c.reallocate_min_capacity.new.self c.max.result (λ a. a.list.entries) (λ m. refl)
     c.reallocate_min_capacity.result c.reallocate_min_capacity.ensures.ok c.reallocate_min_capacity.ensures.err
+
+pub returns-clause-generation : goal.returns-clause-generation
+returns-clause-generation g c =
+    resizing-keeps c.args.self.now c.reallocate_min_capacity.new.self c.max.result (λ a. a.list.generation) (λ m. refl)
+    c.reallocate_min_capacity.result c.reallocate_min_capacity.ensures.ok c.reallocate_min_capacity.ensures.err
+
+pub returns-clause-maximum : goal.returns-clause-maximum
+returns-clause-maximum g c =
+    resizing-keeps c.args.self.now c.reallocate_min_capacity.new.self c.max.result (λ a. a.list.maximum) (λ m. refl)
+    c.reallocate_min_capacity.result c.reallocate_min_capacity.ensures.ok c.reallocate_min_capacity.ensures.err
+
+pub returns-clause-shape : goal.returns-clause-shape
+returns-clause-shape g c =
+    resizing-keeps c.args.self.now c.reallocate_min_capacity.new.self c.max.result (λ a. a.shape) (λ m. refl)
+    c.reallocate_min_capacity.result c.reallocate_min_capacity.ensures.ok c.reallocate_min_capacity.ensures.err
+
+pub returns-clause-room : goal.returns-clause-room
+returns-clause-room g c =
+    let a = c.args.self.now in
+    resizing-makes g.P.Inx.BasePtrInx.most g.P.Gen.BasePtrGen.greatest a c.reallocate_min_capacity.new.self c.max.result c.len.ensures.sound
+    (omega (arith, c.if-needed-capacity.false, c.capacity-capacity.ensures)) (λ n. length a.list.entries + c.args.additional ≤ n) (omega (arith, c.in-Some.ensures, c.len.ensures.value))
+    c.reallocate_min_capacity.result c.reallocate_min_capacity.ensures.ok
+
+pub returns-clause-capacity : goal.returns-clause-capacity
+returns-clause-capacity g c =
+    let a = c.args.self.now in
+    let limit : ℕ = chain_limit g.P.Inx.BasePtrInx.most a.list in
+    let sum : c.in-Some.needed ≡ length a.list.entries + c.args.additional = omega (arith, c.in-Some.ensures, c.len.ensures.value) in
+    resizing-makes g.P.Inx.BasePtrInx.most g.P.Gen.BasePtrGen.greatest a c.reallocate_min_capacity.new.self c.max.result c.len.ensures.sound
+    (omega (arith, c.if-needed-capacity.false, c.capacity-capacity.ensures)) (λ n. n ≡ capacity_for limit a.list.capacity (length a.list.entries + c.args.additional))
+    (grind (arith, nat_tests, sum)) c.reallocate_min_capacity.result c.reallocate_min_capacity.ensures.ok
