@@ -13,3 +13,4 @@ pub mod Bare
 pub mod Content
 pub mod CallerLemmas
 pub mod Places
+pub mod Appending
