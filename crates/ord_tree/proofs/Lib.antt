@@ -34,5 +34,6 @@ pub mod Displacing
 pub mod Rebuilding
 pub mod Rebuilt
 pub mod Compressing
+pub mod Appending
 pub mod Cloning
 pub mod CallerLemmas

@@ -21,6 +21,7 @@ pub mod Layout
 pub mod LeafBranch
 pub mod Move
 pub mod Rebuild
+pub mod Append
 pub mod MapNode
 pub mod Clone
 pub mod CloneNode

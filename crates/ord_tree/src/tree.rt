@@ -8,6 +8,7 @@ ghost use Rattle.chain_base.specs.Chain.{raised, entry_at, IsSound};
 ghost use Rattle.ord_tree.specs.Shape.{root_of};
 ghost use Rattle.ord_tree.specs.Tree.{IsChainOf, IsSoundTree};
 
+mod append;
 mod clone;
 mod growth;
 mod insert;

@@ -14,3 +14,4 @@ pub mod Content
 pub mod CallerLemmas
 pub mod Room
 pub mod Places
+pub mod Appending

@@ -15,6 +15,7 @@ pub mod Ties
 pub mod PastEquals
 pub mod Place
 pub mod Insertion
+pub mod Append
 pub mod EntryVisits
 pub mod Entry
 pub mod Prepared

@@ -6,6 +6,7 @@ ghost use Rattle.chain_base.specs.Chain.{raised, IsSound};
 ghost use Rattle.ord_tree.specs.Tree.{IsSoundTree};
 
 mod access;
+mod append;
 mod check;
 mod clone;
 mod clone_to;

@@ -34,6 +34,15 @@ impl<K: Ord, V> SimpleOrdItem for OrdPair<K, V> {
     }
 }
 
+/// A tuple as a pair.
+impl<K, V> From<(K, V)> for OrdPair<K, V> {
+    ghost from_gives = { λ tuple pair. pair ≡ tuple };
+
+    fn from(tuple: (K, V)) -> Self {
+        OrdPair::new(tuple.0, tuple.1)
+    }
+}
+
 impl<K, V> OrdPair<K, V> {
     ghost use Rattle.triple_ord.specs.contracts.pair.OrdPair.{the_row};
 

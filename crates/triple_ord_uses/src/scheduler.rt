@@ -1,8 +1,8 @@
 //! A scheduler: jobs by deadline, each named by its pointer.
 
-ghost use Rattle.std.specs.Prelude.{◌≡◌, ◌≢◌, false, ◌+◌, ℕ, Some, None, IfOk, OnErr, IfSome, OnSome, IsSome, is_some, if◌then◌else◌};
+ghost use Rattle.std.specs.Prelude.{◌≡◌, ◌≢◌, ◌↔◌, true, false, ◌+◌, ◌<◌, ◌++◌, vec_len, ℕ, Some, None, IfOk, OnErr, IfSome, OnSome, IsSome, is_some, if◌then◌else◌};
 ghost use Rattle.std.specs.Option.{option_map};
-ghost use Rattle.triple_ord.specs.Arena.{item_of, count, Updates, FindsNothing};
+ghost use Rattle.triple_ord.specs.Arena.{item_of, items, count, Updates, FindsNothing};
 
 use std::alloc::Global;
 use triple_ord::{OrdInsertionError, OrdPair, P0, SimpleOrdArena};
@@ -19,6 +19,18 @@ pub fn schedule(jobs: &mut Jobs, deadline: u64, job: u64) -> Result<P0, OrdInser
 {
     let (p, _) = jobs.insert(OrdPair::new(deadline, job))?;
     Ok(p)
+}
+
+/// Puts many jobs behind all others, without growing. Returns whether there was room; otherwise nothing changes.
+pub fn schedule_behind(jobs: &mut Jobs, more: Vec<(u64, u64)>) -> bool
+    ensures room { result ≡ false ↔ jobs.old.list.capacity < count jobs.old + vec_len more }
+    ensures jobs { result ≡ true → items jobs.new ≡ items jobs.old ++ more.items }
+    ensures count { result ≡ true → count jobs.new ≡ count jobs.old + vec_len more }
+    ensures others { (q : ℕ × ℕ) → IsSome (item_of jobs.old q)
+        → item_of jobs.new q ≡ item_of jobs.old q }
+    ensures refused { result ≡ false → jobs.new ≡ jobs.old }
+{
+    jobs.append_pairs_within_capacity(more).is_ok()
 }
 
 /// Removes a job. Returns whether the pointer named one.
