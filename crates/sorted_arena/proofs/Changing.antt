@@ -1,22 +1,27 @@
 -- What insertions and removals make of a sorted arena.
-use Rattle.std.proofs.Common.{◌≡◌, ℕ, ◌+◌, ◌<◌, max, ◌++◌, length, Option, Some, None, Result, Ok, Err, IfSome, OnOk, OnErr, IfOk, subst, refl, sym, ap, ◌∙◌, inr, arith}
+use Rattle.std.proofs.Common.{◌≡◌, ℕ, ◌+◌, ◌<◌, ◌≤◌, max, ◌++◌, List, [], ◌∷◌, length, Option, Some, None, Result, Ok, Err, IfSome, OnOk, OnErr, IfOk, subst, refl, sym, ap, ◌∙◌, inr, arith}
 use Rattle.std.proofs.lemmas.{List.Elements.All-from_recursion}
 use Rattle.std.specs.Cmp.{IsTotalOrder}
+use Rattle.std.specs.Prelude.{IsErr, ◌↔◌}
+use Rattle.std.proofs.Common.{Bool, true, false, nat_lt, if◌then◌else◌}
 use Rattle.std.specs.{Ordering.ordering_reverse, Option.option_map}
 use Rattle.std.specs.declared.cmp.Ordering.{Ordering, TheVariants.Less, TheVariants.Equal, TheVariants.Greater}
-use Rattle.arena_base.specs.Arena.{limit_of}
-use Rattle.chain_base.specs.Chain.{Entry, Chain, IsSound as IsSoundChain, chain_limit, removed, with_capacity, greatest_index}
-use Rattle.chain_base.proofs.CallerLemmas.{after-insertion}
-use Rattle.chain_base.proofs.CallerLemmas.{greatest-within}
+use Rattle.arena_base.specs.Arena.{limit_of, doubled_capacity}
+use Rattle.chain_base.specs.Chain.{Entry, Chain, times, last_pointer, IsSound as IsSoundChain, chain_limit, removed, with_capacity, greatest_index, new_chain}
+use Rattle.chain_base.proofs.CallerLemmas.{after-insertion, times-append}
 use Rattle.ord_tree.specs.Tree.{Tree}
-use Rattle.triple_ord.specs.Arena.{item_of as item_of_arena, count as count_arena, Updates as UpdatesArena}
+use Rattle.ord_tree.specs.Shape.{missing}
+use Rattle.triple_ord.specs.Clone.{cloned}
+use Rattle.triple_ord.specs.Arena.{item_of as item_of_arena, count as count_arena, with_room_for, Updates as UpdatesArena}
 use Rattle.triple_ord.specs.Insertion.{reallocating, with_room_by, InsertsNew}
 use Rattle.triple_ord.specs.{Gap.with_between, Place.behind_key, Order.IsInOrder}
 use Rattle.triple_ord.specs.declared.entry_kind.OrdEntryKind.TheVariants.{New}
 use Rattle.triple_ord.proofs.CallerLemmas.{entries-with_room_by, numbers-inserted, numbers-with_room_by, capacity-inserted, inserted-new}
 use Rattle.triple_ord.specs.Rekey.{Rekeys as RekeysArena}
 use Rattle.triple_ord.proofs.CallerLemmas.{kept_order, rekeyed_order, in_order-without, all_less, IsInOrder-back}
-use Rattle.sorted_arena.specs.Layout.{item_key, sorted_of, IsSortedArena}
+use Rattle.sorted_arena.specs.Layout.{item_key, sorted_of, IsSortedArena, IsHeld, IsCompact}
+use Rattle.sorted_arena.proofs.Numbering.{none-behind, compact-inserted, compact-roomy, compact-resized, greatest-numbered, vacant-numbered}
+use Rattle.sorted_arena.proofs.Cutting.{append-nil}
 use Rattle.sorted_arena.specs.Sorted.{Inserts, Rekeys, Updates, IsSound, count}
 use Rattle.sorted_arena.proofs.Cutting.{sorted-in_order, in_order-sorted, sorted-without, all_at_most, greater}
 
@@ -98,6 +103,18 @@ module _ {K V : Type 0} (cmp : K → K → Ordering) (most : ℕ) (greatest : Op
       unlimited = numbers.1 ∙ holds.unlimited;
     }
 
+    -- behind all others
+    pub compact-put : IsCompact old.list → option_map (λ (q : ℕ × ℕ). q.0) (last_pointer new.list.entries) ≡ Some p.0 → IsCompact new.list
+    compact-put compact last =
+        let listed : new.list.entries ≡ inserts.gap.front ++ entry ∷ inserts.gap.back = ap (λ (c : Chain (K × V)). c.entries) (after-insertion room new.list (with_between inserts.gap) (k, v) p.0 p.1 inserts.inserted).1 in
+        let roomy = entries-with_room_by reallocating most old.list in
+        let unused : times p.0 (inserts.gap.front ++ inserts.gap.back) ≡ 0 = ap (times p.0) (sym inserts.gap.cut ∙ sym roomy) ∙ inserts.inserted.vacant.free in
+        let none : inserts.gap.back ≡ [] = none-behind inserts.gap.front entry inserts.gap.back (omega (arith, unused, times-append p.0 inserts.gap.front inserts.gap.back))
+        (ap (λ (es : List (Entry (K × V))). option_map (λ (q : ℕ × ℕ). q.0) (last_pointer es)) (sym listed) ∙ last) in
+        let front : room.entries ≡ inserts.gap.front = roomy ∙ inserts.gap.cut ∙ ap (λ (es : List (Entry (K × V))). inserts.gap.front ++ es) none ∙ append-nil inserts.gap.front in
+        compact-inserted room new.list (with_between inserts.gap) (λ e. ap (λ (es : List (Entry (K × V))). inserts.gap.front ++ e ∷ es) none ∙ ap (λ (es : List (Entry (K × V))). es ++ e ∷ []) (sym front)) (k, v) p.0 p.1
+        (compact-roomy most greatest reallocating old.list sound compact) inserts.inserted
+
 -- an entry that goes to the place of another key
 module _ {K V : Type 0} (cmp : K → K → Ordering) (total : IsTotalOrder cmp) (old new : Tree (K × V)) (p : ℕ × ℕ) (k : K) (holds : IsSortedArena cmp old) where
   abbrev named : Option (K × V)
@@ -158,3 +175,50 @@ module _ {K V : Type 0} (cmp : K → K → Ordering) (total : IsTotalOrder cmp) 
             → OnErr r (new ≡ old) → IsSortedArena cmp new
         go (Ok was) moved before same = by named was moved before
         go (Err back) moved before same = subst (λ (a : Tree (K × V)). IsSortedArena cmp a) (sym same) holds
+
+-- a call that is refused leaves an arena compact
+pub compact-refused : {T X E : Type 0} (old new : Tree T) (r : Result X E) → OnErr r (new ≡ old) → IsErr r → IsCompact old.list → IsCompact new.list
+compact-refused old new (Ok x) same refused compact = absurd (cc)
+compact-refused old new (Err e) same refused compact = subst (λ (t : Tree _). IsCompact t.list) (sym same) compact
+
+-- an arena with other room, if memory wasn't refused
+pub held-resized : {K V E : Type 0} (cmp : K → K → Ordering) (is_compact : Bool) (old new : Tree (K × V)) (n : ℕ) (r : Result (Unit {0}) E)
+    → OnOk r (new ≡ record old { list = with_capacity old.list (max n (greatest_index old.list.entries)) }) → OnErr r (new ≡ old) → IsHeld cmp is_compact old → IsHeld cmp is_compact new
+held-resized cmp is_compact old new n (Ok u) made same held = subst (λ (t : Tree _). IsHeld cmp is_compact t) (sym made) (record {
+  order = record { sorted = held.order.sorted; unlimited = held.order.unlimited };
+  compact = λ is.
+      let compact = held.compact is in
+      compact-resized old.list (max n (greatest_index old.list.entries)) compact.numbered (let fits = greatest-numbered old.list.entries compact.numbered in omega arith);
+})
+held-resized cmp is_compact old new n (Err e) made same held = subst (λ (t : Tree _). IsHeld cmp is_compact t) (sym same) held
+
+-- an arena with room reserved, if memory wasn't refused
+pub held-reserved : {K V E : Type 0} (cmp : K → K → Ordering) (is_compact : Bool) (most : ℕ) (old new : Tree (K × V)) (needed : ℕ) → length old.list.entries ≤ needed → (r : Result (Unit {0}) E)
+    → OnOk r (new ≡ record old { list = with_room_for most old.list needed }) → OnErr r (new ≡ old) → IsHeld cmp is_compact old → IsHeld cmp is_compact new
+held-reserved cmp is_compact most old new needed fits (Ok u) made same held = subst (λ (t : Tree _). IsHeld cmp is_compact t) (sym made) (go (nat_lt old.list.capacity needed))
+  where
+    size : ℕ
+    size = max needed (doubled_capacity (chain_limit most old.list) old.list.capacity)
+
+    go : (b : Bool) → IsHeld cmp is_compact (record old { list = if b then with_capacity old.list size else old.list })
+    go true = record {
+      order = record { sorted = held.order.sorted; unlimited = held.order.unlimited };
+      compact = λ is. compact-resized old.list size (held.compact is).numbered (omega (arith, fits));
+    }
+    go false = held
+held-reserved cmp is_compact most old new needed fits (Err e) made same held = subst (λ (t : Tree _). IsHeld cmp is_compact t) (sym same) held
+
+-- what a call owes that is refused only if there are fewer vacant slots than it wants
+pub owed-appended : {X E : Type 0} (P : Type 0) (wanted capacity : ℕ) (r : Result X E) → (IsErr r ↔ (capacity < wanted)) → wanted ≤ capacity → OnOk r P → P
+owed-appended P wanted capacity (Ok x) full fits owed = owed
+owed-appended P wanted capacity (Err e) full fits owed = absurd (let less = full.0 refl in omega arith)
+
+-- a clone has its source's entries and a fresh free list
+pub held-cloned : {K V : Type 0} (cmp : K → K → Ordering) (is_compact : Bool) (greatest : Option ℕ) (source : Tree (K × V)) → IsHeld cmp is_compact source
+    → IsHeld cmp is_compact (cloned source (record { list = new_chain greatest; shape = missing }))
+held-cloned cmp is_compact greatest source held = record {
+  order = record { sorted = held.order.sorted; unlimited = refl };
+  compact = λ is.
+      let numbered = (held.compact is).numbered in
+      record { numbered = numbered; free = vacant-numbered source.list.entries numbered (max 0 (greatest_index source.list.entries)) (let fits = greatest-numbered source.list.entries numbered in omega arith) };
+}

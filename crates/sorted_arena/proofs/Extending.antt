@@ -1,12 +1,15 @@
 -- Pairs that are inserted behind the last key.
-use Rattle.std.proofs.Common.{◌≡◌, ℕ, ◌++◌, List, [], ◌∷◌, map, length, length-append, arith, ◌+◌, true, false, Option, Some, None, IsSomeAnd, refl, sym, ap, subst, ◌∙◌, append_assoc}
+use Rattle.std.proofs.Common.{◌≡◌, ◌≢◌, ℕ, suc, ◌<◌, slice_index_or, slice_get, ◌++◌, List, [], ◌∷◌, map, length, length-append, arith, ◌+◌, true, false, Option, Some, None, IsSomeAnd, refl, sym, ap, subst, ◌∙◌, append_assoc}
 use Rattle.std.proofs.{lemmas.List.map-append, lemmas.List.length-map, lemmas.List.Elements.recursion_from_All}
-use Rattle.std.specs.{Option.option_map_or, List.AllByRecursion, Ordering.is_gt, Ordering.ordering_reverse, Cmp.IsTotalOrder}
+use Rattle.std.specs.{Option.option_map_or, List.AllByRecursion, List.AllAdjacentBelow, Ordering.is_gt, Ordering.ordering_reverse, Cmp.IsTotalOrder}
 use Rattle.std.specs.declared.cmp.Ordering.{Ordering, TheVariants.Less, TheVariants.Greater}
 use Rattle.chain_base.specs.Chain.{Entry}
 use Rattle.triple_ord.specs.Gap.{last_of}
-use Rattle.sorted_arena.specs.Sorted.{Sorted, key_of, item_of, last_item, Inserts}
-use Rattle.sorted_arena.proofs.Cutting.{gt_is, append-nil}
+use Rattle.sorted_arena.specs.Sorted.{Sorted, key_of, item_of, last_item, Inserts, AreSorted, AreInOrder}
+use Rattle.sorted_arena.specs.Layout.{item_key}
+use Rattle.triple_ord.specs.Order.{IsInOrder}
+use Rattle.triple_ord.proofs.CallerLemmas.{IsInOrder-rest, in_order-one, in_order-more}
+use Rattle.sorted_arena.proofs.Cutting.{gt_is, append-nil, sorted-in_order, in_order-sorted, sorted-items}
 
 module _ {X : Type 0} where
   pub cut_more : (all xs ys zs : List X) (x : X) → all ≡ xs ++ ys → ys ≡ x ∷ zs → all ≡ (xs ++ x ∷ []) ++ zs
@@ -68,3 +71,79 @@ module _ {K V : Type 0} where
           nothing (e ∷ back) all last =
               end-least (e ∷ back) all (last_item (e ∷ back)) refl
               (subst (λ (o : Option (K × V)). option_map_or (λ x. is_gt (cmp x.0 k)) o false ≡ false) (last-behind h.front back e) last)
+
+not_gt : (o : Ordering) → is_gt o ≡ false → o ≢ Greater
+not_gt o is greater = absurd (let both : is_gt o ≡ true = ap is_gt greater in cc)
+
+-- pairs that go on behind entries
+module _ {K V : Type 0} (cmp : K → K → Ordering) where
+  -- no key is greater than the next
+  abbrev pub Ascends : List (K × V) → Type 0
+  Ascends [] = Unit {0}
+  Ascends (x ∷ []) = Unit {0}
+  Ascends (x ∷ y ∷ xs) = (cmp x.0 y.0 ≢ Greater) × Ascends (y ∷ xs)
+
+  abbrev Answers : List (K × V) → Type 0
+  Answers xs = AllAdjacentBelow (λ x y. cmp x.0 y.0 ≢ Greater) xs (length xs)
+
+  pub ascends-answered : (xs : List (K × V)) → Answers xs → Ascends xs
+  ascends-answered [] answers = tt
+  ascends-answered (x ∷ []) answers = tt
+  ascends-answered (x ∷ y ∷ xs) answers = (answers 0 x (omega arith), ascends-answered (y ∷ xs) rest)
+    where
+      next : (k : ℕ) → suc k + 1 ≡ suc (k + 1)
+      next k = omega arith
+
+      rest : Answers (y ∷ xs)
+      rest k d within =
+          subst (λ (n : ℕ). cmp (slice_index_or (y ∷ xs) k d).0 (slice_index_or (x ∷ y ∷ xs) n d).0 ≢ Greater) (next k) (answers (suc k) d (omega arith))
+
+  -- the first of the pairs, if any, has no smaller key than the last entry
+  abbrev pub GoesOn : List (Entry (K × V)) → List (K × V) → Type 0
+  GoesOn es [] = Unit {0}
+  GoesOn es (x ∷ xs) = option_map_or (λ y. is_gt (cmp y.0 x.0)) (last_item es) false ≡ false
+
+  pub goes-on : (es : List (Entry (K × V))) (xs : List (K × V)) (x : K × V) → slice_get xs 0 ≡ Some x → option_map_or (λ y. is_gt (cmp y.0 x.0)) (last_item es) false ≡ false → GoesOn es xs
+  goes-on es [] x first on = tt
+  goes-on es (y ∷ xs) x first on = let same : x ≡ y = cc in subst (λ (z : K × V). option_map_or (λ w. is_gt (cmp w.0 z.0)) (last_item es) false ≡ false) same on
+
+  module _ (total : IsTotalOrder cmp) where
+    abbrev made : List (K × V) → List (Entry (K × V))
+    made xs = map (λ x. record { index = 0; generation = 0; item = x }) xs
+
+    made-items : (xs : List (K × V)) → map item_of (made xs) ≡ xs
+    made-items [] = refl
+    made-items (x ∷ xs) = ap (λ ys. x ∷ ys) (made-items xs)
+
+    abbrev no_entries : List (Entry (K × V))
+    no_entries = []
+
+    in_order-none : IsInOrder item_key cmp no_entries
+    in_order-none front back e f cut = absurd (omega (arith, ap length cut, length-append front (e ∷ f ∷ back)))
+
+    made-order : (xs : List (K × V)) → Ascends xs → IsInOrder item_key cmp (made xs)
+    made-order [] up = in_order-none
+    made-order (x ∷ []) up = in_order-one item_key cmp _
+    made-order (x ∷ y ∷ xs) up = in_order-more item_key cmp _ _ (made xs) up.0 (made-order (y ∷ xs) up.1)
+
+    joined : (es : List (Entry (K × V))) (xs : List (K × V)) → IsInOrder item_key cmp es → GoesOn es xs → Ascends xs → IsInOrder item_key cmp (es ++ made xs)
+    joined [] xs order on up = made-order xs up
+    joined (e ∷ []) [] order on up = order
+    joined (e ∷ []) (x ∷ xs) order on up = in_order-more item_key cmp e _ (made xs) (not_gt (cmp (key_of e) x.0) on) (made-order (x ∷ xs) up)
+    joined (e ∷ f ∷ es) xs order on up =
+        in_order-more item_key cmp e f (es ++ made xs) (order [] es e f refl) (joined (f ∷ es) xs (IsInOrder-rest item_key cmp e (f ∷ es) order) (later xs on) up)
+      where
+        later : (xs : List (K × V)) → GoesOn (e ∷ f ∷ es) xs → GoesOn (f ∷ es) xs
+        later [] on = tt
+        later (x ∷ xs) on = on
+
+    pub continued : (es : List (Entry (K × V))) (xs : List (K × V)) → AreSorted cmp es → GoesOn es xs → Ascends xs → AreInOrder cmp (map item_of es ++ xs)
+    continued es xs sorted on up = (
+      es ++ made xs,
+      map-append item_of es (made xs) ∙ ap (λ ys. map item_of es ++ ys) (made-items xs),
+      in_order-sorted cmp total (es ++ made xs) (joined es xs (sorted-in_order cmp es sorted) on up),
+    )
+
+    -- entries with items that are in order
+    pub sorted-listed : (es : List (Entry (K × V))) (items : List (K × V)) → map item_of es ≡ items → AreInOrder cmp items → AreSorted cmp es
+    sorted-listed es items is order = sorted-items cmp es order.0 (is ∙ sym order.1) order.2

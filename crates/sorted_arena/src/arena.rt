@@ -1,10 +1,10 @@
 //! `SortedArena`: entries in the order of their keys.
 
-ghost use Rattle.std.specs.Prelude.{◌≡◌, ◌==◌, ◌↔◌, ◌+◌, ◌≤◌, ◌<◌, ℕ, [], map, slice_get, Err, OnOk, OnErr};
+ghost use Rattle.std.specs.Prelude.{◌≡◌, ◌==◌, ◌↔◌, ◌+◌, ◌≤◌, ◌<◌, ℕ, true, [], map, slice_get, Err, OnOk, OnErr};
 ghost use Rattle.arena_base.specs.Arena.{capacity_for};
 ghost use Rattle.arena_base.specs.Generation.{first_generation, next_generation};
 ghost use Rattle.chain_base.specs.Chain.{greatest_index};
-ghost use Rattle.sorted_arena.specs.Layout.{sorted_of, IsSortedArena};
+ghost use Rattle.sorted_arena.specs.Layout.{sorted_of, IsSortedArena, AreNumbered};
 ghost use Rattle.sorted_arena.specs.Sorted.{IsSound, count, pair_of, item_of, with_left};
 
 mod access;
@@ -39,6 +39,8 @@ use triple_ord::{BasePtr, BasePtrInx, P0, ReallocationError, SimpleOrdArena};
 #[derive(Drop)]
 pub struct SortedArena<K: Ord, V, P: BasePtr = P0, A: Allocator = Global> {
     pairs: Pairs<K, V, P, A>,
+    // If it is set, the i-th entry has index i, and iterators step from index to index without reading links.
+    is_compact: bool,
 }
 
 impl<K: Ord, V, P: BasePtr, A: Allocator> Model for SortedArena<K, V, P, A> {
@@ -46,11 +48,11 @@ impl<K: Ord, V, P: BasePtr, A: Allocator> Model for SortedArena<K, V, P, A> {
 
     ghost Value = { Sorted K V };
 
-    ghost use Rattle.sorted_arena.specs.Layout.{sorted_of, IsSortedArena};
+    ghost use Rattle.sorted_arena.specs.Layout.{sorted_of, IsHeld};
 
     ghost view = { λ a. sorted_of a.pairs };
 
-    ghost invariant = { λ a. IsSortedArena K.cmp a.pairs };
+    ghost invariant = { λ a. IsHeld K.cmp a.is_compact a.pairs };
 }
 
 impl<K: Ord, V, P: BasePtr, A: Allocator> SortedArena<K, V, P, A> {
@@ -64,6 +66,7 @@ impl<K: Ord, V, P: BasePtr, A: Allocator> SortedArena<K, V, P, A> {
     {
         SortedArena {
             pairs: SimpleOrdArena::new(alloc),
+            is_compact: true,
         }
     }
 
@@ -73,6 +76,13 @@ impl<K: Ord, V, P: BasePtr, A: Allocator> SortedArena<K, V, P, A> {
         ensures holds { IsSortedArena K.cmp result.now }
     {
         &self.pairs
+    }
+
+    // Whether the i-th entry has index i, as far as it is known.
+    pub(crate) fn is_compact(&self) -> bool
+        ensures { result ≡ true → AreNumbered 1 self.now.entries }
+    {
+        self.is_compact
     }
 
     /// Returns how many entries the arena holds without growing.
@@ -134,7 +144,8 @@ impl<K: Ord, V, P: BasePtr, A: Allocator> SortedArena<K, V, P, A> {
 
     /// Gives the entries the indexes from 1 on in their order, under the next generation. All old pointers are stale then. O(capacity).
     ///
-    /// Before a [`shrink`](Self::shrink), this leaves just as much capacity as there are entries.
+    /// Before a [`shrink`](Self::shrink), this leaves just as much capacity as there are entries. Iterators are quicker until an entry comes
+    /// before others or a key changes, or one goes that isn't the last.
     pub fn compact(&mut self)
         ensures items { map item_of self.new.entries ≡ map item_of self.old.entries }
         ensures found { (i : ℕ) → pair_of self.new (i + 1, self.new.generation)
@@ -144,7 +155,10 @@ impl<K: Ord, V, P: BasePtr, A: Allocator> SortedArena<K, V, P, A> {
         ensures capacity { self.new.capacity ≡ self.old.capacity }
         ensures count { count self.new ≡ count self.old }
     {
+        // with its length an arena tells what holds of its list
+        let _ = self.pairs.len();
         let _ = self.pairs.compress_canonical(false);
+        self.is_compact = true;
     }
 }
 
@@ -155,5 +169,6 @@ impl<K: Ord + Drop, V: Drop, P: BasePtr, A: Allocator> SortedArena<K, V, P, A> {
         ensures after { self.new ≡ with_left P.Gen.greatest self.old [] }
     {
         let _ = self.pairs.clear();
+        self.is_compact = true;
     }
 }

@@ -1,9 +1,9 @@
 //! The ordered arena of a sorted one. A new entry goes behind all whose key is at most its own.
 
-ghost use Rattle.std.specs.Prelude.{◌≡◌, ◌↔◌, ◌++◌, ℕ, List, None, Err, IfOk, IfErr, OnErr, length};
+ghost use Rattle.std.specs.Prelude.{◌≡◌, ◌↔◌, ◌++◌, ℕ, true, List, Some, None, Err, IfOk, IfErr, OnErr, length};
 ghost use Rattle.std.specs.Option.{option_map};
 ghost use Rattle.std.specs.Ordering.{is_le, is_lt};
-ghost use Rattle.chain_base.specs.Chain.{Entry, chain_limit, IsSound};
+ghost use Rattle.chain_base.specs.Chain.{Entry, last_pointer, chain_limit, IsSound};
 ghost use Rattle.triple_ord.specs.Gap.{last_of};
 ghost use Rattle.triple_ord.specs.Insertion.{reallocating, InsertsNew};
 ghost use Rattle.triple_ord.specs.{PastEquals.order_past_equals, Search.FindsSimilar};
@@ -71,6 +71,20 @@ pub(crate) fn put<K: Ord + Drop, V: Drop, P: BasePtr, A: Allocator>(
         Err(OrdInsertionError::AllocError) => Err(((k, v), ReallocationError::AllocError)),
         // a key has a place, and the arena may grow
         Err(_) => unreachable!(),
+    }
+}
+
+/// Whether the entry at `p` is the last one.
+pub(crate) fn is_last_in<K: Ord, V, P: BasePtr, A: Allocator>(
+    pairs: &Pairs<K, V, P, A>,
+    p: P,
+) -> bool
+    ensures { result ≡ true → option_map (λ q. q.0) (last_pointer pairs.now.list.entries)
+        ≡ Some (P.numbers p).0 }
+{
+    match pairs.last() {
+        Some(last) => last.inx() == p.inx(),
+        None => false,
     }
 }
 

@@ -1,44 +1,49 @@
 //! `Range`: entries in order, from both ends.
-ghost use Rattle.std.specs.Prelude.{◌≡◌, ◌<◌, ◌^◌, true, false, length};
+ghost use Rattle.std.specs.Prelude.{◌≡◌, ◌<◌, ◌^◌, true, false, length, slice_get};
 ghost use Rattle.std.specs.Iterator.{YieldsFirstBy, YieldsLastBy, item_count};
 ghost use Rattle.std.specs.{Option.option_map, Option.option_and_then, Range.Bound.bound_map};
 ghost use Rattle.std.specs.BTreeMap.Range.{is_from_start, is_past_end};
 ghost use Rattle.std.specs.declared.ops.Bound.TheVariants.{Included, Unbounded};
 ghost use Rattle.sorted_arena.specs.Range.{entries_between, shown_entry, GivesInOrder, GivesInReverse};
 ghost use Rattle.sorted_arena.specs.Sorted.{pair_of, first_where, key_of, IsSound};
-ghost use Rattle.sorted_arena.specs.Stretch.{is_forward};
+ghost use Rattle.sorted_arena.specs.Stretch.{stretch, is_forward, IsStretch};
+ghost use Rattle.sorted_arena.specs.{Layout.AreNumbered, Place.position_of};
 
 use crate::arena::SortedArena;
 use crate::pairs::{Pairs, last_before};
 use std::alloc::{Allocator, Global};
 use std::marker::Model;
 use std::ops::{Bound, RangeBounds};
-use triple_ord::{BasePtr, P0};
+use triple_ord::{BasePtr, BasePtrInx, P0};
 
 /// Gives the pointers, keys and values of the entries in a range, in order, from both ends. Each step is O(1).
 #[derive(Drop)]
 pub struct Range<'a, K: Ord, V, P: BasePtr = P0, A: Allocator = Global> {
-    pub(crate) pairs: &'a Pairs<K, V, P, A>,
-    // the index of the next entry from the front
-    pub(crate) first: Option<P::Inx>,
-    // the index of the entry behind the next one from the back
-    pub(crate) end: Option<P::Inx>,
+    pairs: &'a Pairs<K, V, P, A>,
+    place: Place<P>,
+}
+
+// Where an iterator stands.
+#[derive(Drop)]
+enum Place<P: BasePtr> {
+    // The index of the next entry from the front, and of the entry behind the next one from the back. A step reads a link.
+    Linked(Option<P::Inx>, Option<P::Inx>),
+    // The position of the next entry from the front, and how many are left, in an arena whose i-th entry has index i. A step waits for
+    // no link.
+    Numbered(usize, usize),
 }
 
 impl<'a, K: Ord, V, P: BasePtr, A: Allocator> Model for Range<'a, K, V, P, A> {
     ghost use Rattle.std.specs.Prelude.{List};
-    ghost use Rattle.std.specs.Option.{option_map};
     ghost use Rattle.chain_base.specs.Chain.{Entry};
 
     ghost Value = { List (Entry (K × V)) };
 
-    ghost use Rattle.sorted_arena.specs.Stretch.{stretch, IsStretch};
+    ghost use Rattle.sorted_arena.specs.Place.{left_at, IsPlace};
 
-    ghost view = { λ r. stretch r.pairs.now.list.entries
-        (option_map P.Inx.number r.first) (option_map P.Inx.number r.end) };
+    ghost view = { λ r. left_at P.Inx.number r.pairs.now.list.entries r.place };
 
-    ghost invariant = { λ r. IsStretch r.pairs.now.list.entries
-        (option_map P.Inx.number r.first) (option_map P.Inx.number r.end) };
+    ghost invariant = { λ r. IsPlace P.Inx.number r.pairs.now.list.entries r.place };
 }
 
 impl<'a, K: Ord, V, P: BasePtr, A: Allocator> Iterator for Range<'a, K, V, P, A> {
@@ -49,15 +54,28 @@ impl<'a, K: Ord, V, P: BasePtr, A: Allocator> Iterator for Range<'a, K, V, P, A>
     ghost remaining = { item_count (λ left. left) };
 
     fn next(&mut self) -> Option<(P, &'a K, &'a V)> {
-        if are_same::<P>(self.first, self.end) {
-            return None;
+        match self.place {
+            Place::Linked(first, end) => {
+                if are_same::<P>(first, end) {
+                    return None;
+                }
+                let i = first?;
+                let entry = self.pairs.get_inx_link_no_gen(i)?;
+                let link = entry.1;
+                self.place = Place::Linked(link.next(), end);
+                let (k, v) = link.t.k_v();
+                Some((P::_from_raw(i, entry.0), k, v))
+            }
+            Place::Numbered(from, left) => {
+                if left == 0 {
+                    return None;
+                }
+                // with its length an arena tells what holds of its list
+                let _ = self.pairs.len();
+                self.place = Place::Numbered(from + 1, left - 1);
+                entry_at(self.pairs, from)
+            }
         }
-        let i = self.first?;
-        let entry = self.pairs.get_inx_link_no_gen(i)?;
-        let link = entry.1;
-        self.first = link.next();
-        let (k, v) = link.t.k_v();
-        Some((P::_from_raw(i, entry.0), k, v))
     }
 }
 
@@ -65,14 +83,58 @@ impl<'a, K: Ord, V, P: BasePtr, A: Allocator> DoubleEndedIterator for Range<'a, 
     ghost next_back_gives = { YieldsLastBy (shown_entry P.numbers) (λ left. left) };
 
     fn next_back(&mut self) -> Option<(P, &'a K, &'a V)> {
-        if are_same::<P>(self.first, self.end) {
-            return None;
+        match self.place {
+            Place::Linked(first, end) => {
+                if are_same::<P>(first, end) {
+                    return None;
+                }
+                let i = last_before(self.pairs, end)?;
+                let entry = self.pairs.get_inx(i)?;
+                self.place = Place::Linked(first, Some(i));
+                let (k, v) = entry.1.k_v();
+                Some((P::_from_raw(i, entry.0), k, v))
+            }
+            Place::Numbered(from, left) => {
+                if left == 0 {
+                    return None;
+                }
+                // with its length an arena tells what holds of its list
+                let _ = self.pairs.len();
+                self.place = Place::Numbered(from, left - 1);
+                entry_at(self.pairs, from + (left - 1))
+            }
         }
-        let i = last_before(self.pairs, self.end)?;
-        let entry = self.pairs.get_inx(i)?;
-        self.end = Some(i);
-        let (k, v) = entry.1.k_v();
-        Some((P::_from_raw(i, entry.0), k, v))
+    }
+}
+
+// The entry at a position of a list whose entries have the indexes from 1 on.
+#[inline(always)]
+fn entry_at<'a, K: Ord, V, P: BasePtr, A: Allocator>(
+    pairs: &'a Pairs<K, V, P, A>,
+    position: usize,
+) -> Option<(P, &'a K, &'a V)>
+    requires numbered { AreNumbered 1 pairs.now.list.entries }
+    requires within { position < length pairs.now.list.entries }
+    ensures { option_map (shown_entry P.numbers) result ≡ slice_get pairs.now.list.entries position }
+{
+    // with its length an arena tells what holds of its list
+    let _ = pairs.len();
+    let i = P::Inx::try_from_usize(position + 1)?;
+    let entry = pairs.get_inx(i)?;
+    let (k, v) = entry.1.k_v();
+    Some((P::_from_raw(i, entry.0), k, v))
+}
+
+// The position of the entry at `p` in an arena of `count` entries whose i-th entry has index i; `count`, if there is no pointer.
+fn position<P: BasePtr>(p: Option<P>, count: usize) -> usize
+    ensures { result ≡ position_of count (option_map (λ q. q.0) (option_map P.numbers p)) }
+{
+    let Some(p) = p else {
+        return count;
+    };
+    match p.inx().try_into_usize() {
+        Some(i) => i.saturating_sub(1),
+        None => 0,
     }
 }
 
@@ -123,12 +185,7 @@ impl<K: Ord, V, P: BasePtr, A: Allocator> SortedArena<K, V, P, A> {
     {
         // with its length an arena tells what holds of it
         let _ = self.len();
-        let pairs = self.pairs();
-        Range {
-            pairs,
-            first: inx_of(pairs.first()),
-            end: None,
-        }
+        self.from_until(self.first(), None)
     }
 
     /// Returns an iterator over the entries whose keys are in `range`, in order, from both ends. O(log n).
@@ -159,10 +216,27 @@ impl<K: Ord, V, P: BasePtr, A: Allocator> SortedArena<K, V, P, A> {
         let _ = self.len();
         let end = self.first_past(until);
         let first = self.first_before(from, end);
+        self.from_until(first, end)
+    }
+
+    // The entries from one on and before another; to the last one, if there is no other.
+    fn from_until(&self, first: Option<P>, end: Option<P>) -> Range<'_, K, V, P, A>
+        requires { IsStretch self.now.entries (option_map (λ q. q.0) (option_map P.numbers first))
+            (option_map (λ q. q.0) (option_map P.numbers end)) }
+        ensures { result ≡ stretch self.now.entries
+            (option_map (λ q. q.0) (option_map P.numbers first))
+            (option_map (λ q. q.0) (option_map P.numbers end)) }
+    {
+        let place = if self.is_compact() {
+            let count = self.len();
+            let from = position(first, count);
+            Place::Numbered(from, position(end, count).saturating_sub(from))
+        } else {
+            Place::Linked(inx_of(first), inx_of(end))
+        };
         Range {
             pairs: self.pairs(),
-            first: inx_of(first),
-            end: inx_of(end),
+            place,
         }
     }
 

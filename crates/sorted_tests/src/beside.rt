@@ -1,5 +1,5 @@
 //! A sorted arena beside a plain vector of the same entries.
-use sorted_arena::{P0, Range, SortedArena};
+use sorted_arena::{BasePtr, P0, Range, SortedArena};
 use std::alloc::{Allocator, Global};
 
 /// Numbers by keys.
@@ -58,6 +58,21 @@ pub(crate) fn beside_of(alloc: Global, n: usize, number: usize) -> Option<Beside
             return None;
         }
         digits /= 3;
+    }
+    Some(beside)
+}
+
+/// Such an arena, compacted if this says so; the entries of the vector have the pointers that they have then.
+pub(crate) fn start_of(alloc: Global, n: usize, number: usize, is_compact: bool) -> Option<Beside> {
+    let mut beside = beside_of(alloc, n, number)?;
+    if is_compact {
+        beside.arena.compact();
+        let mut inx = 0u32;
+        for entry in beside.entries.iter_mut() {
+            inx = inx.saturating_add(1);
+            // the generation was 2, the first
+            entry.p = P0::_from_raw(inx, 3);
+        }
     }
     Some(beside)
 }

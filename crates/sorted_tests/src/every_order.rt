@@ -1,5 +1,5 @@
 //! Every order of up to five keys, equal ones among them, and each change of such an arena, beside a plain vector.
-use crate::beside::{ORDERS, are_alike, are_found, beside_of};
+use crate::beside::{ORDERS, are_alike, are_found, start_of};
 use crate::changes::{Change, is_made};
 use std::alloc::Global;
 
@@ -21,9 +21,12 @@ const BY_PLACE: [Change; 2] = [Change::SetValue, Change::Remove];
 
 const BY_BOTH: [Change; 2] = [Change::Rekey, Change::RekeyUnique];
 
-/// Whether an arena of n keys in this order has the entries of the vector, and finds them.
-fn is_right(alloc: Global, n: usize, number: usize) -> bool {
-    match beside_of(alloc, n, number) {
+/// An arena of so many keys, in the order with this number, and whether it is compacted.
+type Start = (usize, usize, bool);
+
+/// Whether an arena has the entries of the vector, and finds them.
+fn is_right(alloc: Global, (n, number, is_compact): Start) -> bool {
+    match start_of(alloc, n, number, is_compact) {
         Some(beside) => {
             are_alike(&beside.arena, &beside.entries) && are_found(&beside.arena, &beside.entries)
         }
@@ -35,8 +38,8 @@ fn is_right(alloc: Global, n: usize, number: usize) -> bool {
 type Step = (Change, usize, u64);
 
 /// Whether arena and vector answer alike, and are alike afterwards.
-fn is_right_after(alloc: Global, n: usize, number: usize, step: Step) -> bool {
-    let Some(mut beside) = beside_of(alloc, n, number) else {
+fn is_right_after(alloc: Global, (n, number, is_compact): Start, step: Step) -> bool {
+    let Some(mut beside) = start_of(alloc, n, number, is_compact) else {
         return false;
     };
     let is_made = is_made(&mut beside, step, alloc);
@@ -48,7 +51,7 @@ fn is_right_after(alloc: Global, n: usize, number: usize, step: Step) -> bool {
 /// The first of some changes that goes wrong, at places below one number and with keys below another.
 fn wrong_step(
     alloc: Global,
-    order: (usize, usize),
+    start: Start,
     changes: &[Change],
     places: usize,
     keys: u64,
@@ -57,7 +60,7 @@ fn wrong_step(
         for place in 0..places {
             for k in 0..keys {
                 let step = (*change, place, k);
-                if !is_right_after(alloc, order.0, order.1, step) {
+                if !is_right_after(alloc, start, step) {
                     return Some(step);
                 }
             }
@@ -66,20 +69,20 @@ fn wrong_step(
     None
 }
 
-/// The first change of n keys in this order that goes wrong.
-fn wrong_change(alloc: Global, n: usize, number: usize) -> Option<Step> {
-    let order = (n, number);
-    wrong_step(alloc, order, &PLAIN, 1, 1)
-        .or(wrong_step(alloc, order, &BY_KEY, 1, 7))
-        .or(wrong_step(alloc, order, &BY_PLACE, n, 1))
-        .or(wrong_step(alloc, order, &BY_BOTH, n, 7))
+/// The first change of such an arena that goes wrong.
+fn wrong_change(alloc: Global, start: Start) -> Option<Step> {
+    wrong_step(alloc, start, &PLAIN, 1, 1)
+        .or(wrong_step(alloc, start, &BY_KEY, 1, 7))
+        .or(wrong_step(alloc, start, &BY_PLACE, start.0, 1))
+        .or(wrong_step(alloc, start, &BY_BOTH, start.0, 7))
 }
 
 #[test]
 fn entries_stand_in_order_and_are_found(rt: HostRuntime) {
     for (n, orders) in &ORDERS {
         for number in 0..*orders {
-            assert!(rt; is_right(rt.alloc(), *n, number));
+            assert!(rt; is_right(rt.alloc(), (*n, number, false)));
+            assert!(rt; is_right(rt.alloc(), (*n, number, true)));
         }
     }
 }
@@ -88,7 +91,16 @@ fn entries_stand_in_order_and_are_found(rt: HostRuntime) {
 fn each_change_does_what_a_vector_does(rt: HostRuntime) {
     for (n, orders) in &ORDERS {
         for number in 0..*orders {
-            assert_eq!(rt; wrong_change(rt.alloc(), *n, number), None);
+            assert_eq!(rt; wrong_change(rt.alloc(), (*n, number, false)), None);
+        }
+    }
+}
+
+#[test]
+fn each_change_of_a_compact_arena_does_what_a_vector_does(rt: HostRuntime) {
+    for (n, orders) in &ORDERS {
+        for number in 0..*orders {
+            assert_eq!(rt; wrong_change(rt.alloc(), (*n, number, true)), None);
         }
     }
 }

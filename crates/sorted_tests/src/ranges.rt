@@ -1,5 +1,5 @@
 //! All bounds of ranges over every order of up to five keys, beside a stretch of the plain vector.
-use crate::beside::{Entry, Numbers, ORDERS, beside_of, gives};
+use crate::beside::{Entry, Numbers, ORDERS, gives, start_of};
 use sorted_arena::{P0, Range};
 use std::alloc::Global;
 use std::ops::Bound;
@@ -67,9 +67,9 @@ fn is_right(arena: &Numbers, entries: &[Entry], from: Bound<u64>, until: Bound<u
     arena.range((from, until)).count() == wanted.len()
 }
 
-/// The first bounds between which an arena of n keys in this order gives anything else than the vector.
-fn wrong_bounds(alloc: Global, n: usize, number: usize) -> Option<(u64, u64)> {
-    let Some(beside) = beside_of(alloc, n, number) else {
+/// The first bounds between which an arena of n keys in this order, compacted or not, gives anything else than the vector.
+fn wrong_bounds(alloc: Global, n: usize, number: usize, is_compact: bool) -> Option<(u64, u64)> {
+    let Some(beside) = start_of(alloc, n, number, is_compact) else {
         return Some((BOUNDS, BOUNDS));
     };
     for from in 0..BOUNDS {
@@ -86,7 +86,8 @@ fn wrong_bounds(alloc: Global, n: usize, number: usize) -> Option<(u64, u64)> {
 fn each_range_gives_its_stretch_from_both_ends(rt: HostRuntime) {
     for (n, orders) in &ORDERS {
         for number in 0..*orders {
-            assert_eq!(rt; wrong_bounds(rt.alloc(), *n, number), None);
+            assert_eq!(rt; wrong_bounds(rt.alloc(), *n, number, false), None);
+            assert_eq!(rt; wrong_bounds(rt.alloc(), *n, number, true), None);
         }
     }
 }

@@ -1,8 +1,11 @@
 -- What a change of the capacity leaves.
-use Rattle.std.proofs.Common.{◌≡◌, ℕ, ◌<◌, ap, subst, ◌∙◌, arith, Result, Ok, Err, OnOk, OnErr, Option, max}
-use Rattle.chain_base.specs.Chain.{with_capacity, greatest_index, IsSound}
+use Rattle.std.proofs.lemmas.Bool.{lt-ltb, le-ltb}
+use Rattle.std.proofs.Common.{refl, ◌≡◌, ℕ, ◌<◌, ◌≤◌, ap, subst, ◌∙◌, arith, Result, Ok, Err, OnOk, OnErr, Option, max}
+use Rattle.arena_base.specs.Arena.{doubled_capacity}
+use Rattle.chain_base.specs.Chain.{chain_limit, with_capacity, greatest_index, IsSound}
 use Rattle.chain_base.proofs.CallerLemmas.{greatest-within}
 use Rattle.ord_tree.specs.Tree.{Tree}
+use Rattle.triple_ord.specs.Arena.{with_room_for}
 
 module _ {T : Type 0} where
   -- the arena with another capacity, if an index of an entry isn't greater
@@ -22,3 +25,16 @@ module _ {T : Type 0} where
       let size : n ≡ new.list.capacity = omega (arith, ap (λ (a : Tree T). a.list.capacity) ok, greatest-within most greatest old.list sound, more) in
       subst P size asked
   resizing-makes most greatest old new n sound more P asked (Err e) ok = tt
+
+  -- if there is room, nothing changes
+  pub reserved-room : (most : ℕ) (a : Tree T) (needed : ℕ) → needed ≤ a.list.capacity → a ≡ record a { list = with_room_for most a.list needed }
+  reserved-room most a needed fits = rw (le-ltb a.list.capacity needed fits) refl
+
+  -- otherwise the arena grows as far as asked for
+  pub reserved-grown : {E : Type 0} (most : ℕ) (greatest : Option ℕ) (old new : Tree T) (n needed : ℕ) → IsSound most greatest old.list → old.list.capacity < needed
+      → n ≡ max needed (doubled_capacity (chain_limit most old.list) old.list.capacity)
+      → (r : Result (Unit {0}) E) → OnOk r (new ≡ resized old n) → OnOk r (new ≡ record old { list = with_room_for most old.list needed })
+  reserved-grown most greatest old new n needed sound more is (Ok u) ok =
+      let size : max n (greatest_index old.list.entries) ≡ max needed (doubled_capacity (chain_limit most old.list) old.list.capacity) = omega (arith, is, greatest-within most greatest old.list sound, more) in
+      ok ∙ ap (λ m. record old { list = with_capacity old.list m }) size ∙ rw (lt-ltb old.list.capacity needed more) refl
+  reserved-grown most greatest old new n needed sound more is (Err e) ok = tt

@@ -1,7 +1,8 @@
 -- An ordered arena as its callers see it: what pointers find in it, and its entries in order. A pointer is the pair of its index and its
 -- generation.
-use Rattle.std.specs.{Prelude.◌≡◌, Prelude.◌≢◌, Prelude.ℕ, Prelude.◌+◌, Prelude.List, Prelude.Option, Prelude.None, Prelude.IsSomeAnd, Prelude.length, Prelude.map, Prelude.slice_get, declared.cmp.Ordering.Ordering}
-use Rattle.chain_base.specs.Chain.{entry_at as entry_among, item_of as item_among}
+use Rattle.std.specs.{Prelude.◌≡◌, Prelude.◌≢◌, Prelude.ℕ, Prelude.◌+◌, Prelude.List, Prelude.max, Prelude.nat_lt, Prelude.if◌then◌else◌, Prelude.Option, Prelude.None, Prelude.IsSomeAnd, Prelude.length, Prelude.map, Prelude.slice_get, declared.cmp.Ordering.Ordering}
+use Rattle.arena_base.specs.Arena.{doubled_capacity}
+use Rattle.chain_base.specs.Chain.{Chain, chain_limit, with_capacity, entry_at as entry_among, item_of as item_among}
 use Rattle.ord_tree.specs.Tree.{Tree}
 use Rattle.triple_ord.specs.Search.{pointer}
 
@@ -25,6 +26,10 @@ module _ {T : Type 0} where
   -- the number of entries
   abbrev pub count : Tree T → ℕ
   count a = length a.list.entries
+
+  -- the list with room for so many entries in all: if its capacity is less, it grows at least as far as an insertion grows it
+  abbrev pub with_room_for : ℕ → Chain T → ℕ → Chain T
+  with_room_for most c needed = if nat_lt c.capacity needed then with_capacity c (max needed (doubled_capacity (chain_limit most c) c.capacity)) else c
 
   -- from old to new, p comes to find `found`, and every other pointer finds what it found before
   pub record Updates (old new : Tree T) (p : ℕ × ℕ) (found : Option T) : Type 0 where

@@ -1,8 +1,9 @@
 //! Insertions of many pairs that are in order.
 
-ghost use Rattle.std.specs.Prelude.{◌≡◌, ◌++◌, ℕ, List, [], Err, IfOk, OnOk, map};
-ghost use Rattle.std.specs.{Ordering.is_gt, Option.option_map_or, Prelude.false};
-ghost use Rattle.sorted_arena.specs.Sorted.{count, item_of, last_item, IsOutOfOrder, Keeps};
+ghost use Rattle.std.specs.Prelude.{◌≡◌, ◌≢◌, ◌≤◌, ◌+◌, ◌++◌, ℕ, true, List, [], Err, IfOk, OnOk, map, length, vec_len};
+ghost use Rattle.std.specs.{Ordering.is_gt, Option.option_map_or, Prelude.false, List.AllAdjacentBelow};
+ghost use Rattle.std.specs.declared.cmp.Ordering.TheVariants.{Greater};
+ghost use Rattle.sorted_arena.specs.Sorted.{count, item_of, last_item, AreInOrder, IsOutOfOrder, Keeps};
 
 use super::SortedArena;
 use crate::error::SortedError;
@@ -12,6 +13,9 @@ use triple_ord::{BasePtr, ReallocationError};
 impl<K: Ord + Drop, V: Drop, P: BasePtr, A: Allocator> SortedArena<K, V, P, A> {
     /// Inserts pairs that are in order behind all entries. One comparison and amortized O(1) for each.
     ///
+    /// If there are at least as many as entries, and all are in order and get room, they are appended at once, and the tree is built anew. Otherwise
+    /// they are inserted one after another.
+    ///
     /// # Errors
     ///
     /// The pairs before the refused one are inserted; it and the rest are dropped. Old pointers stay valid.
@@ -19,6 +23,86 @@ impl<K: Ord + Drop, V: Drop, P: BasePtr, A: Allocator> SortedArena<K, V, P, A> {
     /// - `BeyondMaxCapacity`: there are as many entries as pointers have indexes now.
     /// - `AllocError`: the arena is full now, and growing failed.
     pub fn extend_sorted<B: Allocator>(&mut self, pairs: Vec<(K, V), B>) -> Result<(), SortedError>
+        ensures ok { OnOk result
+            (map item_of self.new.entries ≡ map item_of self.old.entries ++ pairs.items) }
+        ensures unsorted { (at : ℕ) → result ≡ Err (SortedError.OutOfOrder at)
+            → IsOutOfOrder K.cmp (map item_of self.old.entries) pairs.items at }
+        ensures part { (front : List (K × V)) × (back : List (K × V))
+            × (pairs.items ≡ front ++ back)
+            × (map item_of self.new.entries ≡ map item_of self.old.entries ++ front) }
+        ensures kept { Keeps self.old self.new }
+        ensures generation { self.new.generation ≡ self.old.generation }
+        ensures full { result ≡ Err SortedError.BeyondMaxCapacity
+            → count self.new ≡ P.Inx.most }
+        ensures memory { result ≡ Err SortedError.AllocError
+            → count self.new ≡ self.new.capacity }
+    {
+        if self.is_made_ready(&pairs) {
+            self.append_sorted(pairs);
+            return Ok(());
+        }
+        self.insert_sorted(pairs)
+    }
+
+    /// Creates an arena of pairs that are in order. One comparison and amortized O(1) for each.
+    ///
+    /// # Errors
+    ///
+    /// Those of [`extend_sorted`](Self::extend_sorted); the pairs are dropped.
+    pub fn from_sorted<B: Allocator>(alloc: A, pairs: Vec<(K, V), B>) -> Result<Self, SortedError>
+    where
+        A: Copy,
+        ensures ok { IfOk result (λ a. map item_of a.entries ≡ pairs.items) }
+        ensures unsorted { (at : ℕ) → result ≡ Err (SortedError.OutOfOrder at)
+            → IsOutOfOrder K.cmp [] pairs.items at }
+    {
+        let mut arena = SortedArena::new(alloc);
+        match arena.extend_sorted(pairs) {
+            Ok(()) => Ok(arena),
+            Err(refusal) => Err(refusal),
+        }
+    }
+
+    // Makes room for pairs that can be appended at once: at least as many as there are entries, in order, and none with a smaller key than
+    // the last. Returns whether there is.
+    fn is_made_ready(&mut self, pairs: &[(K, V)]) -> bool
+        ensures entries { self.new.entries ≡ self.old.entries }
+        ensures generation { self.new.generation ≡ self.old.generation }
+        ensures room { result ≡ true → count self.new + length pairs.now ≤ self.new.capacity }
+        ensures order { result ≡ true
+            → AreInOrder K.cmp (map item_of self.new.entries ++ pairs.now) }
+    {
+        self.len() <= pairs.len() && self.is_continued(pairs) && self.reserve(pairs.len()).is_ok()
+    }
+
+    // Whether pairs are in order, and the first has no smaller key than the last entry.
+    fn is_continued(&self, pairs: &[(K, V)]) -> bool
+        ensures { result ≡ true → AreInOrder K.cmp (map item_of self.now.entries ++ pairs.now) }
+    {
+        // with its length an arena tells what holds of it
+        let _ = self.len();
+        match pairs.first() {
+            Some(first) => !self.is_last_greater(&first.0) && are_sorted(pairs),
+            None => true,
+        }
+    }
+
+    // Appends pairs that are in order behind all entries, where they have room.
+    fn append_sorted<B: Allocator>(&mut self, pairs: Vec<(K, V), B>)
+        requires room { count self.old + vec_len pairs ≤ self.old.capacity }
+        requires order { AreInOrder K.cmp (map item_of self.old.entries ++ pairs.items) }
+        ensures items { map item_of self.new.entries
+            ≡ map item_of self.old.entries ++ pairs.items }
+        ensures kept { Keeps self.old self.new }
+        ensures generation { self.new.generation ≡ self.old.generation }
+    {
+        // with its length an arena tells what holds of its list
+        let _ = self.pairs.len();
+        let _ = self.pairs.append_pairs_within_capacity(pairs);
+    }
+
+    // Inserts pairs one after another behind all entries, up to the first that is out of order or has no room.
+    fn insert_sorted<B: Allocator>(&mut self, pairs: Vec<(K, V), B>) -> Result<(), SortedError>
         ensures ok { OnOk result
             (map item_of self.new.entries ≡ map item_of self.old.entries ++ pairs.items) }
         ensures unsorted { (at : ℕ) → result ≡ Err (SortedError.OutOfOrder at)
@@ -49,25 +133,6 @@ impl<K: Ord + Drop, V: Drop, P: BasePtr, A: Allocator> SortedArena<K, V, P, A> {
         Ok(())
     }
 
-    /// Creates an arena of pairs that are in order. One comparison and amortized O(1) for each.
-    ///
-    /// # Errors
-    ///
-    /// Those of [`extend_sorted`](Self::extend_sorted); the pairs are dropped.
-    pub fn from_sorted<B: Allocator>(alloc: A, pairs: Vec<(K, V), B>) -> Result<Self, SortedError>
-    where
-        A: Copy,
-        ensures ok { IfOk result (λ a. map item_of a.entries ≡ pairs.items) }
-        ensures unsorted { (at : ℕ) → result ≡ Err (SortedError.OutOfOrder at)
-            → IsOutOfOrder K.cmp [] pairs.items at }
-    {
-        let mut arena = SortedArena::new(alloc);
-        match arena.extend_sorted(pairs) {
-            Ok(()) => Ok(arena),
-            Err(refusal) => Err(refusal),
-        }
-    }
-
     // Whether the last key is greater than `k`.
     fn is_last_greater(&self, k: &K) -> bool
         ensures { result
@@ -83,4 +148,17 @@ impl<K: Ord + Drop, V: Drop, P: BasePtr, A: Allocator> SortedArena<K, V, P, A> {
             None => false,
         }
     }
+}
+
+// Whether no key is greater than the next.
+fn are_sorted<K: Ord, V>(pairs: &[(K, V)]) -> bool
+    ensures { result ≡ true → AllAdjacentBelow (λ x y. K.cmp x.0 y.0 ≢ Greater)
+        pairs.now (length pairs.now) }
+{
+    for i in 1..pairs.len() {
+        if pairs[i - 1].0.cmp(&pairs[i].0).is_gt() {
+            return false;
+        }
+    }
+    true
 }

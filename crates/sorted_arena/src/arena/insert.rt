@@ -7,7 +7,7 @@ ghost use Rattle.sorted_arena.specs.Sorted.{IsAbsent, Inserts, InsertsOrReplaces
 
 use super::SortedArena;
 use crate::error::UniqueInsertionError;
-use crate::pairs::put;
+use crate::pairs::{is_last_in, put};
 use std::alloc::Allocator;
 use triple_ord::{BasePtr, ReallocationError};
 
@@ -38,6 +38,7 @@ impl<K: Ord + Drop, V: Drop, P: BasePtr, A: Allocator> SortedArena<K, V, P, A> {
         ensures sound { OnOk result (IsSound K.cmp P.Inx.most self.new) }
     {
         let p = put(&mut self.pairs, k, v)?;
+        self.is_compact = self.is_compact && is_last_in(&self.pairs, p);
         // with its length an arena tells what holds of it
         let _ = self.len();
         Ok(p)

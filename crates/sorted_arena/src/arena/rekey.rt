@@ -33,6 +33,7 @@ impl<K: Ord, V, P: BasePtr, A: Allocator> SortedArena<K, V, P, A> {
         // with its length an arena tells what holds of its list
         let _ = self.pairs.len();
         let rekeyed = self.pairs.rekey_pair(p, k);
+        self.is_compact = self.is_compact && rekeyed.is_err();
         let _ = self.len();
         rekeyed
     }

@@ -11,6 +11,7 @@ ghost use Rattle.sorted_arena.specs.Answer.{AnswersAt};
 ghost use Rattle.sorted_arena.specs.Sorted.{with_left, with_rest, without, IsAbsent, IsSound, Updates};
 
 use super::SortedArena;
+use crate::pairs::is_last_in;
 use std::alloc::{AllocError, Allocator};
 use std::ops::Bound;
 use triple_ord::BasePtr;
@@ -28,7 +29,9 @@ impl<K: Ord, V, P: BasePtr, A: Allocator> SortedArena<K, V, P, A> {
     {
         // with its length an arena tells what holds of its list
         let _ = self.pairs.len();
+        let stays_compact = self.is_compact && is_last_in(&self.pairs, p);
         let pair = self.pairs.remove(p).allow()?;
+        self.is_compact = stays_compact;
         let _ = self.len();
         Some(pair.into_k_v())
     }

@@ -3,7 +3,7 @@ ghost use Rattle.std.specs.Prelude.{◌≡◌, ◌+◌, ◌≤◌, ◌<◌, ◌�
 ghost use Rattle.arena_base.specs.Arena.{capacity_for};
 ghost use Rattle.chain_base.specs.Chain.{new_chain, with_capacity, greatest_index, chain_limit};
 ghost use Rattle.ord_tree.specs.Shape.{missing};
-ghost use Rattle.triple_ord.specs.Arena.{count, FindSame};
+ghost use Rattle.triple_ord.specs.Arena.{count, with_room_for, FindSame};
 
 use super::SimpleOrdArena;
 use arena_base::{BasePtr, MaxCapacityReductionError, ReallocationError, doubled_capacity};
@@ -74,6 +74,10 @@ impl<P: BasePtr, T, A: Allocator> SimpleOrdArena<P, T, A> {
     /// - `AllocError`: growing failed.
     pub fn reserve(&mut self, additional: usize) -> Result<(), ReallocationError>
         ensures found { FindSame self.old self.new }
+        ensures count { count self.new ≡ count self.old }
+        ensures ok { OnOk result (self.new ≡ record self.old {
+          list = with_room_for P.Inx.most self.old.list (count self.old + additional);
+        }) }
         ensures entries { self.new.list.entries ≡ self.old.list.entries }
         ensures generation { self.new.list.generation ≡ self.old.list.generation }
         ensures maximum { self.new.list.maximum ≡ self.old.list.maximum }

@@ -1,5 +1,5 @@
 //! Compressions, the canonical order and transfers.
-use super::{Keys, at, has_ranks, keys};
+use super::{Keys, at, has_keys, has_ranks, keys};
 use arena_base::{BasePtr, InvalidationOption, P0, P8};
 use std::alloc::Global;
 use triple_ord::{OrdPair, SimpleOrdArena};
@@ -38,6 +38,33 @@ fn ranks_of_seven_keys(rt: HostRuntime) {
     let mut seven = keys(rt.alloc(), &[1, 2, 3, 4, 5, 6, 7]);
     seven.compress(true).allow();
     assert!(rt; has_ranks(&seven, SEVEN.as_slice()));
+}
+
+/// Appends keys, each with a value that says nothing. Answers how many came back.
+fn appended(a: &mut Keys, alloc: Global, list: &[u64]) -> usize {
+    let mut pairs = Vec::new(alloc);
+    for key in list {
+        let _ = pairs.push((*key, ()));
+    }
+    match a.append_pairs_within_capacity(pairs) {
+        Ok(()) => 0,
+        Err(given) => given.len(),
+    }
+}
+
+#[test]
+fn four_keys_behind_three(rt: HostRuntime) {
+    let mut a = keys(rt.alloc(), &[1, 2, 9, 3]);
+    let _ = a.remove(at(3));
+    assert!(rt; appended(&mut a, rt.alloc(), &[4, 5]) == 2 && has_keys(&a, &[1, 2, 3]));
+    let _ = a.reallocate_min_capacity(7);
+    // the freed slot first, then those that were never used; the generation rose once
+    assert!(rt; appended(&mut a, rt.alloc(), &[4, 5, 6, 7]) == 0);
+    assert!(rt; has_ranks(&a, &[(1, 1), (2, 3), (4, 1), (3, 4), (5, 1), (6, 3), (7, 1)]));
+    assert!(rt; a.find_key(&4) == Some(P0::_from_raw(3, 3)) && a.find_key(&2) == Some(at(2)));
+    // none: the tree stays as it is
+    assert!(rt; appended(&mut a, rt.alloc(), &[]) == 0 && a.len() == 7);
+    assert!(rt; appended(&mut a, rt.alloc(), &[8]) == 1 && a.len() == 7);
 }
 
 /// Keys with 8-bit pointers, which name 254 entries.

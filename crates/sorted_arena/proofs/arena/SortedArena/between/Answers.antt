@@ -1,19 +1,17 @@
-use Rattle.std.proofs.Common.{◌≡◌, ap, length, arith}
+use Rattle.std.proofs.Common.{◌∙◌, ap, length, arith}
 use Rattle.std.specs.Range.Bound.{bound_map}
-use Rattle.sorted_arena.specs.{Sorted.Sorted, Range.shown_entry}
+use Rattle.sorted_arena.specs.Range.{shown_entry}
 use Rattle.sorted_arena.proofs.Ranging.{ranges, gives_in_order, gives_in_reverse, fewer-between}
 use Rattle.sorted_arena.proofs.arena.SortedArena.between.Goals as goal
 
-pub invariant_of-result : goal.invariant_of-result
-invariant_of-result g c =
-    let listed : c.args.self.now.entries ≡ c.pairs.result.now.list.entries = ap (λ (a : Sorted g.row.K.Denot g.row.V.Denot). a.entries) c.pairs.ensures.view in
-    rw (c.inx_of.ensures, c.inx_of-2.ensures, ← listed) (ranges g.K.Ord.cmp g.met.K.Ord.total c.args.self.now.entries c.len.ensures.sound.distinct c.len.ensures.sound.sorted _ _
+pub from_until-requires : goal.from_until-requires
+from_until-requires g c =
+    (ranges g.K.Ord.cmp g.met.K.Ord.total c.args.self.now.entries c.len.ensures.sound.distinct c.len.ensures.sound.sorted _ _
     g.P.BasePtr.numbers _ _ (record { past = c.first_past-end.ensures; forward = c.first_before-first.ensures.forward; backward = c.first_before-first.ensures.backward })).stands
 
 pub returns-clause-entries : goal.returns-clause-entries
 returns-clause-entries g c =
-    let listed : c.args.self.now.entries ≡ c.pairs.result.now.list.entries = ap (λ (a : Sorted g.row.K.Denot g.row.V.Denot). a.entries) c.pairs.ensures.view in
-    rw (c.inx_of.ensures, c.inx_of-2.ensures, ← listed) (ranges g.K.Ord.cmp g.met.K.Ord.total c.args.self.now.entries c.len.ensures.sound.distinct c.len.ensures.sound.sorted _ _
+    c.from_until.ensures ∙ (ranges g.K.Ord.cmp g.met.K.Ord.total c.args.self.now.entries c.len.ensures.sound.distinct c.len.ensures.sound.sorted _ _
     g.P.BasePtr.numbers _ _ (record { past = c.first_past-end.ensures; forward = c.first_before-first.ensures.forward; backward = c.first_before-first.ensures.backward })).gives
 
 pub returns-clause-runs : goal.returns-clause-runs

@@ -7,16 +7,16 @@ use Rattle.sorted_arena.proofs.arena.SortedArena.find_counted.Goals as goal
 pub returns-clause-value : goal.returns-clause-value
 returns-clause-value g c =
     let es = c.self.inside.pairs.list.entries in
-    rw (← c.self.view_is) (found-equal g.K.Ord.cmp g.met.K.Ord.total c.args.k.now es (sorted-in_order g.K.Ord.cmp es c.self.invariant.sorted) _ c.find_key_counted.result.1 c.find_key_counted.ensures.found)
+    rw (← c.self.view_is) (found-equal g.K.Ord.cmp g.met.K.Ord.total c.args.k.now es (sorted-in_order g.K.Ord.cmp es c.self.invariant.order.sorted) _ c.find_key_counted.result.1 c.find_key_counted.ensures.found)
 
 pub returns-clause-none : goal.returns-clause-none
 returns-clause-none g c =
     let es = c.self.inside.pairs.list.entries in
-    rw (← c.self.view_is) (absent-equal g.K.Ord.cmp g.met.K.Ord.total c.args.k.now es (sorted-in_order g.K.Ord.cmp es c.self.invariant.sorted) g.P.BasePtr.numbers c.find_key_counted.result.0 c.find_key_counted.result.1 c.find_key_counted.ensures.found)
+    rw (← c.self.view_is) (absent-equal g.K.Ord.cmp g.met.K.Ord.total c.args.k.now es (sorted-in_order g.K.Ord.cmp es c.self.invariant.order.sorted) g.P.BasePtr.numbers c.find_key_counted.result.0 c.find_key_counted.result.1 c.find_key_counted.ensures.found)
 
 pub returns-clause-finds : goal.returns-clause-finds
 returns-clause-finds g c =
     let es = c.self.inside.pairs.list.entries in
     rw (← c.self.view_is) (found-where es c.len.ensures.sound.distinct (λ l. is_eq (g.K.Ord.cmp c.args.k.now l)) (λ l. g.K.Ord.cmp c.args.k.now l ≡ Equal) (λ l. eq_is (g.K.Ord.cmp c.args.k.now l))
     g.P.BasePtr.numbers c.find_key_counted.result.0
-    (found-equal g.K.Ord.cmp g.met.K.Ord.total c.args.k.now es (sorted-in_order g.K.Ord.cmp es c.self.invariant.sorted) _ c.find_key_counted.result.1 c.find_key_counted.ensures.found))
+    (found-equal g.K.Ord.cmp g.met.K.Ord.total c.args.k.now es (sorted-in_order g.K.Ord.cmp es c.self.invariant.order.sorted) _ c.find_key_counted.result.1 c.find_key_counted.ensures.found))

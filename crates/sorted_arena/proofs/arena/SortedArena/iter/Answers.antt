@@ -1,18 +1,14 @@
-use Rattle.std.proofs.Common.{◌≡◌, ap, length, arith}
-use Rattle.sorted_arena.specs.{Sorted.Sorted, Range.shown_entry}
+use Rattle.std.proofs.Common.{◌∙◌, ap, length, arith}
+use Rattle.sorted_arena.specs.Range.{shown_entry}
 use Rattle.sorted_arena.proofs.Stretching.{whole-stretch, whole-stretched}
 use Rattle.sorted_arena.proofs.Ranging.{gives_in_order, gives_in_reverse}
 use Rattle.sorted_arena.proofs.arena.SortedArena.iter.Goals as goal
 
-pub invariant_of-result : goal.invariant_of-result
-invariant_of-result g c =
-    let listed : c.args.self.now.entries ≡ c.pairs-pairs.result.now.list.entries = ap (λ (a : Sorted g.row.K.Denot g.row.V.Denot). a.entries) c.pairs-pairs.ensures.view in
-    rw (c.inx_of.ensures, c.first.ensures, ← listed) (whole-stretch c.args.self.now.entries c.len.ensures.sound.distinct)
+pub from_until-requires : goal.from_until-requires
+from_until-requires g c = rw c.first.ensures.value (whole-stretch c.args.self.now.entries c.len.ensures.sound.distinct)
 
 pub returns-clause-entries : goal.returns-clause-entries
-returns-clause-entries g c =
-    let listed : c.args.self.now.entries ≡ c.pairs-pairs.result.now.list.entries = ap (λ (a : Sorted g.row.K.Denot g.row.V.Denot). a.entries) c.pairs-pairs.ensures.view in
-    rw (c.inx_of.ensures, c.first.ensures, ← listed) (whole-stretched c.args.self.now.entries c.len.ensures.sound.distinct)
+returns-clause-entries g c = c.from_until.ensures ∙ rw c.first.ensures.value (whole-stretched c.args.self.now.entries c.len.ensures.sound.distinct)
 
 pub returns-clause-runs : goal.returns-clause-runs
 returns-clause-runs g c = gives_in_order (shown_entry g.P.BasePtr.numbers)

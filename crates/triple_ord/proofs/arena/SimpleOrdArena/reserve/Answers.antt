@@ -2,7 +2,7 @@ use Rattle.std.proofs.Common.{◌≡◌, ◌+◌, ◌≤◌, ℕ, length, refl, 
 use Rattle.std.proofs.lemmas.Bool.Decides.{nat_tests}
 use Rattle.arena_base.specs.Arena.{capacity_for}
 use Rattle.chain_base.specs.Chain.{chain_limit}
-use Rattle.triple_ord.proofs.Room.{resizing-keeps, resizing-makes}
+use Rattle.triple_ord.proofs.Room.{resizing-keeps, resizing-makes, reserved-room, reserved-grown}
 use Rattle.triple_ord.proofs.arena.SimpleOrdArena.reserve.Goals as goal
 
 pub returns-clause-entries : goal.returns-clause-entries
@@ -40,3 +40,16 @@ returns-clause-capacity g c =
     resizing-makes g.P.Inx.BasePtrInx.most g.P.Gen.BasePtrGen.greatest a c.reallocate_min_capacity.new.self c.max.result c.len.ensures.sound
     (omega (arith, c.if-needed-capacity.false, c.capacity-capacity.ensures)) (λ n. n ≡ capacity_for limit a.list.capacity (length a.list.entries + c.args.additional))
     (grind (arith, nat_tests, sum)) c.reallocate_min_capacity.result c.reallocate_min_capacity.ensures.ok
+
+pub returns-then-needed-capacity-clause-ok : goal.returns-then-needed-capacity-clause-ok
+returns-then-needed-capacity-clause-ok g c =
+    let a = c.args.self.now in
+    reserved-room g.P.Inx.BasePtrInx.most a (length a.list.entries + c.args.additional)
+    (omega (arith, c.if-needed-capacity.true, c.capacity-capacity.ensures, c.in-Some.ensures, c.len.ensures.value))
+
+pub returns-clause-ok : goal.returns-clause-ok
+returns-clause-ok g c =
+    let a = c.args.self.now in
+    let sum : c.in-Some.needed ≡ length a.list.entries + c.args.additional = omega (arith, c.in-Some.ensures, c.len.ensures.value) in
+    reserved-grown g.P.Inx.BasePtrInx.most g.P.Gen.BasePtrGen.greatest a c.reallocate_min_capacity.new.self c.max.result (length a.list.entries + c.args.additional) c.len.ensures.sound
+    (omega (arith, c.if-needed-capacity.false, c.capacity-capacity.ensures, sum)) (grind (arith, sum)) c.reallocate_min_capacity.result c.reallocate_min_capacity.ensures.ok

@@ -1,7 +1,7 @@
 use Rattle.std.proofs.Common.{◌≡◌, ◌++◌, map, length}
 use Rattle.std.specs.Vec.Iter.{into_iter_items, into_iter_len}
 use Rattle.sorted_arena.specs.Sorted.{item_of, Keeps}
-use Rattle.sorted_arena.proofs.arena.SortedArena.extend_sorted.Given as goal
+use Rattle.sorted_arena.proofs.arena.SortedArena.insert_sorted.Given as goal
 
 -- the pairs so far stand behind what was there, which stays, and the others are to come
 abbrev pub invariant-loop-k : goal.invariant-loop-k
