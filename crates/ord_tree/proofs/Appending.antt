@@ -1,55 +1,32 @@
 -- Appending: an entry behind the last one, and one more item of many.
-use Rattle.std.proofs.Common.{◌≡◌, ◌≢◌, ℕ, ◌+◌, ◌≤◌, Some, List, [], ◌∷◌, ◌++◌, map, refl, sym, ◌∙◌, ap, subst, arith, is_some, true, length, length-append, Result, Ok, Err, ◌<◌}
-use Rattle.std.proofs.{lemmas.Grind.common_steps}
+use Rattle.std.proofs.Common.{◌≡◌, ℕ, ◌+◌, List, [], ◌∷◌, ◌++◌, map, refl, ap, subst, arith, length, length-append, Result, Ok, Err, ◌<◌}
 use Rattle.std.specs.{List.AllZip, Prelude.IfOk, Prelude.IsErr, Prelude.◌↔◌}
 use Rattle.std.proofs.lemmas.List.{map-append}
-use Rattle.chain_base.specs.Chain.{Entry, Chain, entry_at, times, IsDistinct, last_pointer, insert_after}
-use Rattle.chain_base.proofs.CallerLemmas.{occurs-entry}
+use Rattle.chain_base.specs.Chain.{Entry, Chain}
 use Rattle.chain_base.specs.Insert.{IsInsertion}
 use Rattle.ord_tree.specs.{declared.node.SimpleOrdArenaNode.SimpleOrdArenaNode as Node, Node.bare_entry, Node.bare, Append.Appends, Append.AppendsOne}
 use Rattle.ord_tree.proofs.Grown.{IsInsertion-bare, inserted-entries}
 
 module _ {T : Type 0} where
-  times-last : (es : List (Entry T)) (p : ℕ × ℕ) → Some p ≡ last_pointer es → 1 ≤ times p.0 es
-  times-last [] p last = absurd cc
-  times-last (e ∷ []) p last = grind (arith, common_steps)
-  times-last (e ∷ f ∷ es) p last = let rest = times-last (f ∷ es) p last in omega arith
-
-  -- the last pointer is that of an entry
-  pub last-occupied : (es : List (Entry T)) (p : ℕ × ℕ) → Some p ≡ last_pointer es → is_some (entry_at es p.0) ≡ true
-  last-occupied es p last = occurs-entry es p.0 (times-last es p last)
-
-  -- directly after the last entry is behind all entries
-  pub insert_after-last : (es : List (Entry T)) (p : ℕ × ℕ) (new : Entry T) → IsDistinct es → Some p ≡ last_pointer es → insert_after p.0 new es ≡ es ++ new ∷ []
-  insert_after-last [] p new distinct last = absurd cc
-  insert_after-last (e ∷ []) p new distinct last = grind (arith, common_steps)
-  insert_after-last (e ∷ f ∷ es) p new distinct last =
-      let rest = times-last (f ∷ es) p last in
-      let once = distinct p.0 in
-      let below : IsDistinct (f ∷ es) = λ j. let h = distinct j in omega arith in
-      let more = insert_after-last (f ∷ es) p new below last in
-      grind (arith, common_steps)
-
   -- one more item
   pub Appends-more : (old middle new : Chain T) (ts : List T) (t : T) (p : ℕ × ℕ) → Appends old ts middle → AppendsOne middle t p new → Appends old (ts ++ t ∷ []) new
   Appends-more old middle new [] t p before one = (new, p, subst (λ (c : Chain T). AppendsOne c t p new) before one, refl)
   Appends-more old middle new (u ∷ ts) t p before one = (before.0, before.1, before.2, Appends-more before.0 middle new ts t p before.3 one)
 
 -- an insertion behind all entries that isn't refused appends one item to the list without the nodes
-module _ {P T I G Q E : Type 0} (numbers : Q → ℕ × ℕ) (old new : Chain (Node P T I G)) (place : Entry (Node P T I G) → List (Entry (Node P T I G))) (leaf : Node P T I G)
-    (behind : (e : Entry (Node P T I G)) → place e ≡ old.entries ++ e ∷ []) (room : length old.entries < old.capacity) where
-  pub appended : (r : Result Q E) → IfOk r (λ p. IsInsertion old new place leaf (numbers p).0 (numbers p).1) → (IsErr r ↔ (length old.entries ≡ old.capacity))
+module _ {P T I G Q E : Type 0} (numbers : Q → ℕ × ℕ) (old new : Chain (Node P T I G)) (leaf : Node P T I G) (room : length old.entries < old.capacity) where
+  pub appended : (r : Result Q E) → IfOk r (λ p. IsInsertion old new (λ e. old.entries ++ e ∷ []) leaf (numbers p).0 (numbers p).1) → (IsErr r ↔ (length old.entries ≡ old.capacity))
       → (p : ℕ × ℕ) × AppendsOne (bare old) leaf.t p (bare new)
   appended (Err e) ok full = absurd (let none = full.0 refl in omega arith)
   appended (Ok p) ok full =
-      (numbers p, IsInsertion-bare old new new place (λ e. map bare_entry old.entries ++ e ∷ []) leaf (numbers p).0 (numbers p).1 (λ e. ap (map bare_entry) (behind e) ∙ map-append bare_entry old.entries (e ∷ [])) refl ok)
+      (numbers p, IsInsertion-bare old new new (λ e. old.entries ++ e ∷ []) (λ e. map bare_entry old.entries ++ e ∷ []) leaf (numbers p).0 (numbers p).1 (λ e. map-append bare_entry old.entries (e ∷ [])) refl ok)
 
-  pub appended-count : (r : Result Q E) → IfOk r (λ p. IsInsertion old new place leaf (numbers p).0 (numbers p).1) → (IsErr r ↔ (length old.entries ≡ old.capacity))
+  pub appended-count : (r : Result Q E) → IfOk r (λ p. IsInsertion old new (λ e. old.entries ++ e ∷ []) leaf (numbers p).0 (numbers p).1) → (IsErr r ↔ (length old.entries ≡ old.capacity))
       → length new.entries ≡ length old.entries + 1
   appended-count (Err e) ok full = absurd (let none = full.0 refl in omega arith)
   appended-count (Ok p) ok full =
       let e : Entry (Node P T I G) = record { index = (numbers p).0; generation = (numbers p).1; item = leaf } in
-      let is = inserted-entries old new place e ok ∙ behind e in
+      let is = inserted-entries old new (λ e. old.entries ++ e ∷ []) e ok in
       omega (arith, ap length is, length-append old.entries (e ∷ []))
 
 pub AllZip-more : {A B : Type 0} (R : A → B → Type 0) (xs : List A) (ys : List B) (x : A) (y : B) → AllZip R xs ys → R x y → AllZip R (xs ++ x ∷ []) (ys ++ y ∷ [])

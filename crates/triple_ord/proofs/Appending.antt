@@ -1,8 +1,8 @@
 -- An append of many items, one after another: what the list and the pointers are then.
 use Rattle.ord_tree.specs.Append.{AppendsOne, Appends}
 use Rattle.triple_ord.specs.Append.{Extends}
-use Rattle.triple_ord.proofs.Words.{◌≡◌, ◌≢◌, ℕ, ◌+◌, List, [], ◌∷◌, ◌++◌, Option, Some, None, IsSome, is_some, true, map, length, length-map, length-append, append-nil, append_assoc, refl, sym, ap, subst, ◌∙◌, arith, inl, inr, cases_eq, Result, Ok, Err}
-use Rattle.triple_ord.proofs.Words.{Entry, Chain, Tree, Gap, with_between, missing, after-insertion, item_of, items, count, Updates}
+use Rattle.triple_ord.proofs.Words.{◌≡◌, ◌≢◌, ℕ, ◌+◌, List, [], ◌∷◌, ◌++◌, Some, None, is_some, true, map, length, length-map, length-append, append-nil, append_assoc, refl, sym, ap, subst, ◌∙◌, arith, inl, inr, cases_eq, Result, Ok, Err}
+use Rattle.triple_ord.proofs.Words.{Entry, Chain, Tree, missing, after-insertion, item_of, items, count, Updates}
 use Rattle.triple_ord.proofs.CallerLemmas.{inserted-new}
 use Rattle.std.proofs.lemmas.List.{map-append}
 use Rattle.std.specs.{List.AllZip, Prelude.OnOk, Prelude.OnErr}

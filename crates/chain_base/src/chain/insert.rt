@@ -1,5 +1,5 @@
 //! Insertions.
-ghost use Rattle.std.specs.Prelude.{◌≡◌, ◌≤◌, ◌↔◌, ◌⊎◌, Some, IsErr, IfOk, IfErr, OnErr, length};
+ghost use Rattle.std.specs.Prelude.{◌≡◌, ◌≤◌, ◌↔◌, ◌⊎◌, ◌++◌, ◌∷◌, [], Some, IsErr, IfOk, IfErr, OnErr, length};
 ghost use Rattle.std.specs.Option.{option_map};
 ghost use Rattle.chain_base.specs.Chain.{chain_limit, with_room};
 ghost use Rattle.chain_base.specs.Insert.{placed, CanPlace, IsInsertion, PutsBetween};
@@ -53,6 +53,37 @@ impl<P: BasePtr, T: Drop, A: Allocator> ChainArena<P, T, A> {
             new,
             new,
             next,
+            &mut self.first,
+            &mut self.last,
+        );
+        Ok(p)
+    }
+
+    /// Inserts `t` behind the last entry, as `insert_within_capacity` does at a place, and returns its pointer.
+    ///
+    /// # Errors
+    ///
+    /// The chain is unchanged and `t` is dropped.
+    /// - `NotWithinCapacity`: no slot is vacant.
+    #[inline(always)]
+    pub fn push_back_within_capacity(&mut self, t: T) -> Result<P, InsertionError>
+        ensures ok { IfOk result (λ p. IsInsertion self.old self.new
+            (λ e. self.old.entries ++ e ∷ []) t (P.numbers p).0 (P.numbers p).1) }
+        ensures full { IsErr result ↔ (length self.old.entries ≡ self.old.capacity) }
+        ensures refusal { IfErr result (λ e. e ≡ InsertionError.NotWithinCapacity) }
+        ensures err { OnErr result (self.new ≡ self.old) }
+    {
+        let last = self.last;
+        let p = self
+            .arena
+            .insert_within_capacity(LinkNoGen::new((last, None), t))?;
+        let new = Some(p.inx());
+        relink(
+            &mut self.arena,
+            last,
+            new,
+            new,
+            None,
             &mut self.first,
             &mut self.last,
         );

@@ -1,9 +1,7 @@
 //! Appending many items at once.
 
-ghost use Rattle.std.specs.Prelude.{◌≡◌, ◌↔◌, ◌+◌, ◌<◌, ◌≤◌, ◌++◌, ℕ, List, [], ◌∷◌, length, vec_len, IsErr, IfErr, OnOk, OnErr};
+ghost use Rattle.std.specs.Prelude.{◌≡◌, ◌↔◌, ◌+◌, ◌<◌, ◌≤◌, ℕ, List, [], length, vec_len, IsErr, IfErr, OnOk, OnErr};
 ghost use Rattle.std.specs.List.{AllZip};
-ghost use Rattle.chain_base.specs.Chain.{Entry};
-ghost use Rattle.chain_base.specs.Insert.{placed, CanPlace};
 ghost use Rattle.ord_tree.specs.Append.{Appends, AppendsOne};
 ghost use Rattle.ord_tree.specs.Half.{IsRebuilt};
 ghost use Rattle.ord_tree.specs.Node.{bare};
@@ -12,7 +10,7 @@ use super::OrdTree;
 use super::rebuild::rebuild_over;
 use crate::node::SimpleOrdArenaNode;
 use arena_base::BasePtr;
-use chain_base::{ChainArena, LinkInsertKind};
+use chain_base::ChainArena;
 use std::alloc::Allocator;
 
 impl<P: BasePtr, T: Drop, A: Allocator> OrdTree<P, T, A> {
@@ -77,23 +75,5 @@ fn append_one<P: BasePtr, T: Drop, A: Allocator>(
     ensures count { length chain.new.entries ≡ length chain.old.entries + 1 }
     ensures capacity { chain.new.capacity ≡ chain.old.capacity }
 {
-    let kind = kind_behind(chain);
-    let _ = chain.insert_within_capacity(kind, SimpleOrdArenaNode::leaf(None, t));
-}
-
-// The place behind all entries.
-#[inline(always)]
-fn kind_behind<P: BasePtr, T, A: Allocator>(
-    chain: &ChainArena<P, SimpleOrdArenaNode<P, T>, A>,
-) -> LinkInsertKind<P>
-    ensures there { CanPlace P.Inx.number result chain.now }
-    ensures place { (e : Entry (SimpleOrdArenaNode P T P.Inx P.Gen)) → placed P.Inx.number result chain.now.entries e
-        ≡ chain.now.entries ++ e ∷ [] }
-{
-    // For the prover: the list is sound.
-    let _ = chain.len();
-    match chain.last() {
-        Some(last) => LinkInsertKind::NextToInx(last.inx()),
-        None => LinkInsertKind::Disconnected,
-    }
+    let _ = chain.push_back_within_capacity(SimpleOrdArenaNode::leaf(None, t));
 }

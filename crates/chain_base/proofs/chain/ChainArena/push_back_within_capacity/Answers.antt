@@ -1,0 +1,35 @@
+use Rattle.std.proofs.{Common.◌++◌, Common.◌∷◌, Common.[], Common.ap, Common.inl, Common.refl, Common.option_map, Common.arith, lemmas.List.append-nil, lemmas.Grind.common_steps}
+use Rattle.std.proofs.Common.{◌≡◌, sym, None, Option, ℕ, List}
+use Rattle.chain_base.specs.{Chain.Entry, Chain.last_or, Insert.PutsBetween}
+use Rattle.chain_base.proofs.Calls.{beside-inserted, Inserts-linked}
+use Rattle.chain_base.proofs.chain.ChainArena.push_back_within_capacity.Goals as goal
+
+-- the place behind all entries
+behind : {T : Type 0} (es : List (Entry T)) (last : Option ℕ) → last ≡ last_or None es → PutsBetween es (λ e. es ++ e ∷ []) last None
+behind es last is = record { front = es; back = []; split = sym (append-nil es); prev_is = is; next_is = refl; puts = λ e. refl }
+
+pub relink-requires-clause-left : goal.relink-requires-clause-left
+relink-requires-clause-left g c = λ x is.
+    beside-inserted c.self.inside.arena _ _ c.self.invariant _ _ _ _ c.in_ok-p.ensures.ok _ _ _ (behind _ _ c.self.invariant.last_is) _ (inl (ap (option_map g.P.Inx.BasePtrInx.number) is))
+
+pub invariant_of-self-2 : goal.invariant_of-self-2
+invariant_of-self-2 g c =
+    let ends = rw c.inx.ensures at c.relink.ensures in
+    let new = c.new.ensures in
+    let inserts = Inserts-linked c.self.inside.arena _ _ c.self.invariant _ _ _ _ c.in_ok-p.ensures.ok _ _ _ (behind _ _ c.self.invariant.last_is) _ _ c.in_ok-p.ensures.sound
+    _ new.item new.prev new.next c.relink.new.arena _ _ ends.arena ends.first ends.last in
+    inserts.laid
+
+pub returns-clause-ok : goal.returns-clause-ok
+returns-clause-ok g c =
+    let ends = rw c.inx.ensures at c.relink.ensures in
+    let new = c.new.ensures in
+    let inserts = Inserts-linked c.self.inside.arena _ _ c.self.invariant _ _ _ _ c.in_ok-p.ensures.ok _ _ _ (behind _ _ c.self.invariant.last_is) _ _ c.in_ok-p.ensures.sound
+    _ new.item new.prev new.next c.relink.new.arena _ _ ends.arena ends.first ends.last in
+    rw (← c.self.view_is) inserts.insertion
+
+pub returns-in_err-p-clause-refusal : goal.returns-in_err-p-clause-refusal
+returns-in_err-p-clause-refusal g c = grind (arith, common_steps)
+
+pub returns-clause-full : goal.returns-clause-full
+returns-clause-full g c = grind (arith, common_steps)
