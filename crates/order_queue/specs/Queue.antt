@@ -1,7 +1,7 @@
 -- What one side of an order book is: a list of resting orders in the order in which they trade, by price, and at equal prices by age.
-use Rattle.std.specs.Prelude.{◌≡◌, ◌≢◌, ℕ, zero, suc, ◌+◌, ◌-◌, ◌≤◌, ◌<◌, ◌*◌, min, max, ◌==◌, ◌&&◌, leb, nat_lt, if◌then◌else◌, Bool, List, [], ◌∷◌, ◌++◌, length, take, Option, Some, None}
+use Rattle.std.specs.Prelude.{◌≡◌, ◌≢◌, ℕ, zero, suc, ◌+◌, ◌-◌, ◌≤◌, ◌<◌, min, ◌==◌, ◌&&◌, leb, nat_lt, if◌then◌else◌, Bool, List, [], ◌∷◌, ◌++◌, length, take, Option, Some, None}
 use Rattle.std.specs.List.{AllByRecursion}
-use Rattle.arena_base.specs.Generation.{next_generation}
+use Rattle.arena_base.specs.{Arena.doubled_capacity, Generation.next_generation}
 use Rattle.order_queue.specs.{declared.side.Side.TheVariants.Buy, declared.side.Side.TheVariants.Sell, declared.order.Order.Order}
 use Rattle.order_queue.specs.{declared.order.Trade.Trade, declared.level.Level.Level, declared.side.Side.Side}
 
@@ -16,14 +16,6 @@ pub record Queue : Type 0 where
 -- how many orders one side can have
 abbrev pub most_orders : ℕ
 most_orders = 4294967294
-
--- the capacity after a growth: twice as much, at least 4, and at most as many orders as there can be
-abbrev pub grown : ℕ → ℕ
-grown capacity = min most_orders (max 4 (2 * capacity))
-
--- the capacity after room for so many orders was made: if it is too small, it grows at least as for one more order
-abbrev pub capacity_for : ℕ → ℕ → ℕ
-capacity_for capacity needed = if nat_lt capacity needed then max needed (grown capacity) else capacity
 
 -- the generation after g: one more, and 2 after the greatest number of 64 bits
 abbrev pub generation_after : ℕ → ℕ
@@ -190,7 +182,7 @@ pub record Rests (old : Queue) (price quantity tag : ℕ) (p : ℕ × ℕ) (new 
   pub of_generation : p.1 ≡ old.generation
   pub generation : new.generation ≡ old.generation
   pub side : new.side ≡ old.side
-  pub capacity : new.capacity ≡ (if nat_lt (length old.orders) old.capacity then old.capacity else grown old.capacity)
+  pub capacity : new.capacity ≡ (if nat_lt (length old.orders) old.capacity then old.capacity else doubled_capacity most_orders old.capacity)
 
 -- from old to new, a pointer names this now, and every other pointer names what it named
 pub record Updates (old new : Queue) (p : ℕ × ℕ) (named : Option Order) : Type 0 where

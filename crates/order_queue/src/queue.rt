@@ -3,7 +3,8 @@
 ghost use Rattle.std.specs.Prelude.{◌≡◌, ◌↔◌, ◌+◌, ◌-◌, ◌≤◌, ◌<◌, List, [], ◌∷◌, ◌++◌, Err, Some, None, length, vec_capacity};
 ghost use Rattle.std.specs.Prelude.{IfOk, OnOk, OnErr, OnSome, IfSome, IfNone};
 ghost use Rattle.std.specs.Option.{option_map};
-ghost use Rattle.order_queue.specs.Queue.{most_orders, capacity_for, first_of, order_of, resting, within, traded, trades_of_first, taken, with_left, reduced, reduced_order};
+ghost use Rattle.arena_base.specs.Arena.{capacity_for};
+ghost use Rattle.order_queue.specs.Queue.{most_orders, first_of, order_of, resting, within, traded, trades_of_first, taken, with_left, reduced, reduced_order};
 ghost use Rattle.order_queue.specs.Layout.{queue_of, AreLawful};
 ghost use Rattle.order_queue.specs.Queue.{HasRoomFor, IsSound, Rests, Updates};
 
@@ -97,7 +98,7 @@ impl<A: Allocator> OrderQueue<A> {
         ensures orders { self.new.orders ≡ self.old.orders }
         ensures generation { self.new.generation ≡ self.old.generation }
         ensures capacity { OnOk result (self.new.capacity
-            ≡ capacity_for self.old.capacity (length self.old.orders + additional)) }
+            ≡ capacity_for most_orders self.old.capacity (length self.old.orders + additional)) }
         ensures room { OnOk result (HasRoomFor additional self.new) }
         ensures full { (result ≡ Err ReallocationError.BeyondMaxCapacity)
             ↔ (most_orders < length self.old.orders + additional) }
@@ -223,7 +224,10 @@ impl<A: Allocator> OrderQueue<A> {
     {
         let mut left = quantity;
         for order in self.iter() {
-            if left == 0 || !self.side.meets(order.price, limit) {
+            if left == 0 {
+                break;
+            }
+            if !self.side.meets(order.price, limit) {
                 break;
             }
             left -= left.min(order.quantity);
@@ -267,7 +271,10 @@ impl<A: Allocator> OrderQueue<A> {
         let before = trades.len();
         let mut left = quantity;
         for order in self.iter() {
-            if left == 0 || !self.side.meets(order.price, limit) {
+            if left == 0 {
+                break;
+            }
+            if !self.side.meets(order.price, limit) {
                 break;
             }
             let quantity = left.min(order.quantity);

@@ -10,7 +10,7 @@ invariant_of-self g c =
     let asks = c.self.inside.asks in
     let settled = c.settle_anew-settled in
     let lawful : IsBook (record { bids = bids; asks = asks }) = subst (λ (b : Book). IsBook b) (sym c.self.view_is) c.count.ensures.lawful in
-    pair-settled_bid bids asks settled.new.own settled.new.other c.self.invariant c.args.price c.args.quantity (with_left bids c.pointer-old.result) (pair-without_bid bids asks c.self.invariant c.pointer-old.result) settled.result
+    pair-settled_bid bids asks settled.new.own settled.new.other c.self.invariant c.order (with_left bids c.pointer.result) (pair-without_bid bids asks c.self.invariant c.pointer.result) settled.result
     (record {
       in_order = lawful.asks.in_order;
       rests = settled.ensures.rests;
@@ -25,7 +25,7 @@ invariant_of-self-in-Sell g c =
     let asks = c.self.inside.asks in
     let settled = c.settle_anew-settled-in-Sell in
     let lawful : IsBook (record { bids = bids; asks = asks }) = subst (λ (b : Book). IsBook b) (sym c.self.view_is) c.count.ensures.lawful in
-    pair-settled_ask bids asks settled.new.other settled.new.own c.self.invariant c.args.price c.args.quantity (with_left asks c.pointer-old.result) (pair-without_ask bids asks c.self.invariant c.pointer-old.result) settled.result
+    pair-settled_ask bids asks settled.new.other settled.new.own c.self.invariant c.order (with_left asks c.pointer.result) (pair-without_ask bids asks c.self.invariant c.pointer.result) settled.result
     (record {
       in_order = lawful.bids.in_order;
       rests = settled.ensures.rests;

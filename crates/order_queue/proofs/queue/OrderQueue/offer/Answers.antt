@@ -49,7 +49,7 @@ pub returns-then-not-meets-clause-left : goal.returns-then-not-meets-clause-left
 returns-then-not-meets-clause-left g c =
     let side = c.self.inside.side in
     let q : Queue = queue_of side c.self.inside.orders in
-    let e : Entry (ℕ × ℕ) = record { index = c.in-Some.pointer.0; generation = c.in-Some.pointer.1; item = (c.in-Some.rank.now, c.in-Some.offered.now) } in
+    let e : Entry (ℕ × Lot) = record { index = c.in-Some.pointer.0; generation = c.in-Some.pointer.1; item = (c.in-Some.rank.now, c.in-Some.offered.now) } in
     let now : IsOffering q c.args.limit c.args.quantity c.args.trades.now.items c.loop-pointer.left c.loop-pointer.trades.items (e ∷ c.next.new.self) =
     rw (c.self.view_is, ← c.in-Some.ensures.steps) c.loop-pointer.invariant.offering in
     let misses : meets side (ranked side c.in-Some.rank.now) c.args.limit ≡ false =
@@ -61,7 +61,7 @@ pub returns-then-not-meets-clause-trades : goal.returns-then-not-meets-clause-tr
 returns-then-not-meets-clause-trades g c =
     let side = c.self.inside.side in
     let q : Queue = queue_of side c.self.inside.orders in
-    let e : Entry (ℕ × ℕ) = record { index = c.in-Some.pointer.0; generation = c.in-Some.pointer.1; item = (c.in-Some.rank.now, c.in-Some.offered.now) } in
+    let e : Entry (ℕ × Lot) = record { index = c.in-Some.pointer.0; generation = c.in-Some.pointer.1; item = (c.in-Some.rank.now, c.in-Some.offered.now) } in
     let now : IsOffering q c.args.limit c.args.quantity c.args.trades.now.items c.loop-pointer.left c.loop-pointer.trades.items (e ∷ c.next.new.self) =
     rw (c.self.view_is, ← c.in-Some.ensures.steps) c.loop-pointer.invariant.offering in
     let misses : meets side (ranked side c.in-Some.rank.now) c.args.limit ≡ false =
@@ -73,7 +73,7 @@ pub loop-pointer-preserved : goal.loop-pointer-preserved
 loop-pointer-preserved g c =
     let side = c.self.inside.side in
     let q : Queue = queue_of side c.self.inside.orders in
-    let e : Entry (ℕ × ℕ) = record { index = c.in-Some.pointer.0; generation = c.in-Some.pointer.1; item = (c.in-Some.rank.now, c.in-Some.offered.now) } in
+    let e : Entry (ℕ × Lot) = record { index = c.in-Some.pointer.0; generation = c.in-Some.pointer.1; item = (c.in-Some.rank.now, c.in-Some.offered.now) } in
     let now : IsOffering q c.args.limit c.args.quantity c.args.trades.now.items c.loop-pointer.left c.loop-pointer.trades.items (e ∷ c.next.new.self) =
     rw (c.self.view_is, ← c.in-Some.ensures.steps) c.loop-pointer.invariant.offering in
     let wanted : 0 < c.loop-pointer.left = omega (arith, c.if-left-eq0.false) in
@@ -93,7 +93,7 @@ pub returns-then-is_err-clause-memory : goal.returns-then-is_err-clause-memory
 returns-then-is_err-clause-memory g c =
     let side = c.self.inside.side in
     let q : Queue = queue_of side c.self.inside.orders in
-    let e : Entry (ℕ × ℕ) = record { index = c.in-Some.pointer.0; generation = c.in-Some.pointer.1; item = (c.in-Some.rank.now, c.in-Some.offered.now) } in
+    let e : Entry (ℕ × Lot) = record { index = c.in-Some.pointer.0; generation = c.in-Some.pointer.1; item = (c.in-Some.rank.now, c.in-Some.offered.now) } in
     let now : IsOffering q c.args.limit c.args.quantity c.args.trades.now.items c.loop-pointer.left c.loop-pointer.trades.items (e ∷ c.next.new.self) =
     rw (c.self.view_is, ← c.in-Some.ensures.steps) c.loop-pointer.invariant.offering in
     let wanted : 0 < c.loop-pointer.left = omega (arith, c.if-left-eq0.false) in

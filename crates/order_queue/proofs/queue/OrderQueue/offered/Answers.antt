@@ -18,7 +18,7 @@ loop-rank-preserved g c =
     let side = c.self.inside.side in
     let q : Queue = queue_of side c.self.inside.orders in
     let trades = c.loop-rank.invariant.offering.0 in
-    let e : Entry (ℕ × ℕ) = record { index = c.in-Some.field-0-0.0; generation = c.in-Some.field-0-0.1; item = (c.in-Some.rank.now, c.in-Some.offered.now) } in
+    let e : Entry (ℕ × Lot) = record { index = c.in-Some.field-0-0.0; generation = c.in-Some.field-0-0.1; item = (c.in-Some.rank.now, c.in-Some.offered.now) } in
     let now : IsOffering q c.args.limit c.args.quantity [] c.loop-rank.left trades (e ∷ c.next.new.self) =
     rw (c.self.view_is, ← c.in-Some.ensures.steps) c.loop-rank.invariant.offering.1 in
     let wanted : 0 < c.loop-rank.left = omega (arith, c.if-left-eq0.false) in
@@ -48,7 +48,7 @@ returns g c =
       | in-Some+else-left-eq0+then-not-meets w ↦
           let side = c.self.inside.side in
           let p : Queue = queue_of side c.self.inside.orders in
-          let e : Entry (ℕ × ℕ) = record { index = w.in-Some.field-0-0.0; generation = w.in-Some.field-0-0.1; item = (w.in-Some.rank.now, w.in-Some.offered.now) } in
+          let e : Entry (ℕ × Lot) = record { index = w.in-Some.field-0-0.0; generation = w.in-Some.field-0-0.1; item = (w.in-Some.rank.now, w.in-Some.offered.now) } in
           let now : IsOffering p limit quantity [] left trades (e ∷ c.next.new.self) = rw (c.self.view_is, ← w.in-Some.ensures.steps) here in
           let misses : meets side (ranked side w.in-Some.rank.now) limit ≡ false =
           met side limit w.ranked.result w.in-Some.rank.now _ w.if-not-meets.ensures w.ranked.ensures in
