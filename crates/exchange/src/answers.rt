@@ -38,7 +38,10 @@ fn write_trades<W: Write>(
         let (price, quantity, number) = (trade.price, trade.quantity, trade.tag);
         match exchange.tag(number) {
             0 => writeln!(writer, "trade {quantity} at {price} with {number}")?,
-            tag => writeln!(writer, "trade {quantity} at {price} with {number}, tag {tag}")?,
+            tag => writeln!(
+                writer,
+                "trade {quantity} at {price} with {number}, tag {tag}"
+            )?,
         }
         figures.traded = match figures.traded {
             Some(traded) => traded.checked_add(u128::from(quantity)),

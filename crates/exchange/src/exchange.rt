@@ -60,10 +60,17 @@ impl Exchange {
     }
 
     /// Replaces the order of this number. Returns the number if something of it rests again.
-    pub fn replace(&mut self, number: u64, price: u64, quantity: u64) -> Result<Option<u64>, Fault> {
+    pub fn replace(
+        &mut self,
+        number: u64,
+        price: u64,
+        quantity: u64,
+    ) -> Result<Option<u64>, Fault> {
         let entry = self.entry(number)?;
         self.make_ready()?;
-        let id = self.book.replace(entry.id, price, quantity, &mut self.trades)?;
+        let id = self
+            .book
+            .replace(entry.id, price, quantity, &mut self.trades)?;
         let _ = self.entries.remove(&number);
         Ok(self.enter(number, id, entry.tag))
     }

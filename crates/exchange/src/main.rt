@@ -91,7 +91,13 @@ fn run(rt: &(impl Input + Print + AllocGlobal)) -> io::Result<()> {
     let mut exchange = Exchange::new(rt.alloc());
     let mut figures = Figures::new();
     let mut line = String::new(rt.alloc());
-    let end = serve(&mut reader, &mut writer, &mut exchange, &mut figures, &mut line);
+    let end = serve(
+        &mut reader,
+        &mut writer,
+        &mut exchange,
+        &mut figures,
+        &mut line,
+    );
     write_totals(&mut writer, &exchange, &figures)?;
     writer.flush()?;
     end

@@ -220,10 +220,18 @@ impl<A: Allocator> OrderBook<A> {
         }
         if order.kind.only_rests() {
             let offered = self.offered(order.side, order.kind.limit(order.side), 1);
-            if offered > 0 { Some(PlacingError::WouldTrade) } else { None }
+            if offered > 0 {
+                Some(PlacingError::WouldTrade)
+            } else {
+                None
+            }
         } else if order.kind.is_whole() {
             let offered = self.offered(order.side, order.kind.limit(order.side), order.quantity);
-            if offered < order.quantity { Some(PlacingError::WouldNotFill) } else { None }
+            if offered < order.quantity {
+                Some(PlacingError::WouldNotFill)
+            } else {
+                None
+            }
         } else {
             None
         }

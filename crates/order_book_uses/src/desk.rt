@@ -113,7 +113,9 @@ impl Desk {
         ensures refused { OnErr result (self.new ≡ self.old) }
         ensures kept { OnErr result (trades.new.items ≡ trades.old.items) }
     {
-        let dealt = self.book.offered(order.side, order.kind.limit(order.side), order.quantity);
+        let dealt = self
+            .book
+            .offered(order.side, order.kind.limit(order.side), order.quantity);
         let resting = self.book.place(order, trades)?;
         Ok(Deal { dealt, resting })
     }

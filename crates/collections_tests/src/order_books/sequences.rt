@@ -170,7 +170,9 @@ fn has_levels(book: &OrderBook, side: Side) -> bool {
 
 /// Returns whether the book and the list have the same orders on a side, and the same first one.
 fn are_alike_on(book: &OrderBook, list: &[Resting], side: Side, first: Option<Order>) -> bool {
-    book.count(side) == count(list, side) && book.iter(side).next() == first && has_levels(book, side)
+    book.count(side) == count(list, side)
+        && book.iter(side).next() == first
+        && has_levels(book, side)
 }
 
 /// Returns whether the book and the list have the same orders, and the same first ones.
