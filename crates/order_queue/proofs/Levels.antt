@@ -1,9 +1,9 @@
 -- Levels are summed up along the queue, and sums fit into 128 bits.
-use Rattle.std.proofs.Common.{◌≡◌, ◌≢◌, ℕ, suc, ◌+◌, ◌*◌, ◌-◌, ◌<◌, ◌≤◌, ◌==◌, List, [], ◌∷◌, length, take, Option, Some, None, Bool, true, false, refl, sym, ap, ◌∙◌, inl, inr, arith, if◌then◌else◌}
+use Rattle.std.proofs.Common.{◌≡◌, ◌≢◌, ℕ, ◌+◌, ◌*◌, ◌≤◌, ◌==◌, List, [], ◌∷◌, length, true, false, refl, sym, ◌∙◌, inl, inr, arith, if◌then◌else◌}
 use Rattle.std.proofs.lemmas.Bool.Decides.{eqb_tells}
 use Rattle.std.specs.List.{AllByRecursion}
-use Rattle.order_queue.specs.Queue.{most_orders, most_quantity, AreSummable, joined, levels_of, first_levels, total, within, meets}
-use Rattle.order_queue.specs.{Layout.with_next, declared.level.Level.Level, declared.order.Order.Order, declared.side.Side.Side}
+use Rattle.order_queue.specs.Queue.{most_orders, most_quantity, AreSummable, joined, levels_of, total, within, meets}
+use Rattle.order_queue.specs.{declared.level.Level.Level, declared.order.Order.Order, declared.side.Side.Side}
 
 -- the level of one order
 abbrev pub level_of : Order → Level

@@ -1,11 +1,11 @@
 -- The orders of a queue and the entries of its arena: what a pointer names, and what a removal leaves.
-use Rattle.std.proofs.Common.{◌≡◌, ℕ, ◌<◌, ◌≤◌, ◌==◌, List, [], ◌∷◌, map, length, Option, Some, None, IsSome, refl, sym, ap, subst, ◌∙◌, arith, inl, inr, true, false, if◌then◌else◌}
+use Rattle.std.proofs.Common.{◌≡◌, ℕ, ◌<◌, ◌≤◌, ◌==◌, [], ◌∷◌, map, Option, Some, None, IsSome, refl, sym, ap, subst, ◌∙◌, arith, inl, inr, true, false, if◌then◌else◌}
 use Rattle.std.proofs.{lemmas.Bool.Decides.eqb_tells, lemmas.Grind.common_steps, lemmas.List.length-map}
 use Rattle.std.specs.{List.AllByRecursion, Option.option_map, Ordering.nat_cmp}
 use Rattle.chain_base.specs.Chain.{Entry, IsDistinct as AreDistinct, entry_at, item_of, first_pointer, without as without_index}
 use Rattle.chain_base.proofs.CallerLemmas.{entry_at-absent}
 use Rattle.sorted_arena.specs.Sorted.{Sorted, IsSound as IsSoundArena, Updates as UpdatesArena, without as without_entry}
-use Rattle.order_queue.specs.Queue.{most_orders, Updates, with_left, first_of, order_of, without, IsDistinct, IsSound, AreSummable}
+use Rattle.order_queue.specs.Queue.{most_orders, Updates, with_left, first_of, order_of, without, IsDistinct, IsSound}
 use Rattle.order_queue.specs.Layout.{order_in, queue_of, IsLawful, AreLawful}
 use Rattle.order_queue.specs.{declared.order.Lot.Lot, declared.order.Order.Order, declared.side.Side.Side}
 use Rattle.order_queue.proofs.{Ranks.Entries, Ranks.recursion-map, Ranks.in_order-sorted}
@@ -57,14 +57,17 @@ module _ (side : Side) where
     | inr h ↦ rw (h.0, order_of-found es (distinct-rest e es distinct) p) refl
   ]
 
-  -- what a pointer names is the order of an item that it finds
-  pub item-named : (es : Entries) → AreDistinct es → (p : ℕ × ℕ) (x : Order) → order_of (map (order_in side) es) p ≡ Some x
-      → (item : ℕ × Lot) × (item_of es p ≡ Some item) × (order_under p item ≡ x)
-  item-named es distinct p x named = go (item_of es p) refl
+  -- if a pointer names an order with a tag, it finds an item with that tag
+  pub item-tagged : (es : Entries) → AreDistinct es → (p : ℕ × ℕ) (tag : ℕ) → option_map (λ (x : Order). x.tag) (order_of (map (order_in side) es) p) ≡ Some tag
+      → (item : ℕ × Lot) × (item_of es p ≡ Some item) × (tag ≡ item.1.tag)
+  item-tagged es distinct p tag named = go (item_of es p) refl
     where
-      go : (o : Option (ℕ × Lot)) → item_of es p ≡ o → (item : ℕ × Lot) × (item_of es p ≡ Some item) × (order_under p item ≡ x)
-      go None none = absurd (let lost : Some x ≡ None = sym named ∙ order_of-found es distinct p ∙ ap (option_map (order_under p)) none in cc)
-      go (Some item) found = (item, found, (let some : Some (order_under p item) ≡ Some x = sym (order_of-found es distinct p ∙ ap (option_map (order_under p)) found) ∙ named in cc))
+      tags : Option Order → Option ℕ
+      tags o = option_map (λ (x : Order). x.tag) o
+
+      go : (o : Option (ℕ × Lot)) → item_of es p ≡ o → (item : ℕ × Lot) × (item_of es p ≡ Some item) × (tag ≡ item.1.tag)
+      go None none = absurd (let lost : Some tag ≡ None = sym named ∙ ap tags (order_of-found es distinct p ∙ ap (option_map (order_under p)) none) in cc)
+      go (Some item) found = (item, found, (let some : Some tag ≡ Some item.1.tag = sym named ∙ ap tags (order_of-found es distinct p ∙ ap (option_map (order_under p)) found) in cc))
 
   -- without the order of a pointer, if it names one, the entries are those without its index
   without-found : (es : Entries) → AreDistinct es → (p : ℕ × ℕ) → IsSome (item_of es p) → without (map (order_in side) es) p ≡ map (order_in side) (without_index p.0 es)

@@ -1,12 +1,12 @@
 -- A quantity that is written at a pointer: its order has so much left.
-use Rattle.std.proofs.Common.{◌≡◌, ◌≢◌, ℕ, suc, zero, ◌<◌, ◌≤◌, ◌==◌, List, [], ◌∷◌, map, Option, Some, None, IsSome, refl, sym, ap, ◌∙◌, inl, inr, true, false, Bool, arith, if◌then◌else◌}
+use Rattle.std.proofs.Common.{◌≡◌, ◌≢◌, ℕ, suc, zero, ◌<◌, ◌≤◌, ◌==◌, List, [], ◌∷◌, map, Some, None, refl, sym, ap, ◌∙◌, inl, inr, true, false, arith, if◌then◌else◌}
 use Rattle.std.proofs.lemmas.Bool.Decides.{eqb_tells}
-use Rattle.std.specs.{List.AllByRecursion, Option.option_map}
-use Rattle.chain_base.specs.Chain.{Entry, IsDistinct as AreDistinct, item_of, with_item_among}
+use Rattle.std.specs.{Option.option_map}
+use Rattle.chain_base.specs.Chain.{IsDistinct as AreDistinct, item_of, with_item_among}
 use Rattle.sorted_arena.specs.Sorted.{Sorted, pair_of, with_value}
-use Rattle.order_queue.specs.{Layout.most_price, Layout.order_in, Layout.queue_of, Layout.IsLawful, Layout.AreLawful, Queue.Queue, Queue.order_of, Queue.with_quantity, Queue.reduced, Queue.Updates}
+use Rattle.order_queue.specs.{Layout.most_price, Layout.order_in, Layout.queue_of, Layout.AreLawful, Queue.Queue, Queue.order_of, Queue.with_quantity, Queue.with_rest, Queue.reduced, Queue.Updates}
 use Rattle.order_queue.specs.{declared.order.Lot.Lot, declared.order.Order.Order, declared.side.Side.Side}
-use Rattle.order_queue.proofs.{Naming.distinct-rest, Naming.order_under, Ranks.Entries}
+use Rattle.order_queue.proofs.{Naming.distinct-rest, Ranks.Entries}
 
 module _ (side : Side) (p : ℕ × ℕ) (lot : Lot) where
   -- an entry's item with another lot
@@ -69,23 +69,19 @@ module _ (side : Side) (p : ℕ × ℕ) (lot : Lot) where
         go zero more is = absurd (omega (arith, more))
         go (suc n) more is = rw is refl
 
+pair-same : (q p : ℕ × ℕ) → q.0 ≡ p.0 → q.1 ≡ p.1 → q ≡ p
+pair-same q p first second = rw (first, second) refl
+
 -- what pointers name after a quantity is written
 module _ (p : ℕ × ℕ) (n : ℕ) where
-  named-written : (xs : List Order) (x : Order) → order_of xs p ≡ Some x → order_of (with_quantity xs p n) p ≡ Some (record x { quantity = n })
-  named-written [] x named = absurd (cc)
-  named-written (y ∷ ys) x named = elim (eqb_tells y.id.pointer.0 p.0) [
+  named-written : (xs : List Order) → order_of (with_quantity xs p n) p ≡ option_map (λ x. with_rest x n) (order_of xs p)
+  named-written [] = refl
+  named-written (y ∷ ys) = elim (eqb_tells y.id.pointer.0 p.0) [
     | inl h ↦ elim (eqb_tells y.id.pointer.1 p.1) [
-      | inl k ↦
-          let here : order_of (y ∷ ys) p ≡ Some y = rw (h.0, k.0) refl in
-          let same : y ≡ x = cc in
-          rw (h.0, k.0, ← same, h.0, k.0) refl
-      | inr k ↦
-          let rest : order_of (y ∷ ys) p ≡ order_of ys p = rw (h.0, k.0) refl in
-          rw (h.0, k.0, h.0, k.0) (named-written ys x (sym rest ∙ named))
+      | inl k ↦ rw (h.0, k.0, h.0, k.0) refl
+      | inr k ↦ rw (h.0, k.0, h.0, k.0) (named-written ys)
     ]
-    | inr h ↦
-        let rest : order_of (y ∷ ys) p ≡ order_of ys p = rw h.0 refl in
-        rw (h.0, h.0) (named-written ys x (sym rest ∙ named))
+    | inr h ↦ rw (h.0, h.0) (named-written ys)
   ]
 
   others-written : (xs : List Order) (q : ℕ × ℕ) → q ≢ p → order_of (with_quantity xs p n) q ≡ order_of xs q
@@ -94,7 +90,7 @@ module _ (p : ℕ × ℕ) (n : ℕ) where
     | inl h ↦ elim (eqb_tells y.id.pointer.1 p.1) [
       | inl k ↦ elim (eqb_tells y.id.pointer.0 q.0) [
         | inl i ↦ elim (eqb_tells y.id.pointer.1 q.1) [
-          | inl j ↦ absurd (apart (let first : q.0 ≡ p.0 = sym i.1 ∙ h.1 in let second : q.1 ≡ p.1 = sym j.1 ∙ k.1 in cc))
+          | inl j ↦ absurd (apart (pair-same q p (sym i.1 ∙ h.1) (sym j.1 ∙ k.1)))
           | inr j ↦ rw (h.0, k.0, i.0, j.0) refl
         ]
         | inr i ↦ rw (h.0, k.0, i.0) refl
@@ -104,12 +100,16 @@ module _ (p : ℕ × ℕ) (n : ℕ) where
     | inr h ↦ rw (h.0, others-written ys q apart) refl
   ]
 
-  pub updates-written : (q : Queue) (x : Order) → order_of q.orders p ≡ Some x → 0 < n → Updates q (reduced q p n) p (Some (record x { quantity = n }))
-  updates-written q x named some = go n some refl
+  updates-written : (q : Queue) → 0 < n → Updates q (reduced q p n) p (option_map (λ x. with_rest x n) (order_of q.orders p))
+  updates-written q some = go n some refl
     where
-      go : (m : ℕ) → 0 < m → n ≡ m → Updates q (reduced q p m) p (Some (record x { quantity = m }))
+      go : (m : ℕ) → 0 < m → n ≡ m → Updates q (reduced q p m) p (option_map (λ x. with_rest x m) (order_of q.orders p))
       go zero more is = absurd (omega (arith, more))
       go (suc m) more is = record {
-        changed = rw (← is) (named-written q.orders x named);
+        changed = rw (← is) (named-written q.orders);
         others = λ r apart. rw (← is) (others-written q.orders r apart);
       }
+
+pub updates-reduced : (side : Side) (p : ℕ × ℕ) (lot : Lot) (a : Sorted ℕ Lot) (item : ℕ × Lot) → pair_of a p ≡ Some item → AreDistinct a.entries → lot.tag ≡ item.1.tag → 0 < lot.quantity
+    → Updates (queue_of side a) (queue_of side (written side p lot a)) p (option_map (λ x. with_rest x lot.quantity) (order_of (queue_of side a).orders p))
+updates-reduced side p lot a item found distinct tagged some = rw (queue-reduced side p lot a item found distinct tagged some) (updates-written p lot.quantity (queue_of side a) some)

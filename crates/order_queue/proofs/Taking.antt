@@ -2,6 +2,7 @@
 use Rattle.std.proofs.Common.{◌≡◌, ℕ, ◌-◌, ◌≤◌, ◌<◌, List, [], ◌∷◌, refl, arith}
 use Rattle.std.proofs.lemmas.Bool.{lt-ltb}
 use Rattle.std.specs.List.{AllByRecursion}
+use Rattle.order_queue.specs.declared.order.Order.{Order}
 use Rattle.order_queue.specs.Queue.{Queue, behind, generation_behind, taken}
 
 -- none is taken of a queue

@@ -1,9 +1,9 @@
 -- How one side of a book lies in its sorted arena (layout).
-use Rattle.std.specs.Prelude.{ℕ, ◌-◌, ◌≤◌, ◌<◌, List, ◌∷◌, map, Option, Some, None}
+use Rattle.std.specs.Prelude.{ℕ, ◌-◌, ◌≤◌, ◌<◌, ◌≡◌, List, [], ◌∷◌, map, Option, Some, None}
 use Rattle.std.specs.List.{AllByRecursion}
 use Rattle.chain_base.specs.Chain.{Entry}
 use Rattle.sorted_arena.specs.Sorted.{Sorted}
-use Rattle.order_queue.specs.{declared.side.Side.TheVariants.Buy, declared.side.Side.TheVariants.Sell, declared.order.Order.Order, Queue.Queue}
+use Rattle.order_queue.specs.{declared.side.Side.TheVariants.Buy, declared.side.Side.TheVariants.Sell, declared.order.Order.Order, Queue.Queue, Queue.AreSummable}
 use Rattle.order_queue.specs.{declared.order.Lot.Lot, declared.side.Side.Side}
 
 -- the greatest price, and the greatest quantity
@@ -42,3 +42,8 @@ AreLawful es = AllByRecursion IsLawful es
 abbrev pub with_next : Option Order → List Order → List Order
 with_next None xs = xs
 with_next (Some x) xs = x ∷ xs
+
+-- What an iterator over levels has left: the sums of its orders fit, and if no next order has been taken, none is left.
+pub record IsDepth (next : Option Order) (rest : List Order) : Type 0 where
+  pub summable : AreSummable (with_next next rest)
+  pub ended : next ≡ None → rest ≡ []

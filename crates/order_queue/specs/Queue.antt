@@ -54,10 +54,14 @@ abbrev pub without : List Order → ℕ × ℕ → List Order
 without [] p = []
 without (x ∷ xs) p = if is_named_by p x then xs else x ∷ without xs p
 
+-- an order of which so much is left
+abbrev pub with_rest : Order → ℕ → Order
+with_rest x n = record x { quantity = n }
+
 -- the orders, of which the one that a pointer names has this quantity
 abbrev pub with_quantity : List Order → ℕ × ℕ → ℕ → List Order
 with_quantity [] p n = []
-with_quantity (x ∷ xs) p n = if is_named_by p x then record x { quantity = n } ∷ xs else x ∷ with_quantity xs p n
+with_quantity (x ∷ xs) p n = if is_named_by p x then with_rest x n ∷ xs else x ∷ with_quantity xs p n
 
 -- no pointer names two orders
 abbrev pub IsDistinct : List Order → Type 0
@@ -140,7 +144,7 @@ volume (t ∷ ts) = t.quantity + volume ts
 -- the orders without their first n units: those that are filled have left, and the next has so much less
 abbrev pub behind : ℕ → List Order → List Order
 behind n [] = []
-behind n (x ∷ xs) = if nat_lt n x.quantity then record x { quantity = x.quantity - n } ∷ xs else behind (n - x.quantity) xs
+behind n (x ∷ xs) = if nat_lt n x.quantity then with_rest x (x.quantity - n) ∷ xs else behind (n - x.quantity) xs
 
 -- the generation once the first n units were taken: the next one for each order that is filled
 abbrev pub generation_behind : ℕ → List Order → ℕ → ℕ
@@ -163,7 +167,7 @@ reduced q p (suc left) = record q { orders = with_quantity q.orders p (suc left)
 -- what a pointer names after so many units were taken off the order that it named; nothing if nothing is left
 abbrev pub reduced_order : Option Order → ℕ → Option Order
 reduced_order None n = None
-reduced_order (Some x) n = if nat_lt n x.quantity then Some (record x { quantity = x.quantity - n }) else None
+reduced_order (Some x) n = if nat_lt n x.quantity then Some (with_rest x (x.quantity - n)) else None
 
 -- a resting order by its parts
 abbrev pub resting : Side → ℕ × ℕ → ℕ → ℕ → ℕ → Order

@@ -3,7 +3,7 @@
 ghost use Rattle.std.specs.Prelude.{◌≡◌, ◌∷◌, ◌≤◌, ℕ, length};
 ghost use Rattle.std.specs.Iterator.{YieldsFirst, item_count};
 ghost use Rattle.order_queue.specs.Queue.{levels_of, first_levels, AreSummable};
-ghost use Rattle.order_queue.specs.Layout.{with_next};
+ghost use Rattle.order_queue.specs.Layout.{with_next, IsDepth};
 
 use crate::order::Order;
 use crate::orders::Orders;
@@ -38,14 +38,14 @@ pub struct Depth<'a, A: Allocator = Global> {
 impl<'a, A: Allocator> Model for Depth<'a, A> {
     ghost use Rattle.std.specs.Prelude.{List, take};
     ghost use Rattle.order_queue.specs.declared.level.Level.{Level};
-    ghost use Rattle.order_queue.specs.Queue.{levels_of, AreSummable};
-    ghost use Rattle.order_queue.specs.Layout.{with_next};
+    ghost use Rattle.order_queue.specs.Queue.{levels_of};
+    ghost use Rattle.order_queue.specs.Layout.{with_next, IsDepth};
 
     ghost Value = { List Level };
 
     ghost view = { λ d. take d.levels (levels_of (with_next d.next d.rest)) };
 
-    ghost invariant = { λ d. AreSummable (with_next d.next d.rest) };
+    ghost invariant = { λ d. IsDepth d.next d.rest };
 }
 
 impl<A: Allocator> OrderQueue<A> {
@@ -64,7 +64,7 @@ fn level_from<A: Allocator>(first: Order, rest: &mut Orders<'_, A>) -> (Level, O
     requires { AreSummable (first ∷ rest.old) }
     ensures level { levels_of (first ∷ rest.old)
         ≡ result.0 ∷ levels_of (with_next result.1 rest.new) }
-    ensures small { AreSummable (with_next result.1 rest.new) }
+    ensures left { IsDepth result.1 rest.new }
 {
     let mut level = Level {
         price: first.price,

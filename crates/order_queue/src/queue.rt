@@ -4,7 +4,7 @@ ghost use Rattle.std.specs.Prelude.{◌≡◌, ◌↔◌, ◌+◌, ◌-◌, ◌�
 ghost use Rattle.std.specs.Prelude.{IfOk, OnOk, OnErr, OnSome, IfSome, IfNone};
 ghost use Rattle.std.specs.Option.{option_map};
 ghost use Rattle.arena_base.specs.Arena.{capacity_for};
-ghost use Rattle.order_queue.specs.Queue.{most_orders, first_of, order_of, resting, within, traded, trades_of_first, taken, with_left, reduced, reduced_order};
+ghost use Rattle.order_queue.specs.Queue.{most_orders, first_of, order_of, resting, within, traded, trades_of_first, taken, with_left, with_rest, reduced, reduced_order};
 ghost use Rattle.order_queue.specs.Layout.{queue_of, AreLawful};
 ghost use Rattle.order_queue.specs.Queue.{HasRoomFor, IsSound, Rests, Updates};
 
@@ -195,25 +195,25 @@ impl<A: Allocator> OrderQueue<A> {
             let _ = self.remove(pointer);
             return Some(0);
         }
-        self.write(order, left);
+        self.write(pointer, order.tag, left);
         Some(left)
     }
 
-    // Writes how much is left of an order.
-    fn write(&mut self, order: Order, left: u64)
-        requires named { order_of self.old.orders order.id.pointer ≡ Some order }
+    // Writes how much is left of the order that the pointer names, which has this tag.
+    fn write(&mut self, pointer: P0, tag: u64, left: u64)
+        requires named { option_map (λ x. x.tag) (order_of self.old.orders pointer) ≡ Some tag }
         requires some { 0 < left }
-        ensures after { self.new ≡ reduced self.old order.id.pointer left }
-        ensures updates { Updates self.old self.new order.id.pointer
-            (Some (record order { quantity = left })) }
+        ensures after { self.new ≡ reduced self.old pointer left }
+        ensures updates { Updates self.old self.new pointer
+            (option_map (λ x. with_rest x left) (order_of self.old.orders pointer)) }
     {
         // For the prover: the arena is sound.
         let _ = self.orders.len();
         let lot = Lot {
             quantity: left,
-            tag: order.tag,
+            tag,
         };
-        let _ = self.orders.set_value(order.id.pointer(), lot);
+        let _ = self.orders.set_value(pointer, lot);
     }
 
     /// Returns how much of `quantity` an order of the other side with this limit would trade at once.
@@ -319,7 +319,7 @@ impl<A: Allocator> OrderQueue<A> {
             let _ = self.remove(first.id.pointer());
             return first.quantity;
         }
-        self.write(first, first.quantity - quantity);
+        self.write(first.id.pointer(), first.tag, first.quantity - quantity);
         quantity
     }
 }
