@@ -1,6 +1,6 @@
 -- Bids and asks stay a pair of queues after each call.
-use Rattle.std.proofs.Common.{◌≡◌, ℕ, zero, suc, ◌-◌, ◌≤◌, Bool, true, false, arith, if◌then◌else◌, Option, Some, None, Result, Ok, Err, IfOk, OnOk, OnErr, IfNone, OnSome, sym, ap, subst, ◌∙◌}
-use Rattle.order_queue.specs.{Queue.Queue, Queue.IsInOrder, Queue.traded, Queue.taken, Queue.with_left, Queue.reduced, Id.Id, declared.order.Order.Order}
+use Rattle.std.proofs.Common.{◌≡◌, ℕ, zero, suc, ◌≤◌, true, false, arith, if◌then◌else◌, Option, Some, None, Result, Ok, Err, IfOk, OnOk, OnErr, IfNone, IfSome, OnSome, sym, ap, subst, ◌∙◌}
+use Rattle.order_queue.specs.{Queue.Queue, Queue.IsInOrder, Queue.taken, Queue.with_left, Queue.reduced, Id.Id, declared.order.Order.Order}
 use Rattle.order_book.specs.{Layout.IsPairOfQueues, Book.RestsOrNot, Book.limit_of, Book.can_rest, Book.dealt, Book.undealt, Book.remainder, declared.new_order.NewOrder.NewOrder}
 use Rattle.order_book.proofs.Apart.{apart-asks_without, apart-bids_without, apart-ask_reduced, apart-bid_reduced, apart-bought, apart-sold}
 
@@ -41,6 +41,15 @@ module _ (bids asks : Queue) (pair : IsPairOfQueues bids asks) where
   pub pair-ask_less : (p : ℕ × ℕ) (left : ℕ) → IsPairOfQueues bids (reduced asks p left)
   pair-ask_less p zero = pair-without_ask p
   pair-ask_less p (suc left) = record { buys = pair.buys; sells = pair.sells; uncrossed = apart-ask_reduced bids.orders asks.orders pair.uncrossed p (suc left) }
+
+  -- or it names none
+  pub pair-bid_reduced : (new : Queue) (left : Option ℕ) (p : ℕ × ℕ) → IfSome left (λ n. new ≡ reduced bids p n) → IfNone left (new ≡ bids) → IsPairOfQueues new asks
+  pair-bid_reduced new None p after none = subst (λ q. IsPairOfQueues q asks) (sym none) pair
+  pair-bid_reduced new (Some n) p after none = subst (λ q. IsPairOfQueues q asks) (sym after) (pair-bid_less p n)
+
+  pub pair-ask_reduced : (new : Queue) (left : Option ℕ) (p : ℕ × ℕ) → IfSome left (λ n. new ≡ reduced asks p n) → IfNone left (new ≡ asks) → IsPairOfQueues bids new
+  pair-ask_reduced new None p after none = subst (λ q. IsPairOfQueues bids q) (sym none) pair
+  pair-ask_reduced new (Some n) p after none = subst (λ q. IsPairOfQueues bids q) (sym after) (pair-ask_less p n)
 
   module _ (o : NewOrder) where
     abbrev price : ℕ

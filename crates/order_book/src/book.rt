@@ -212,6 +212,10 @@ impl<A: Allocator> OrderBook<A> {
             × (only_rests order.kind ≡ true) × (0 < trades_for self.now order)) }
         ensures part { (result ≡ Some PlacingError.WouldNotFill) ↔ ((order.quantity ≢ 0)
             × (is_whole order.kind ≡ true) × (0 < untraded self.now order)) }
+        ensures quiet { IfNone result
+            (only_rests order.kind ≡ true → trades_for self.now order ≡ 0) }
+        ensures whole { IfNone result
+            (is_whole order.kind ≡ true → untraded self.now order ≡ 0) }
         ensures full { result ≢ Some PlacingError.BeyondMaxCapacity }
         ensures memory { result ≢ Some PlacingError.AllocError }
     {
@@ -269,8 +273,8 @@ impl<A: Allocator> OrderBook<A> {
         ensures sold { OnOk result (total (queue self.new (opposite order.side)).orders
             + volume (trades_of self.old order)
             ≡ total (queue self.old (opposite order.side)).orders) }
-        ensures limited { AreWithin (opposite order.side) (limit_of order.side order.kind)
-            (trades_of self.old order) }
+        ensures limited { OnOk result (AreWithin (opposite order.side)
+            (limit_of order.side order.kind) (trades_of self.old order)) }
         ensures others { IfOk result (λ id. (other : _) → Some other ≢ id
             → IsUntraded other (trades_of self.old order)
             → named self.new other ≡ named self.old other) }
@@ -346,8 +350,8 @@ impl<A: Allocator> OrderBook<A> {
         ensures sold { OnOk result (total (queue self.new (opposite id.side)).orders
             + volume (trades_of (without self.old id) (replacement self.old id price quantity))
             ≡ total (queue self.old (opposite id.side)).orders) }
-        ensures limited { AreWithin (opposite id.side) price
-            (trades_of (without self.old id) (replacement self.old id price quantity)) }
+        ensures limited { OnOk result (AreWithin (opposite id.side) price
+            (trades_of (without self.old id) (replacement self.old id price quantity))) }
         ensures others { IfOk result (λ new. (other : _) → Some other ≢ new → other ≢ id
             → IsUntraded other (trades_of (without self.old id)
             (replacement self.old id price quantity))

@@ -74,8 +74,10 @@ pub(crate) fn settle<A: Allocator, B: Allocator>(
     ensures others { OnOk result ((p : ℕ × ℕ)
         → IsUntraded (record { side = other.old.side; pointer = p }) (deals other.old order)
         → order_of other.new.orders p ≡ order_of other.old.orders p) }
-    ensures limited { AreWithin other.old.side (limit_of order.side order.kind)
-        (deals other.old order) }
+    ensures limited { OnOk result (AreWithin other.old.side
+        (limit_of order.side order.kind) (deals other.old order)) }
+    ensures quiet { dealt other.old order ≡ 0
+        → OnOk result (trades.new.items ≡ trades.old.items) }
     ensures room { OnOk result
         ((n : ℕ) → HasRoomFor (n + 1) own.old → HasRoomFor n own.new) }
     ensures own_kept { OnErr result (own.new ≡ own.old) }
@@ -137,8 +139,8 @@ pub(crate) fn settle_anew<A: Allocator, B: Allocator>(
     ensures others { OnOk result ((p : ℕ × ℕ)
         → IsUntraded (record { side = other.old.side; pointer = p }) (deals other.old order)
         → order_of other.new.orders p ≡ order_of other.old.orders p) }
-    ensures limited { AreWithin other.old.side (limit_of order.side order.kind)
-        (deals other.old order) }
+    ensures limited { OnOk result (AreWithin other.old.side
+        (limit_of order.side order.kind) (deals other.old order)) }
     ensures own_kept { OnErr result (own.new ≡ own.old) }
     ensures other_kept { OnErr result (other.new ≡ other.old) }
     ensures trades_kept { OnErr result (trades.new.items ≡ trades.old.items) }

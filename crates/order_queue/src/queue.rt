@@ -267,6 +267,7 @@ impl<A: Allocator> OrderQueue<A> {
         ensures memory { OnErr result (vec_capacity trades.old < length trades.old.items
             + length (trades_of_first (traded self.now limit quantity) self.now.orders)) }
         ensures err { OnErr result (trades.new.items ≡ trades.old.items) }
+        ensures sound { IsSound self.now }
     {
         let before = trades.len();
         let mut left = quantity;
