@@ -1,5 +1,5 @@
 //! Books of limit orders, as they are measured: an order book, and two of std's `BTreeMap`.
-use order_book::{OrderBook, OrderId, Side, Trade};
+use order_book::{NewOrder, OrderBook, OrderId, Side, Trade};
 use std::alloc::{AllocError, Global};
 use std::collections::BTreeMap;
 
@@ -54,11 +54,8 @@ impl Market for Book {
 
     fn place(&mut self, order: Limit) -> Result<(u64, Option<OrderId>), AllocError> {
         self.trades.clear();
-        let (price, quantity) = (order.price, order.quantity);
-        match self
-            .book
-            .place(order.side, price, quantity, &mut self.trades)
-        {
+        let order = NewOrder::limit(order.side, order.price, order.quantity);
+        match self.book.place(order, &mut self.trades) {
             Ok(id) => Ok((worth(&self.trades), id)),
             Err(_) => Err(AllocError),
         }
@@ -66,7 +63,7 @@ impl Market for Book {
 
     fn cancel(&mut self, id: OrderId) -> u64 {
         match self.book.cancel(id) {
-            Some((_, quantity)) => quantity,
+            Some(order) => order.quantity,
             None => 0,
         }
     }

@@ -1,20 +1,23 @@
 //! What a line says, and what may be wrong with it.
 
-use order_book::{PlacingError, ReplacingError, Side};
+use order_book::{OrderKind, PlacingError, ReplacingError, Side};
 use std::alloc::AllocError;
 use std::io;
 use std::num::IntErrorKind;
 use std::str::SplitAsciiWhitespace;
 use thiserror::Error;
 
-/// What a line says: an order with its price and quantity, what becomes of one that rests, or what it asks. Orders that come to rest are
-/// numbered, from 1 on.
+/// What a line says. Orders that come to rest are numbered from 1 on.
 #[derive(Clone, Copy)]
 pub enum Command {
-    Place(Side, u64, u64),
+    /// An order of a side and kind for this quantity, with its owner's tag.
+    Place(Side, OrderKind, u64, u64),
     Cancel(u64),
+    Reduce(u64, u64),
     Replace(u64, u64, u64),
     Best,
+    Depth(usize),
+    Help,
 }
 
 /// Why a line is no command.
@@ -22,6 +25,8 @@ pub enum Command {
 pub enum Misread {
     #[error("unknown command")]
     UnknownCommand,
+    #[error("neither buy nor sell")]
+    NoSide,
     #[error("a number is missing")]
     NumberMissing,
     #[error("not a number")]
@@ -52,7 +57,7 @@ pub enum Fault {
 }
 
 impl Command {
-    /// What a line says.
+    /// Reads what a line says.
     pub fn read(line: &str) -> Result<Command, Misread> {
         let mut words = line.split_ascii_whitespace();
         let word = words.next().unwrap_or("");
@@ -64,27 +69,55 @@ impl Command {
     }
 }
 
-// The command of this name, with the numbers that follow.
+// The command of this name, with the words that follow.
 fn read_named(name: &str, words: &mut SplitAsciiWhitespace) -> Result<Command, Misread> {
     match name {
-        "buy" => place(Side::Buy, words),
-        "sell" => place(Side::Sell, words),
-        "cancel" => cancel(words),
+        "buy" => priced(Side::Buy, OrderKind::Limit, words),
+        "sell" => priced(Side::Sell, OrderKind::Limit, words),
+        "post" => priced(side(words.next())?, OrderKind::PostOnly, words),
+        "ioc" => priced(side(words.next())?, OrderKind::ImmediateOrCancel, words),
+        "fok" => priced(side(words.next())?, OrderKind::FillOrKill, words),
+        "market" => market(words),
+        _ => read_other(name, words),
+    }
+}
+
+// A command that places no order.
+fn read_other(name: &str, words: &mut SplitAsciiWhitespace) -> Result<Command, Misread> {
+    match name {
+        "cancel" => Ok(Command::Cancel(number(words.next())?)),
+        "reduce" => reduce(words),
         "replace" => replace(words),
         "best" => Ok(Command::Best),
+        "depth" => depth(words),
+        "help" => Ok(Command::Help),
         _ => Err(Misread::UnknownCommand),
     }
 }
 
-fn place(side: Side, words: &mut SplitAsciiWhitespace) -> Result<Command, Misread> {
+// An order with a price, a quantity and perhaps a tag.
+fn priced(
+    side: Side,
+    kind: fn(u64) -> OrderKind,
+    words: &mut SplitAsciiWhitespace,
+) -> Result<Command, Misread> {
     let price = number(words.next())?;
     let quantity = number(words.next())?;
-    Ok(Command::Place(side, price, quantity))
+    let tag = tag(words)?;
+    Ok(Command::Place(side, kind(price), quantity, tag))
 }
 
-fn cancel(words: &mut SplitAsciiWhitespace) -> Result<Command, Misread> {
+fn market(words: &mut SplitAsciiWhitespace) -> Result<Command, Misread> {
+    let side = side(words.next())?;
+    let quantity = number(words.next())?;
+    let tag = tag(words)?;
+    Ok(Command::Place(side, OrderKind::Market, quantity, tag))
+}
+
+fn reduce(words: &mut SplitAsciiWhitespace) -> Result<Command, Misread> {
     let order = number(words.next())?;
-    Ok(Command::Cancel(order))
+    let quantity = number(words.next())?;
+    Ok(Command::Reduce(order, quantity))
 }
 
 fn replace(words: &mut SplitAsciiWhitespace) -> Result<Command, Misread> {
@@ -94,9 +127,37 @@ fn replace(words: &mut SplitAsciiWhitespace) -> Result<Command, Misread> {
     Ok(Command::Replace(order, price, quantity))
 }
 
-// The number that a word says.
+// How many levels to show: five, if the line doesn't say.
+fn depth(words: &mut SplitAsciiWhitespace) -> Result<Command, Misread> {
+    match words.next() {
+        Some(word) => Ok(Command::Depth(number(Some(word))? as usize)),
+        None => Ok(Command::Depth(5)),
+    }
+}
+
+// The side that a word names.
+fn side(word: Option<&str>) -> Result<Side, Misread> {
+    match word {
+        Some("buy") => Ok(Side::Buy),
+        Some("sell") => Ok(Side::Sell),
+        _ => Err(Misread::NoSide),
+    }
+}
+
+// The tag at the end of a line: 0, if there is none.
+fn tag(words: &mut SplitAsciiWhitespace) -> Result<u64, Misread> {
+    match words.next() {
+        Some(word) => number(Some(word)),
+        None => Ok(0),
+    }
+}
+
+// The number of a word in decimal digits, without a sign.
 fn number(word: Option<&str>) -> Result<u64, Misread> {
     let word = word.ok_or(Misread::NumberMissing)?;
+    if !word.bytes().all(|byte| byte.is_ascii_digit()) {
+        return Err(Misread::NotANumber);
+    }
     match word.parse::<u64>() {
         Ok(number) => Ok(number),
         Err(error) if *error.kind() == IntErrorKind::PosOverflow => Err(Misread::NumberTooLarge),

@@ -1,119 +1,135 @@
 //! `Exchange`: a book whose orders are numbered.
 
 use crate::command::Fault;
-use order_book::{Order, OrderBook, OrderId, Side, Trade};
+use order_book::{NewOrder, OrderBook, OrderId, OrderKind, Side, Trade};
 use std::alloc::{AllocError, Global};
+use std::collections::HashMap;
 
-/// A book whose orders are numbered as they come to rest, from 1 on. An order that is replaced gets a new number.
+/// A resting order as the exchange keeps it.
+#[derive(Clone, Copy)]
+struct Entry {
+    // its name on the book
+    id: OrderId,
+    // its owner's tag
+    tag: u64,
+}
+
+/// A book whose orders are numbered as they come to rest, from 1 on. An order that is replaced keeps its number.
+///
+/// On the book an order's tag is its number. The number of an order that was filled is forgotten when the next order comes in.
 #[derive(Drop)]
 pub struct Exchange {
     pub book: OrderBook,
-    /// The trades of the last order that came in.
+    /// The trades of the last incoming order; each has the number of the resting order as its tag.
     pub trades: Vec<Trade>,
-    // the names of all orders that ever came to rest, by number
-    names: Vec<OrderId>,
-    // the numbers of the orders of each side, by the index of the name
-    bids: Vec<u64>,
-    asks: Vec<u64>,
+    // The resting orders by number.
+    entries: HashMap<u64, Entry>,
+    // The last number that was given.
+    last: u64,
 }
 
 impl Exchange {
+    /// Creates an exchange without orders.
     pub fn new(alloc: Global) -> Exchange {
         Exchange {
             book: OrderBook::new(alloc),
             trades: Vec::new(alloc),
-            names: Vec::new(alloc),
-            bids: Vec::new(alloc),
-            asks: Vec::new(alloc),
+            entries: HashMap::new(alloc),
+            last: 0,
         }
     }
 
-    /// Places an order; returns the number of what rests.
-    pub fn place(&mut self, side: Side, price: u64, quantity: u64) -> Result<Option<u64>, Fault> {
-        self.make_room(side)?;
-        self.trades.clear();
-        let name = self.book.place(side, price, quantity, &mut self.trades)?;
-        Ok(self.enter(name))
+    /// Places an order. Returns the number of what rests.
+    pub fn place(
+        &mut self,
+        side: Side,
+        kind: OrderKind,
+        quantity: u64,
+        tag: u64,
+    ) -> Result<Option<u64>, Fault> {
+        self.make_ready()?;
+        let number = self.last.wrapping_add(1);
+        let order = NewOrder {
+            side,
+            kind,
+            quantity,
+            tag: number,
+        };
+        let id = self.book.place(order, &mut self.trades)?;
+        Ok(self.enter(number, id, tag))
     }
 
-    /// Replaces the order of this number; returns the number of what rests.
+    /// Replaces the order of this number. Returns the number if something of it rests again.
     pub fn replace(
         &mut self,
         number: u64,
         price: u64,
         quantity: u64,
     ) -> Result<Option<u64>, Fault> {
-        let name = self.name(number)?;
-        self.make_room(name.side())?;
-        self.trades.clear();
-        let name = self.book.replace(name, price, quantity, &mut self.trades)?;
-        Ok(self.enter(name))
+        let entry = self.entry(number)?;
+        self.make_ready()?;
+        let id = self
+            .book
+            .replace(entry.id, price, quantity, &mut self.trades)?;
+        let _ = self.entries.remove(&number);
+        Ok(self.enter(number, id, entry.tag))
     }
 
-    /// Takes the order of this number off the book; returns its price and what was left of it.
+    /// Removes the order of this number. Returns its price and what was left of it.
     pub fn cancel(&mut self, number: u64) -> Result<(u64, u64), Fault> {
-        let name = self.name(number)?;
-        self.book.cancel(name).ok_or(Fault::NoOrder)
+        let entry = self.entry(number)?;
+        let order = self.book.cancel(entry.id).ok_or(Fault::NoOrder)?;
+        let _ = self.entries.remove(&number);
+        Ok((order.price, order.quantity))
     }
 
-    /// The number of an order that rests, or that rested until this trade.
-    pub fn number(&self, name: OrderId) -> u64 {
-        let numbers = match name.side() {
-            Side::Buy => &self.bids,
-            Side::Sell => &self.asks,
-        };
-        numbers.get(name.index() as usize).copied().unwrap_or(0)
+    /// Takes this much off the order of this number. Returns what is left of it.
+    pub fn reduce(&mut self, number: u64, quantity: u64) -> Result<u64, Fault> {
+        let entry = self.entry(number)?;
+        let left = self.book.reduce(entry.id, quantity).ok_or(Fault::NoOrder)?;
+        if left == 0 {
+            let _ = self.entries.remove(&number);
+        }
+        Ok(left)
     }
 
-    /// What is left of the order of this name.
-    pub fn left(&self, name: Option<u64>) -> u64 {
-        let Some(Ok(name)) = name.map(|number| self.name(number)) else {
+    /// Returns the owner's tag of the order of this number, which rests or was filled by the last order: 0 if there is none.
+    pub fn tag(&self, number: u64) -> u64 {
+        self.entries.get(&number).map_or(0, |entry| entry.tag)
+    }
+
+    /// Returns what is left of the order of this number.
+    pub fn left(&self, number: u64) -> u64 {
+        let Some(entry) = self.entries.get(&number) else {
             return 0;
         };
-        self.book.get(name).map_or(0, |order| order.1)
+        self.book.get(entry.id).map_or(0, |order| order.quantity)
     }
 
-    // The name of the order of this number.
-    fn name(&self, number: u64) -> Result<OrderId, Fault> {
-        let at = number.checked_sub(1).ok_or(Fault::NoOrder)?;
-        self.names.get(at as usize).copied().ok_or(Fault::NoOrder)
-    }
-
-    // Makes room for one name and number more. A side's indexes are at most twice the orders that it had when it last grew, or 4.
-    fn make_room(&mut self, side: Side) -> Result<(), AllocError> {
-        self.names.reserve(1)?;
-        let wanted = self.book.count(side).saturating_mul(2).saturating_add(8);
-        match side {
-            Side::Buy => lengthen(&mut self.bids, wanted),
-            Side::Sell => lengthen(&mut self.asks, wanted),
+    // The order of a number, if it rests.
+    fn entry(&self, number: u64) -> Result<Entry, Fault> {
+        match self.entries.get(&number) {
+            Some(entry) if self.book.get(entry.id).is_some() => Ok(*entry),
+            _ => Err(Fault::NoOrder),
         }
     }
 
-    // Numbers an order that has come to rest.
-    fn enter(&mut self, name: Option<OrderId>) -> Option<u64> {
-        let name = name?;
-        // there is room for it
-        let _ = self.names.push(name);
-        let number = self.names.len() as u64;
-        match name.side() {
-            Side::Buy => write(&mut self.bids, name.index(), number),
-            Side::Sell => write(&mut self.asks, name.index(), number),
+    // Forgets the orders that the last one filled, and makes room for another number.
+    fn make_ready(&mut self) -> Result<(), AllocError> {
+        for trade in &self.trades {
+            if self.book.get(trade.order).is_none() {
+                let _ = self.entries.remove(&trade.tag);
+            }
         }
+        self.trades.clear();
+        self.entries.reserve(1)
+    }
+
+    // Enters an order that has come to rest. There is room for it.
+    fn enter(&mut self, number: u64, id: Option<OrderId>, tag: u64) -> Option<u64> {
+        let id = id?;
+        let _ = self.entries.insert(number, Entry { id, tag });
+        self.last = self.last.max(number);
         Some(number)
-    }
-}
-
-// Makes a list at least so long.
-fn lengthen(numbers: &mut Vec<u64>, wanted: usize) -> Result<(), AllocError> {
-    if numbers.len() < wanted {
-        numbers.resize(wanted, 0)?;
-    }
-    Ok(())
-}
-
-// Writes the number of the order at an index.
-fn write(numbers: &mut Vec<u64>, index: u32, number: u64) {
-    if let Some(place) = numbers.get_mut(index as usize) {
-        *place = number;
     }
 }

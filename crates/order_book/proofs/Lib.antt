@@ -1,3 +1,4 @@
 pub mod Volumes
 pub mod Apart
 pub mod Pairs
+pub mod Deals

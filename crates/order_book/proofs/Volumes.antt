@@ -1,11 +1,11 @@
 -- How much trades come to, and how much is left of the orders behind them.
 use Rattle.std.proofs.Common.{◌≡◌, ℕ, ◌+◌, ◌-◌, ◌≤◌, true, false, List, [], ◌∷◌, sym, arith, inl, inr, if◌then◌else◌}
 use Rattle.std.proofs.{lemmas.Bool.Decides.leb_tells, lemmas.Bool.Decides.eqb_tells, lemmas.Bool.lt-ltb, lemmas.Bool.le-ltb}
-use Rattle.order_queue.specs.Queue.{Resting, Queue, meets, total, within, traded, trades_of_first, volume, behind, taken}
-use Rattle.order_queue.specs.declared.side.Side.{Side}
+use Rattle.order_queue.specs.Queue.{Queue, meets, total, within, traded, trades_of_first, volume, behind, taken}
+use Rattle.order_queue.specs.{declared.order.Order.Order, declared.side.Side.Side}
 
 -- what meets a limit is at most all, and so is what is traded
-within-total : (side : Side) (limit : ℕ) (xs : List Resting) → within side limit xs ≤ total xs
+within-total : (side : Side) (limit : ℕ) (xs : List Order) → within side limit xs ≤ total xs
 within-total side limit [] = omega arith
 within-total side limit (x ∷ xs) = let rest = within-total side limit xs in
     elim (meets side x.price limit) as (λ b. (if b then x.quantity else 0) + within side limit xs ≤ x.quantity + total xs) [
@@ -20,15 +20,15 @@ traded-most : (q : Queue) (limit quantity : ℕ) → traded q limit quantity ≤
 traded-most q limit quantity = omega arith
 
 -- the trades of the first n units come to n
-volume-first : (side : Side) (n : ℕ) (xs : List Resting) → n ≤ total xs → volume (trades_of_first side n xs) ≡ n
-volume-first side n [] most = omega (arith, most)
-volume-first side n (x ∷ xs) most = elim (eqb_tells n 0) [
+volume-first : (n : ℕ) (xs : List Order) → n ≤ total xs → volume (trades_of_first n xs) ≡ n
+volume-first n [] most = omega (arith, most)
+volume-first n (x ∷ xs) most = elim (eqb_tells n 0) [
   | inl none ↦ rw none.0 (sym none.1)
-  | inr some ↦ rw some.0 (omega (arith, volume-first side (n - x.quantity) xs (omega (arith, most))))
+  | inr some ↦ rw some.0 (omega (arith, volume-first (n - x.quantity) xs (omega (arith, most))))
 ]
 
 -- what is left is all but these
-total-behind : (n : ℕ) (xs : List Resting) → n ≤ total xs → total (behind n xs) + n ≡ total xs
+total-behind : (n : ℕ) (xs : List Order) → n ≤ total xs → total (behind n xs) + n ≡ total xs
 total-behind n [] most = omega (arith, most)
 total-behind n (x ∷ xs) most = elim (leb_tells x.quantity n) [
   | inl whole ↦ rw (le-ltb n x.quantity whole.1) (omega (arith, whole.1, total-behind (n - x.quantity) xs (omega (arith, most, whole.1))))
@@ -36,14 +36,14 @@ total-behind n (x ∷ xs) most = elim (leb_tells x.quantity n) [
 ]
 
 -- what an order trades and what is left of it come to its quantity, and the other side has so much less
-module _ (side : Side) (q : Queue) (limit quantity : ℕ) where
-  pub bought-traded : volume (trades_of_first side (traded q limit quantity) q.orders) + (quantity - traded q limit quantity) ≡ quantity
-  bought-traded = omega (arith, volume-first side (traded q limit quantity) q.orders (traded-total q limit quantity), traded-most q limit quantity)
+module _ (q : Queue) (limit quantity : ℕ) where
+  pub bought-traded : volume (trades_of_first (traded q limit quantity) q.orders) + (quantity - traded q limit quantity) ≡ quantity
+  bought-traded = omega (arith, volume-first (traded q limit quantity) q.orders (traded-total q limit quantity), traded-most q limit quantity)
 
   pub sold-traded : (new : Queue) → new ≡ taken (traded q limit quantity) q
-      → total new.orders + volume (trades_of_first side (traded q limit quantity) q.orders) ≡ total q.orders
+      → total new.orders + volume (trades_of_first (traded q limit quantity) q.orders) ≡ total q.orders
   sold-traded new after = rw after
-      (omega (arith, volume-first side (traded q limit quantity) q.orders (traded-total q limit quantity), total-behind (traded q limit quantity) q.orders (traded-total q limit quantity)))
+      (omega (arith, volume-first (traded q limit quantity) q.orders (traded-total q limit quantity), total-behind (traded q limit quantity) q.orders (traded-total q limit quantity)))
 
 -- both, for the prover
 pub ruleset settled = (bought-traded, sold-traded)

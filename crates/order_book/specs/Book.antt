@@ -1,11 +1,13 @@
--- What an order book is: bids and asks that rest until they trade, and what an order that comes in does to them.
-use Rattle.std.specs.Prelude.{◌≡◌, ◌≢◌, ℕ, ◌+◌, ◌-◌, ◌<◌, List, [], length, Option, Some, None}
+-- What an order book is: bids and asks that rest until they trade, and what an incoming order does to them.
+use Rattle.std.specs.Prelude.{◌≡◌, ◌≢◌, ℕ, ◌+◌, ◌-◌, ◌<◌, Bool, true, false, if◌then◌else◌, List, [], length, Option, Some, None}
 use Rattle.std.specs.List.{AllByRecursion}
-use Rattle.order_queue.specs.Queue.{Resting, Queue, IsSound, Rests, order_of, traded, trades_of_first, taken, with_left}
-use Rattle.order_queue.specs.{declared.side.Side.TheVariants.Buy, declared.side.Side.TheVariants.Sell, declared.order.Trade.Trade, Id.Id}
+use Rattle.order_queue.specs.Queue.{Queue, IsSound, Rests, most_quantity, order_of, meets, traded, trades_of_first, taken, reduced, with_left}
+use Rattle.order_queue.specs.{declared.side.Side.TheVariants.Buy, declared.side.Side.TheVariants.Sell, declared.order.Order.Order, declared.order.Trade.Trade, Id.Id}
 use Rattle.order_queue.specs.declared.side.Side.{Side}
+use Rattle.order_book.specs.declared.new_order.OrderKind.TheVariants.{Limit, PostOnly, ImmediateOrCancel, FillOrKill, Market}
+use Rattle.order_book.specs.{declared.new_order.OrderKind.OrderKind, declared.new_order.NewOrder.NewOrder}
 
--- a book: those who want to buy, the highest price first, and those who want to sell, the lowest first
+-- a book: its bids, the highest price first, and its asks, the lowest first
 pub record Book : Type 0 where
   pub bids : Queue
   pub asks : Queue
@@ -31,9 +33,9 @@ empty_queue side = record { side = side; orders = []; generation = 2; capacity =
 
 -- no bid is at or above an ask
 abbrev pub IsUncrossed : Book → Type 0
-IsUncrossed b = AllByRecursion (λ (bid : Resting). AllByRecursion (λ (ask : Resting). bid.price < ask.price) b.asks.orders) b.bids.orders
+IsUncrossed b = AllByRecursion (λ (bid : Order). AllByRecursion (λ (ask : Order). bid.price < ask.price) b.asks.orders) b.bids.orders
 
--- what is true of every book
+-- what holds of every book
 pub record IsBook (b : Book) : Type 0 where
   pub bids : IsSound b.bids
   pub asks : IsSound b.asks
@@ -41,41 +43,101 @@ pub record IsBook (b : Book) : Type 0 where
   pub sells : b.asks.side ≡ Sell
   pub uncrossed : IsUncrossed b
 
--- price and quantity of the order that this names; None where it names none
-abbrev pub named : Book → Id → Option (ℕ × ℕ)
+-- the order that this names; None if it names none
+abbrev pub named : Book → Id → Option Order
 named b id = order_of (queue b id.side).orders id.pointer
 
--- how much an order trades: what it wants, and at most what the other side offers within its limit
-abbrev pub trades_for : Book → Side → ℕ → ℕ → ℕ
-trades_for b side price quantity = traded (queue b (opposite side)) price quantity
+-- the price up to which an order of a side and kind trades; a market order takes any price
+abbrev pub limit_of : Side → OrderKind → ℕ
+limit_of side (Limit price) = price
+limit_of side (PostOnly price) = price
+limit_of side (ImmediateOrCancel price) = price
+limit_of side (FillOrKill price) = price
+limit_of Buy Market = most_quantity
+limit_of Sell Market = 0
 
--- The trades of an order: with the first of the other side first, which is the best price and at equal prices the oldest order, each
--- at the price of the order that rests.
-abbrev pub trades_of : Book → Side → ℕ → ℕ → List Trade
-trades_of b side price quantity = trades_of_first (opposite side) (trades_for b side price quantity) (queue b (opposite side)).orders
+-- whether what such an order doesn't trade comes to rest
+abbrev pub can_rest : OrderKind → Bool
+can_rest (Limit price) = true
+can_rest (PostOnly price) = true
+can_rest kind = false
 
--- how much of an order comes to rest
-abbrev pub rest_of : Book → Side → ℕ → ℕ → ℕ
-rest_of b side price quantity = quantity - trades_for b side price quantity
+-- whether an order may only rest, and whether it trades as a whole or not at all
+abbrev pub only_rests : OrderKind → Bool
+only_rests (PostOnly price) = true
+only_rests kind = false
 
--- what is left of an order comes to rest on its side, and is named; where nothing is left, that side stays as it is, and there is no name
-abbrev pub RestsOrNot : Queue → ℕ → ℕ → Option Id → Queue → Type 0
-RestsOrNot old price rest None new = (rest ≡ 0) × (new ≡ old)
-RestsOrNot old price rest (Some id) new = (0 < rest) × (id.side ≡ old.side) × Rests old price rest id.pointer new
+abbrev pub is_whole : OrderKind → Bool
+is_whole (FillOrKill price) = true
+is_whole kind = false
 
--- An order that comes in: it trades with the first orders of the other side, as much as it can, and what is left of it comes to rest.
-pub record Places (old : Book) (side : Side) (price quantity : ℕ) (id : Option Id) (new : Book) : Type 0 where
-  pub trades : queue new (opposite side) ≡ taken (trades_for old side price quantity) (queue old (opposite side))
-  pub rests : RestsOrNot (queue old side) price (rest_of old side price quantity) id (queue new side)
+-- how much an order trades with a queue: what it wants, and at most what the queue offers within its limit
+abbrev pub dealt : Queue → NewOrder → ℕ
+dealt q o = traded q (limit_of o.side o.kind) o.quantity
+
+-- The trades of an order with a queue: with the first orders first, which have the best price and are at equal prices the oldest, each at
+-- the price of the resting order.
+abbrev pub deals : Queue → NewOrder → List Trade
+deals q o = trades_of_first (dealt q o) q.orders
+
+-- how much of an order isn't traded with a queue, and how much of that comes to rest
+abbrev pub undealt : Queue → NewOrder → ℕ
+undealt q o = o.quantity - dealt q o
+
+abbrev pub remainder : Queue → NewOrder → ℕ
+remainder q o = if can_rest o.kind then undealt q o else 0
+
+-- the same for the queue that an order meets in a book, which is the other side
+abbrev pub trades_for : Book → NewOrder → ℕ
+trades_for b o = dealt (queue b (opposite o.side)) o
+
+abbrev pub trades_of : Book → NewOrder → List Trade
+trades_of b o = deals (queue b (opposite o.side)) o
+
+abbrev pub untraded : Book → NewOrder → ℕ
+untraded b o = undealt (queue b (opposite o.side)) o
+
+abbrev pub rest_of : Book → NewOrder → ℕ
+rest_of b o = remainder (queue b (opposite o.side)) o
+
+-- what is left of an order comes to rest on its side, and is named; if nothing is left, that side stays as it is, and there is no name
+abbrev pub RestsOrNot : Queue → ℕ → ℕ → ℕ → Option Id → Queue → Type 0
+RestsOrNot old price rest tag None new = (rest ≡ 0) × (new ≡ old)
+RestsOrNot old price rest tag (Some id) new = (0 < rest) × (id.side ≡ old.side) × Rests old price rest tag id.pointer new
+
+-- An incoming order trades with the first orders of the other side, as much as it can, and what is left of it rests if its kind rests.
+pub record Places (old : Book) (o : NewOrder) (id : Option Id) (new : Book) : Type 0 where
+  pub trades : queue new (opposite o.side) ≡ taken (trades_for old o) (queue old (opposite o.side))
+  pub rests : RestsOrNot (queue old o.side) (limit_of o.side o.kind) (rest_of old o) o.tag id (queue new o.side)
+
+-- none of the trades is with this order
+abbrev pub IsUntraded : Id → List Trade → Type 0
+IsUntraded id ts = AllByRecursion (λ (t : Trade). t.order ≢ id) ts
+
+-- each trade, with an order of this side, is within the limit of an order of the other side
+abbrev pub AreWithin : Side → ℕ → List Trade → Type 0
+AreWithin side limit ts = AllByRecursion (λ (t : Trade). meets side t.price limit ≡ true) ts
 
 -- from old to new, this names that now, and everything else names what it named
-pub record Updates (old new : Book) (id : Id) (found : Option (ℕ × ℕ)) : Type 0 where
+pub record Updates (old new : Book) (id : Id) (found : Option Order) : Type 0 where
   pub changed : named new id ≡ found
   pub others : (other : Id) → other ≢ id → named new other ≡ named old other
 
 -- the book without the order that this names
 abbrev pub without : Book → Id → Book
 without b id = with_queue b id.side (with_left (queue b id.side) id.pointer)
+
+-- the book after so much is left of the order that this names
+abbrev pub with_less : Book → Id → ℕ → Book
+with_less b id left = with_queue b id.side (reduced (queue b id.side) id.pointer left)
+
+-- the order that replaces one: a limit order of its side with its tag
+abbrev pub tag_of : Option Order → ℕ
+tag_of None = 0
+tag_of (Some x) = x.tag
+
+abbrev pub replacement : Book → Id → ℕ → ℕ → NewOrder
+replacement b id price quantity = record { side = id.side; kind = Limit price; quantity = quantity; tag = tag_of (named b id) }
 
 -- there is no room for one order more, unless the queue grows
 abbrev pub IsFull : Queue → Type 0

@@ -1,22 +1,26 @@
 //! `OrderBook`: bids and asks.
 
-ghost use Rattle.std.specs.Prelude.{◌≡◌, ◌≢◌, ◌↔◌, ◌+◌, ◌<◌, ◌++◌, ◌⊎◌, Err, Some, None, length, vec_capacity};
+ghost use Rattle.std.specs.Prelude.{◌≡◌, ◌≢◌, ◌↔◌, ◌+◌, ◌-◌, ◌<◌, ◌++◌, ◌⊎◌, ℕ, true, false, Ok, Err, Some, None, length, vec_capacity};
 ghost use Rattle.std.specs.Prelude.{IfOk, OnOk, OnErr, OnSome, IfSome, IfNone};
-ghost use Rattle.order_queue.specs.Queue.{most_orders, first_of, total, volume};
+ghost use Rattle.std.specs.Option.{option_map};
+ghost use Rattle.arena_base.specs.Arena.{capacity_for};
+ghost use Rattle.order_queue.specs.Queue.{most_orders, first_of, first_levels, resting, traded, within, reduced_order, total, volume, HasRoomFor};
 ghost use Rattle.order_queue.specs.declared.side.Side.TheVariants.{Buy, Sell};
-ghost use Rattle.order_book.specs.Book.{opposite, queue, empty_queue, named, without, trades_for, trades_of, rest_of};
-ghost use Rattle.order_book.specs.Book.{IsBook, IsFull, LacksRoom, Places, Updates};
+ghost use Rattle.order_book.specs.Book.{opposite, queue, empty_queue, named, limit_of, can_rest, only_rests, is_whole, without, with_less, replacement};
+ghost use Rattle.order_book.specs.Book.{trades_for, trades_of, untraded, rest_of, AreWithin, IsBook, IsFull, IsUntraded, LacksRoom, Places, Updates};
 
 use crate::error::{PlacingError, ReplacingError};
+use crate::new_order::{NewOrder, OrderKind};
 use crate::settling::{settle, settle_anew};
-use order_queue::{Order, OrderId, OrderQueue, ReallocationError, Side, Trade};
+use order_queue::{Depth, Order, OrderId, OrderQueue, Orders, ReallocationError, Side, Trade};
 use std::alloc::{Allocator, Global};
 use std::marker::Model;
 
-/// A price-time order book of limit orders.
+/// A price-time order book.
 ///
 /// An incoming order trades with the other side as far as its limit allows: the best price first, at equal prices the oldest order first,
-/// at the price of the resting order. What is left of it rests on its own side under an id. No bid is ever at or above an ask.
+/// at the price of the resting order. What is left of it rests on its own side under an id, if its kind rests. No bid is ever at or above
+/// an ask.
 ///
 /// In contracts a book is two queues, bids and asks, each a list of orders in the order in which they trade. [`count`](Self::count)
 /// promises what holds of every book. In the docs n is the number of orders on a side, and k that of the orders that are filled.
@@ -51,6 +55,16 @@ impl<A: Allocator> OrderBook<A> {
         }
     }
 
+    // The orders of a side.
+    fn side(&self, side: Side) -> &OrderQueue<A>
+        ensures { result.now ≡ queue self.now side }
+    {
+        match side {
+            Side::Buy => &self.bids,
+            Side::Sell => &self.asks,
+        }
+    }
+
     /// Returns the number of orders on a side.
     pub fn count(&self, side: Side) -> usize
         ensures value { result ≡ length (queue self.now side).orders }
@@ -63,9 +77,42 @@ impl<A: Allocator> OrderBook<A> {
         }
     }
 
+    /// Returns how many orders a side holds without growing.
+    pub fn capacity(&self, side: Side) -> usize
+        ensures { result ≡ (queue self.now side).capacity }
+    {
+        self.side(side).capacity()
+    }
+
+    /// Makes room for `additional` more orders on a side, which then aren't refused by it. O(capacity) if the side grows, else O(1).
+    ///
+    /// # Errors
+    ///
+    /// The book is unchanged.
+    /// - `BeyondMaxCapacity`: there would be more than 4,294,967,294 orders on the side.
+    /// - `AllocError`: growing failed.
+    pub fn reserve(&mut self, side: Side, additional: usize) -> Result<(), ReallocationError>
+        ensures bids { self.new.bids.orders ≡ self.old.bids.orders }
+        ensures asks { self.new.asks.orders ≡ self.old.asks.orders }
+        ensures capacity { OnOk result ((queue self.new side).capacity ≡ capacity_for most_orders
+            (queue self.old side).capacity (length (queue self.old side).orders + additional)) }
+        ensures room { OnOk result (HasRoomFor additional (queue self.new side)) }
+        ensures other_side { queue self.new (opposite side) ≡ queue self.old (opposite side) }
+        ensures full { (result ≡ Err ReallocationError.BeyondMaxCapacity)
+            ↔ (most_orders < length (queue self.old side).orders + additional) }
+        ensures memory { result ≡ Err ReallocationError.AllocError
+            → (queue self.old side).capacity < length (queue self.old side).orders + additional }
+        ensures err { OnErr result (self.new ≡ self.old) }
+    {
+        match side {
+            Side::Buy => self.bids.reserve(additional),
+            Side::Sell => self.asks.reserve(additional),
+        }
+    }
+
     /// Returns the bid that trades first, the oldest at the highest price, in O(1).
     pub fn best_bid(&self) -> Option<Order>
-        ensures { result ≡ first_of Buy self.now.bids.orders }
+        ensures { result ≡ first_of self.now.bids.orders }
     {
         self.bids.first()
     }
@@ -73,37 +120,61 @@ impl<A: Allocator> OrderBook<A> {
     /// Returns the ask that trades first, the oldest at the lowest price, in O(1).
     #[tactic(auto, using(crate::proofs::Apart::first_above))]
     pub fn best_ask(&self) -> Option<Order>
-        ensures value { result ≡ first_of Sell self.now.asks.orders }
-        ensures above_bids { IfSome result (λ ask. IfSome (first_of Buy self.now.bids.orders)
+        ensures value { result ≡ first_of self.now.asks.orders }
+        ensures above_bids { IfSome result (λ ask. IfSome (first_of self.now.bids.orders)
             (λ bid. bid.price < ask.price)) }
     {
         self.asks.first()
     }
 
-    /// Returns price and remaining quantity of a resting order, in O(1). `None` if `id` names no order.
-    pub fn get(&self, id: OrderId) -> Option<(u64, u64)>
+    /// Returns an iterator over the orders of a side, first the one that trades first. Each step is O(1).
+    pub fn iter(&self, side: Side) -> Orders<'_, A>
+        ensures { result ≡ (queue self.now side).orders }
+    {
+        self.side(side).iter()
+    }
+
+    /// Returns an iterator over the first `levels` price levels of a side, the best price first: fewer if there are fewer.
+    ///
+    /// A step is O(1) for each order of its level.
+    pub fn depth(&self, side: Side, levels: usize) -> Depth<'_, A>
+        ensures { result ≡ first_levels levels (queue self.now side).orders }
+    {
+        self.side(side).depth(levels)
+    }
+
+    /// Returns a resting order, in O(1). `None` if `id` names no order.
+    pub fn get(&self, id: OrderId) -> Option<Order>
         ensures { result ≡ named self.now id }
     {
-        match id.side() {
-            Side::Buy => self.bids.get(id.pointer()),
-            Side::Sell => self.asks.get(id.pointer()),
-        }
+        self.side(id.side()).get(id.pointer())
     }
 
-    /// Returns how much of an order would trade at once, in O(1) for each order that it would trade with. Nothing changes.
-    pub fn offered(&self, side: Side, price: u64, quantity: u64) -> u64
-        ensures { result ≡ trades_for self.now side price quantity }
+    /// Returns how much of an order of a side with this limit would trade at once. Nothing changes. O(1) for each order that it would
+    /// trade with.
+    pub fn offered(&self, side: Side, limit: u64, quantity: u64) -> u64
+        ensures { result ≡ traded (queue self.now (opposite side)) limit quantity }
     {
         match side {
-            Side::Buy => self.asks.offered(price, quantity),
-            Side::Sell => self.bids.offered(price, quantity),
+            Side::Buy => self.asks.offered(limit, quantity),
+            Side::Sell => self.bids.offered(limit, quantity),
         }
     }
 
-    /// Removes an order and returns its price and remaining quantity, in O(log n).
+    /// Returns how much the other side offers an order of a side with this limit in all. O(1) for each order within the limit.
+    pub fn volume_within(&self, side: Side, limit: u64) -> u128
+        ensures { result ≡ within (opposite side) limit (queue self.now (opposite side)).orders }
+    {
+        match side {
+            Side::Buy => self.asks.volume_within(limit),
+            Side::Sell => self.bids.volume_within(limit),
+        }
+    }
+
+    /// Removes an order and returns it, in O(log n).
     ///
     /// If `id` names no order, returns `None` and nothing changes.
-    pub fn cancel(&mut self, id: OrderId) -> Option<(u64, u64)>
+    pub fn cancel(&mut self, id: OrderId) -> Option<Order>
         ensures value { result ≡ named self.old id }
         ensures updates { Updates self.old self.new id None }
         ensures count { OnSome result (length (queue self.old id.side).orders
@@ -117,13 +188,68 @@ impl<A: Allocator> OrderBook<A> {
         }
     }
 
-    /// Places an order: it trades as far as its limit `price` allows, and the rest of it rests. Appends its trades to the list and
-    /// returns the id of what rests, `None` if nothing does.
+    /// Takes `quantity` units off an order, at most all of it, and returns how much of it is left.
+    ///
+    /// The order keeps its id and its place in the queue. If nothing of it is left, it leaves. If `id` names no order, returns `None` and
+    /// nothing changes. O(1), or O(log n) if the order leaves.
+    pub fn reduce(&mut self, id: OrderId, quantity: u64) -> Option<u64>
+        ensures value { result ≡ option_map (λ x. x.quantity - quantity) (named self.old id) }
+        ensures updates { Updates self.old self.new id
+            (reduced_order (named self.old id) quantity) }
+        ensures after { IfSome result (λ left. self.new ≡ with_less self.old id left) }
+        ensures none { IfNone result (self.new ≡ self.old) }
+    {
+        match id.side() {
+            Side::Buy => self.bids.reduce(id.pointer(), quantity),
+            Side::Sell => self.asks.reduce(id.pointer(), quantity),
+        }
+    }
+
+    // Why an order's kind doesn't let it in, if so.
+    fn refusal(&self, order: NewOrder) -> Option<PlacingError>
+        ensures nothing { (result ≡ Some PlacingError.NoQuantity) ↔ (order.quantity ≡ 0) }
+        ensures trade { (result ≡ Some PlacingError.WouldTrade) ↔ ((order.quantity ≢ 0)
+            × (only_rests order.kind ≡ true) × (0 < trades_for self.now order)) }
+        ensures part { (result ≡ Some PlacingError.WouldNotFill) ↔ ((order.quantity ≢ 0)
+            × (is_whole order.kind ≡ true) × (0 < untraded self.now order)) }
+        ensures quiet { IfNone result
+            (only_rests order.kind ≡ true → trades_for self.now order ≡ 0) }
+        ensures whole { IfNone result
+            (is_whole order.kind ≡ true → untraded self.now order ≡ 0) }
+        ensures full { result ≢ Some PlacingError.BeyondMaxCapacity }
+        ensures memory { result ≢ Some PlacingError.AllocError }
+    {
+        if order.quantity == 0 {
+            return Some(PlacingError::NoQuantity);
+        }
+        if order.kind.only_rests() {
+            let offered = self.offered(order.side, order.kind.limit(order.side), 1);
+            if offered > 0 {
+                Some(PlacingError::WouldTrade)
+            } else {
+                None
+            }
+        } else if order.kind.is_whole() {
+            let offered = self.offered(order.side, order.kind.limit(order.side), order.quantity);
+            if offered < order.quantity {
+                Some(PlacingError::WouldNotFill)
+            } else {
+                None
+            }
+        } else {
+            None
+        }
+    }
+
+    /// Places an order: it trades as far as its limit and its kind allow, and the rest of it rests if its kind rests. Appends its trades to
+    /// the list and returns the id of what rests, `None` if nothing does.
     ///
     /// # Errors
     ///
-    /// The book and the list are unchanged.
+    /// The book and the list are unchanged. The first that holds is returned.
     /// - `NoQuantity`: the quantity is 0.
+    /// - `WouldTrade`: a post-only order would trade.
+    /// - `WouldNotFill`: a fill-or-kill order would not trade as a whole.
     /// - `BeyondMaxCapacity`: something would rest, and its side has 4,294,967,294 orders.
     /// - `AllocError`: memory is refused to the list of trades, or to the order's side, which grows only if something would rest and it
     ///   is full.
@@ -133,41 +259,59 @@ impl<A: Allocator> OrderBook<A> {
     /// O((k + 1) log n); plus O(n) when its side grows (amortized O(1)).
     pub fn place<B: Allocator>(
         &mut self,
-        side: Side,
-        price: u64,
-        quantity: u64,
+        order: NewOrder,
         trades: &mut Vec<Trade, B>,
     ) -> Result<Option<OrderId>, PlacingError>
-        ensures placed { IfOk result (λ id. Places self.old side price quantity id self.new) }
-        ensures trades { OnOk result (trades.new.items
-            ≡ trades.old.items ++ trades_of self.old side price quantity) }
-        ensures named { IfOk result (λ id. IfSome id
-            (λ i. named self.new i ≡ Some (price, rest_of self.old side price quantity))) }
-        ensures bought { OnOk result (volume (trades_of self.old side price quantity)
-            + rest_of self.old side price quantity ≡ quantity) }
-        ensures sold { OnOk result (total (queue self.new (opposite side)).orders
-            + volume (trades_of self.old side price quantity)
-            ≡ total (queue self.old (opposite side)).orders) }
-        ensures nothing { (result ≡ Err PlacingError.NoQuantity) ↔ (quantity ≡ 0) }
+        ensures placed { IfOk result (λ id. Places self.old order id self.new) }
+        ensures trades { OnOk result
+            (trades.new.items ≡ trades.old.items ++ trades_of self.old order) }
+        ensures named { IfOk result (λ id. IfSome id (λ i. named self.new i
+            ≡ Some (resting order.side i.pointer (limit_of order.side order.kind)
+            (rest_of self.old order) order.tag))) }
+        ensures bought { OnOk result (volume (trades_of self.old order)
+            + untraded self.old order ≡ order.quantity) }
+        ensures sold { OnOk result (total (queue self.new (opposite order.side)).orders
+            + volume (trades_of self.old order)
+            ≡ total (queue self.old (opposite order.side)).orders) }
+        ensures limited { OnOk result (AreWithin (opposite order.side)
+            (limit_of order.side order.kind) (trades_of self.old order)) }
+        ensures others { IfOk result (λ id. (other : _) → Some other ≢ id
+            → IsUntraded other (trades_of self.old order)
+            → named self.new other ≡ named self.old other) }
+        ensures at_once { can_rest order.kind ≡ false → IfOk result (λ id. id ≡ None) }
+        ensures posted { only_rests order.kind ≡ true → OnOk result
+            (trades.new.items ≡ trades.old.items) }
+        ensures whole { is_whole order.kind ≡ true → OnOk result
+            (volume (trades_of self.old order) ≡ order.quantity) }
+        ensures room { OnOk result ((n : ℕ) → HasRoomFor (n + 1) (queue self.old order.side)
+            → HasRoomFor n (queue self.new order.side)) }
+        ensures nothing { (result ≡ Err PlacingError.NoQuantity) ↔ (order.quantity ≡ 0) }
+        ensures would_trade { (result ≡ Err PlacingError.WouldTrade)
+            ↔ ((order.quantity ≢ 0) × (only_rests order.kind ≡ true)
+            × (0 < trades_for self.old order)) }
+        ensures would_not_fill { (result ≡ Err PlacingError.WouldNotFill)
+            ↔ ((order.quantity ≢ 0) × (is_whole order.kind ≡ true)
+            × (0 < untraded self.old order)) }
         ensures full { (result ≡ Err PlacingError.BeyondMaxCapacity)
-            ↔ ((0 < rest_of self.old side price quantity)
-            × (length (queue self.old side).orders ≡ most_orders)) }
+            ↔ ((0 < rest_of self.old order)
+            × (length (queue self.old order.side).orders ≡ most_orders)
+            × (only_rests order.kind ≡ true → trades_for self.old order ≡ 0)) }
         ensures memory { result ≡ Err PlacingError.AllocError
             → LacksRoom (vec_capacity trades.old) (length trades.old.items)
-            (trades_of self.old side price quantity)
-            ⊎ ((0 < rest_of self.old side price quantity) × IsFull (queue self.old side)
-            × (length (queue self.old side).orders ≢ most_orders)) }
+            (trades_of self.old order)
+            ⊎ ((0 < rest_of self.old order) × IsFull (queue self.old order.side)
+            × (length (queue self.old order.side).orders ≢ most_orders)) }
         ensures err { OnErr result (self.new ≡ self.old) }
         ensures kept { OnErr result (trades.new.items ≡ trades.old.items) }
     {
-        if quantity == 0 {
-            return Err(PlacingError::NoQuantity);
+        if let Some(refusal) = self.refusal(order) {
+            return Err(refusal);
         }
-        // with a count a book tells what holds of it
-        let _ = self.count(side);
-        let settled = match side {
-            Side::Buy => settle(&mut self.bids, &mut self.asks, price, quantity, trades),
-            Side::Sell => settle(&mut self.asks, &mut self.bids, price, quantity, trades),
+        // For the prover: what holds of every book.
+        let _ = self.count(order.side);
+        let settled = match order.side {
+            Side::Buy => settle(&mut self.bids, &mut self.asks, order, trades),
+            Side::Sell => settle(&mut self.asks, &mut self.bids, order, trades),
         };
         match settled {
             Ok(id) => Ok(id),
@@ -176,8 +320,8 @@ impl<A: Allocator> OrderBook<A> {
         }
     }
 
-    /// Removes an order and places it anew on its side with another price and quantity. It counts as new, also at the same price, and
-    /// gets a new id. Returns what [`place`](Self::place) returns, at the same cost.
+    /// Removes an order, and places a limit order of its side with its tag and another price and quantity. That counts as new, also at the
+    /// same price, and gets a new id. Returns what [`place`](Self::place) returns, at the same cost.
     ///
     /// # Errors
     ///
@@ -192,39 +336,53 @@ impl<A: Allocator> OrderBook<A> {
         quantity: u64,
         trades: &mut Vec<Trade, B>,
     ) -> Result<Option<OrderId>, ReplacingError>
-        ensures placed { IfOk result
-            (λ new. Places (without self.old id) id.side price quantity new self.new) }
-        ensures trades { OnOk result (trades.new.items
-            ≡ trades.old.items ++ trades_of (without self.old id) id.side price quantity) }
+        ensures placed { IfOk result (λ new. Places (without self.old id)
+            (replacement self.old id price quantity) new self.new) }
+        ensures trades { OnOk result (trades.new.items ≡ trades.old.items
+            ++ trades_of (without self.old id) (replacement self.old id price quantity)) }
         ensures named { IfOk result (λ new. IfSome new (λ i. named self.new i
-            ≡ Some (price, rest_of (without self.old id) id.side price quantity))) }
-        ensures bought { OnOk result
-            (volume (trades_of (without self.old id) id.side price quantity)
-            + rest_of (without self.old id) id.side price quantity ≡ quantity) }
+            ≡ Some (resting id.side i.pointer price
+            (rest_of (without self.old id) (replacement self.old id price quantity))
+            (replacement self.old id price quantity).tag))) }
+        ensures bought { OnOk result (volume (trades_of (without self.old id)
+            (replacement self.old id price quantity)) + untraded (without self.old id)
+            (replacement self.old id price quantity) ≡ quantity) }
         ensures sold { OnOk result (total (queue self.new (opposite id.side)).orders
-            + volume (trades_of (without self.old id) id.side price quantity)
+            + volume (trades_of (without self.old id) (replacement self.old id price quantity))
             ≡ total (queue self.old (opposite id.side)).orders) }
+        ensures limited { OnOk result (AreWithin (opposite id.side) price
+            (trades_of (without self.old id) (replacement self.old id price quantity))) }
+        ensures others { IfOk result (λ new. (other : _) → Some other ≢ new → other ≢ id
+            → IsUntraded other (trades_of (without self.old id)
+            (replacement self.old id price quantity))
+            → named self.new other ≡ named self.old other) }
         ensures nothing { (result ≡ Err ReplacingError.NoQuantity) ↔ (quantity ≡ 0) }
         ensures unknown { (result ≡ Err ReplacingError.NoOrder)
             ↔ ((quantity ≢ 0) × (named self.old id ≡ None)) }
         ensures memory { result ≡ Err ReplacingError.AllocError
             → LacksRoom (vec_capacity trades.old) (length trades.old.items)
-            (trades_of (without self.old id) id.side price quantity) }
+            (trades_of (without self.old id) (replacement self.old id price quantity)) }
         ensures err { OnErr result (self.new ≡ self.old) }
         ensures kept { OnErr result (trades.new.items ≡ trades.old.items) }
     {
         if quantity == 0 {
             return Err(ReplacingError::NoQuantity);
         }
-        if self.get(id).is_none() {
+        let Some(old) = self.get(id) else {
             return Err(ReplacingError::NoOrder);
-        }
-        // with a count a book tells what holds of it
+        };
+        // For the prover: what holds of every book.
         let _ = self.count(id.side());
-        let old = id.pointer();
+        let order = NewOrder {
+            side: id.side(),
+            kind: OrderKind::Limit(price),
+            quantity,
+            tag: old.tag,
+        };
+        let pointer = id.pointer();
         let settled = match id.side() {
-            Side::Buy => settle_anew(&mut self.bids, &mut self.asks, old, price, quantity, trades),
-            Side::Sell => settle_anew(&mut self.asks, &mut self.bids, old, price, quantity, trades),
+            Side::Buy => settle_anew(&mut self.bids, &mut self.asks, pointer, order, trades),
+            Side::Sell => settle_anew(&mut self.asks, &mut self.bids, pointer, order, trades),
         };
         match settled {
             Ok(new) => Ok(new),

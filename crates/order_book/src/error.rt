@@ -8,6 +8,12 @@ pub enum PlacingError {
     /// The order is for nothing: its quantity is 0.
     #[error("an order for nothing")]
     NoQuantity,
+    /// It may only rest, and would trade at once.
+    #[error("the order would trade")]
+    WouldTrade,
+    /// It is to trade as a whole at once, and can't.
+    #[error("the order would not be filled")]
+    WouldNotFill,
     /// Part of it would rest, and its side has 4,294,967,294 orders, as many as it can have.
     #[error("as many orders as there can be")]
     BeyondMaxCapacity,

@@ -3,8 +3,10 @@
 
 mod book;
 mod error;
+mod new_order;
 mod settling;
 
 pub use book::OrderBook;
 pub use error::{PlacingError, ReplacingError};
-pub use order_queue::{Order, OrderId, Side, Trade};
+pub use new_order::{NewOrder, OrderKind};
+pub use order_queue::{Depth, Level, Order, OrderId, Orders, ReallocationError, Side, Trade};

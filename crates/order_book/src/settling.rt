@@ -1,10 +1,11 @@
 //! What an order does to the two sides of a book.
 
-ghost use Rattle.std.specs.Prelude.{◌≡◌, ◌≢◌, ◌↔◌, ◌+◌, ◌-◌, ◌<◌, ◌++◌, ◌⊎◌, Err, Some, None, length, vec_capacity};
+ghost use Rattle.std.specs.Prelude.{◌≡◌, ◌≢◌, ◌↔◌, ◌+◌, ◌<◌, ◌++◌, ◌⊎◌, ℕ, Err, Some, None, length, vec_capacity, if◌then◌else◌};
 ghost use Rattle.std.specs.Prelude.{IfOk, OnOk, OnErr, IfSome};
-ghost use Rattle.order_queue.specs.Queue.{most_orders, order_of, traded, trades_of_first, taken, total, volume, with_left};
-ghost use Rattle.order_book.specs.Book.{IsFull, LacksRoom, RestsOrNot};
+ghost use Rattle.order_queue.specs.Queue.{most_orders, order_of, taken, total, volume, resting, with_left, HasRoomFor};
+ghost use Rattle.order_book.specs.Book.{limit_of, can_rest, dealt, deals, undealt, remainder, AreWithin, IsFull, IsUntraded, LacksRoom, RestsOrNot};
 
+use crate::new_order::NewOrder;
 use order_queue::{OrderId, OrderQueue, P0, ReallocationError, Trade};
 use std::alloc::{AllocError, Allocator};
 
@@ -16,10 +17,11 @@ fn rest<A: Allocator>(
     own: &mut OrderQueue<A>,
     price: u64,
     left: u64,
+    tag: u64,
 ) -> Result<Option<OrderId>, ReallocationError>
-    ensures rests { IfOk result (λ id. RestsOrNot own.old price left id own.new) }
-    ensures names { IfOk result (λ id. IfSome id
-        (λ i. order_of own.new.orders i.pointer ≡ Some (price, left))) }
+    ensures rests { IfOk result (λ id. RestsOrNot own.old price left tag id own.new) }
+    ensures names { IfOk result (λ id. IfSome id (λ i. order_of own.new.orders i.pointer
+        ≡ Some (resting own.old.side i.pointer price left tag))) }
     ensures full { (result ≡ Err ReallocationError.BeyondMaxCapacity)
         ↔ ((0 < left) × (length own.old.orders ≡ most_orders)) }
     ensures memory { result ≡ Err ReallocationError.AllocError
@@ -29,54 +31,74 @@ fn rest<A: Allocator>(
     if left == 0 {
         return Ok(None);
     }
-    let pointer = own.put(price, left)?;
+    let pointer = own.put(price, left, tag)?;
     Ok(Some(OrderId::new(own.side(), pointer)))
 }
 
-/// Trades with the other side, and puts what is left on its own.
+// How much of an order rests, of which so much is left.
+fn rest_of(order: NewOrder, left: u64) -> u64
+    ensures { result ≡ (if can_rest order.kind then left else 0) }
+{
+    if order.kind.can_rest() { left } else { 0 }
+}
+
+/// Trades with the other side, and puts what is left on its own if the order's kind rests.
 #[tactic(auto, using(crate::proofs::Volumes::settled))]
 pub(crate) fn settle<A: Allocator, B: Allocator>(
     own: &mut OrderQueue<A>,
     other: &mut OrderQueue<A>,
-    price: u64,
-    quantity: u64,
+    order: NewOrder,
     trades: &mut Vec<Trade, B>,
 ) -> Result<Option<OrderId>, ReallocationError>
-    ensures rests { IfOk result (λ id. RestsOrNot own.old price
-        (quantity - traded other.old price quantity) id own.new) }
+    ensures rests { IfOk result (λ id. RestsOrNot own.old (limit_of order.side order.kind)
+        (remainder other.old order) order.tag id own.new) }
     ensures names { IfOk result (λ id. IfSome id (λ i. order_of own.new.orders i.pointer
-        ≡ Some (price, quantity - traded other.old price quantity))) }
-    ensures taken { OnOk result (other.new ≡ taken (traded other.old price quantity) other.old) }
-    ensures trades { OnOk result (trades.new.items ≡ trades.old.items ++ trades_of_first
-        other.old.side (traded other.old price quantity) other.old.orders) }
-    ensures bought { OnOk result (volume (trades_of_first other.old.side
-        (traded other.old price quantity) other.old.orders)
-        + (quantity - traded other.old price quantity) ≡ quantity) }
-    ensures sold { OnOk result (total other.new.orders + volume (trades_of_first other.old.side
-        (traded other.old price quantity) other.old.orders) ≡ total other.old.orders) }
+        ≡ Some (resting own.old.side i.pointer (limit_of order.side order.kind)
+        (remainder other.old order) order.tag))) }
+    ensures taken { OnOk result (other.new ≡ taken (dealt other.old order) other.old) }
+    ensures trades { OnOk result
+        (trades.new.items ≡ trades.old.items ++ deals other.old order) }
+    ensures bought { OnOk result
+        (volume (deals other.old order) + undealt other.old order ≡ order.quantity) }
+    ensures sold { OnOk result
+        (total other.new.orders + volume (deals other.old order) ≡ total other.old.orders) }
     ensures full { (result ≡ Err ReallocationError.BeyondMaxCapacity)
-        ↔ ((traded other.old price quantity < quantity)
-        × (length own.old.orders ≡ most_orders)) }
+        ↔ ((0 < remainder other.old order) × (length own.old.orders ≡ most_orders)) }
     ensures memory { result ≡ Err ReallocationError.AllocError
-        → LacksRoom (vec_capacity trades.old) (length trades.old.items) (trades_of_first
-        other.old.side (traded other.old price quantity) other.old.orders)
-        ⊎ ((traded other.old price quantity < quantity) × IsFull own.old
+        → LacksRoom (vec_capacity trades.old) (length trades.old.items) (deals other.old order)
+        ⊎ ((0 < remainder other.old order) × IsFull own.old
         × (length own.old.orders ≢ most_orders)) }
+    ensures own_others { IfOk result (λ id. (p : ℕ × ℕ)
+        → Some (record { side = own.old.side; pointer = p }) ≢ id
+        → order_of own.new.orders p ≡ order_of own.old.orders p) }
+    ensures others { OnOk result ((p : ℕ × ℕ)
+        → IsUntraded (record { side = other.old.side; pointer = p }) (deals other.old order)
+        → order_of other.new.orders p ≡ order_of other.old.orders p) }
+    ensures limited { OnOk result (AreWithin other.old.side
+        (limit_of order.side order.kind) (deals other.old order)) }
+    ensures quiet { dealt other.old order ≡ 0
+        → OnOk result (trades.new.items ≡ trades.old.items) }
+    ensures room { OnOk result
+        ((n : ℕ) → HasRoomFor (n + 1) own.old → HasRoomFor n own.new) }
     ensures own_kept { OnErr result (own.new ≡ own.old) }
     ensures other_kept { OnErr result (other.new ≡ other.old) }
     ensures trades_kept { OnErr result (trades.new.items ≡ trades.old.items) }
 {
-    // where the side is full, that is the refusal, also if the trades would be refused memory
-    if own.len() == MOST_ORDERS && other.offered(price, quantity) < quantity {
-        return Err(ReallocationError::BeyondMaxCapacity);
+    let price = order.kind.limit(order.side);
+    // If the side is full, that is the refusal, also if the trades would be refused memory.
+    if own.len() == MOST_ORDERS {
+        let offered = other.offered(price, order.quantity);
+        if rest_of(order, order.quantity - offered) > 0 {
+            return Err(ReallocationError::BeyondMaxCapacity);
+        }
     }
     let before = trades.len();
-    let Ok(left) = other.offer(price, quantity, trades) else {
+    let Ok(left) = other.offer(price, order.quantity, trades) else {
         return Err(ReallocationError::AllocError);
     };
-    match rest(own, price, left) {
+    match rest(own, price, rest_of(order, left), order.tag) {
         Ok(id) => {
-            other.take(quantity - left);
+            other.take(order.quantity - left);
             Ok(id)
         }
         Err(refusal) => {
@@ -86,43 +108,52 @@ pub(crate) fn settle<A: Allocator, B: Allocator>(
     }
 }
 
-/// Takes an order out, and settles it anew with another price and quantity. It needs no room on its own side.
+/// Removes an order, and settles another one in its place. It needs no room on its own side.
 #[tactic(auto, using(crate::proofs::Volumes::settled))]
 pub(crate) fn settle_anew<A: Allocator, B: Allocator>(
     own: &mut OrderQueue<A>,
     other: &mut OrderQueue<A>,
     pointer: P0,
-    price: u64,
-    quantity: u64,
+    order: NewOrder,
     trades: &mut Vec<Trade, B>,
 ) -> Result<Option<OrderId>, AllocError>
     requires { order_of own.old.orders pointer ≢ None }
-    ensures rests { IfOk result (λ id. RestsOrNot (with_left own.old pointer) price
-        (quantity - traded other.old price quantity) id own.new) }
+    ensures rests { IfOk result
+        (λ id. RestsOrNot (with_left own.old pointer) (limit_of order.side order.kind)
+        (remainder other.old order) order.tag id own.new) }
     ensures names { IfOk result (λ id. IfSome id (λ i. order_of own.new.orders i.pointer
-        ≡ Some (price, quantity - traded other.old price quantity))) }
-    ensures taken { OnOk result (other.new ≡ taken (traded other.old price quantity) other.old) }
-    ensures trades { OnOk result (trades.new.items ≡ trades.old.items ++ trades_of_first
-        other.old.side (traded other.old price quantity) other.old.orders) }
-    ensures bought { OnOk result (volume (trades_of_first other.old.side
-        (traded other.old price quantity) other.old.orders)
-        + (quantity - traded other.old price quantity) ≡ quantity) }
-    ensures sold { OnOk result (total other.new.orders + volume (trades_of_first other.old.side
-        (traded other.old price quantity) other.old.orders) ≡ total other.old.orders) }
-    ensures memory { OnErr result (LacksRoom (vec_capacity trades.old) (length trades.old.items)
-        (trades_of_first other.old.side (traded other.old price quantity) other.old.orders)) }
+        ≡ Some (resting own.old.side i.pointer (limit_of order.side order.kind)
+        (remainder other.old order) order.tag))) }
+    ensures taken { OnOk result (other.new ≡ taken (dealt other.old order) other.old) }
+    ensures trades { OnOk result
+        (trades.new.items ≡ trades.old.items ++ deals other.old order) }
+    ensures bought { OnOk result
+        (volume (deals other.old order) + undealt other.old order ≡ order.quantity) }
+    ensures sold { OnOk result
+        (total other.new.orders + volume (deals other.old order) ≡ total other.old.orders) }
+    ensures memory { OnErr result (LacksRoom (vec_capacity trades.old)
+        (length trades.old.items) (deals other.old order)) }
+    ensures own_others { IfOk result (λ id. (p : ℕ × ℕ)
+        → Some (record { side = own.old.side; pointer = p }) ≢ id → p ≢ pointer
+        → order_of own.new.orders p ≡ order_of own.old.orders p) }
+    ensures others { OnOk result ((p : ℕ × ℕ)
+        → IsUntraded (record { side = other.old.side; pointer = p }) (deals other.old order)
+        → order_of other.new.orders p ≡ order_of other.old.orders p) }
+    ensures limited { OnOk result (AreWithin other.old.side
+        (limit_of order.side order.kind) (deals other.old order)) }
     ensures own_kept { OnErr result (own.new ≡ own.old) }
     ensures other_kept { OnErr result (other.new ≡ other.old) }
     ensures trades_kept { OnErr result (trades.new.items ≡ trades.old.items) }
 {
-    let left = other.offer(price, quantity, trades)?;
-    // with its length a queue tells that there is room for all its orders
+    let price = order.kind.limit(order.side);
+    let left = other.offer(price, order.quantity, trades)?;
+    // For the prover: there is room for all orders of the side.
     let _ = own.len();
     let _ = own.remove(pointer);
-    other.take(quantity - left);
-    match rest(own, price, left) {
+    other.take(order.quantity - left);
+    match rest(own, price, rest_of(order, left), order.tag) {
         Ok(id) => Ok(id),
-        // the order that was taken out has left its room
+        // the removed order has left its room
         Err(_) => unreachable!(),
     }
 }

@@ -1,11 +1,14 @@
-//! A desk: who deals for others, and says at once how much was dealt.
+//! A desk that deals for others, and says at once how much was dealt.
 
 ghost use Rattle.std.specs.Prelude.{◌≡◌, ◌≢◌, ◌↔◌, ◌+◌, ◌-◌, ◌++◌, ◌<◌, ◌⊎◌, ℕ, [], ◌∷◌, length, vec_capacity, IsTrue, true, false};
 ghost use Rattle.std.specs.Prelude.{Some, None, Ok, Err, IfOk, OnOk, OnErr, IfSome, IfNone};
 ghost use Rattle.std.specs.Option.{option_map};
-ghost use Rattle.order_book.specs.Book.{LacksRoom, Updates, named, rest_of, trades_for, trades_of};
+ghost use Rattle.order_queue.specs.Queue.{HasRoomFor, first_levels, resting, reduced_order, volume};
+ghost use Rattle.order_book.specs.Book.{IsFull, LacksRoom, Updates, named, queue, rest_of, trades_for, trades_of};
 
-use order_book::{OrderBook, OrderId, PlacingError, Side, Trade};
+use order_book::{
+    Level, NewOrder, OrderBook, OrderId, OrderKind, PlacingError, ReallocationError, Side, Trade,
+};
 use std::alloc::Global;
 use std::marker::Model;
 
@@ -31,7 +34,7 @@ pub struct Deal {
 }
 
 impl Desk {
-    /// A desk with an empty book.
+    /// Makes a desk with an empty book.
     pub fn new(alloc: Global) -> Self
         ensures bids { result.bids.orders ≡ [] }
         ensures asks { result.asks.orders ≡ [] }
@@ -41,14 +44,22 @@ impl Desk {
         }
     }
 
-    /// How many orders rest.
+    /// Returns the number of resting orders.
     pub fn size(&self) -> usize
         ensures { result ≡ length self.now.bids.orders + length self.now.asks.orders }
     {
         self.book.count(Side::Buy) + self.book.count(Side::Sell)
     }
 
-    /// By how much the best ask is above the best bid: at least 1. `None` where one of them is missing.
+    /// Makes room for so many more orders on a side.
+    pub fn reserve(&mut self, side: Side, additional: usize) -> Result<(), ReallocationError>
+        ensures room { OnOk result (HasRoomFor additional (queue self.new side)) }
+        ensures refused { OnErr result (self.new ≡ self.old) }
+    {
+        self.book.reserve(side, additional)
+    }
+
+    /// Returns by how much the best ask is above the best bid: at least 1. `None` if one of them is missing.
     pub fn spread(&self) -> Option<u64>
         ensures value { (bid : _) (bids : _) (ask : _) (asks : _)
             → self.now.bids.orders ≡ bid ∷ bids → self.now.asks.orders ≡ ask ∷ asks
@@ -61,44 +72,52 @@ impl Desk {
         Some(ask.price - bid.price)
     }
 
-    /// Takes an order off the book, and returns how much was left of it. `None` where the name names none.
+    /// Returns the best level of a side.
+    pub fn best_level(&self, side: Side) -> Option<Level>
+        ensures some { (level : _) (levels : _)
+            → first_levels 1 (queue self.now side).orders ≡ level ∷ levels
+            → result ≡ Some level }
+        ensures none { first_levels 1 (queue self.now side).orders ≡ [] → result ≡ None }
+    {
+        self.book.depth(side, 1).next()
+    }
+
+    /// Removes an order and returns how much was left of it. `None` if the name names none.
     pub fn withdraw(&mut self, id: OrderId) -> Option<u64>
-        ensures left { result ≡ option_map (λ order. order.1) (named self.old id) }
+        ensures left { result ≡ option_map (λ order. order.quantity) (named self.old id) }
         ensures updates { Updates self.old self.new id None }
         ensures none { IfNone result (self.new ≡ self.old) }
     {
-        let (_, left) = self.book.cancel(id)?;
-        Some(left)
+        let order = self.book.cancel(id)?;
+        Some(order.quantity)
     }
 
-    /// Places an order, adds its trades to the list, and says how much was dealt. One that is refused changes nothing.
-    pub fn deal(
-        &mut self,
-        side: Side,
-        price: u64,
-        quantity: u64,
-        trades: &mut Vec<Trade>,
-    ) -> Result<Deal, PlacingError>
-        ensures dealt { IfOk result
-            (λ deal. deal.dealt ≡ trades_for self.old side price quantity) }
-        ensures whole { IfOk result
-            (λ deal. deal.dealt + rest_of self.old side price quantity ≡ quantity) }
-        ensures trades { OnOk result (trades.new.items
-            ≡ trades.old.items ++ trades_of self.old side price quantity) }
+    /// Halves an order, which keeps its place, and returns how much is left of it.
+    pub fn halve(&mut self, id: OrderId) -> Option<u64>
+        ensures none { named self.old id ≡ None → result ≡ None }
+        ensures others { (other : _) → other ≢ id
+            → named self.new other ≡ named self.old other }
+    {
+        let left = self.left_of(id);
+        self.book.reduce(id, left / 2)
+    }
+
+    /// Places an order, appends its trades to the list, and says how much was dealt. One that is refused changes nothing.
+    pub fn deal(&mut self, order: NewOrder, trades: &mut Vec<Trade>) -> Result<Deal, PlacingError>
+        ensures dealt { IfOk result (λ deal. deal.dealt ≡ trades_for self.old order) }
+        ensures trades { OnOk result
+            (trades.new.items ≡ trades.old.items ++ trades_of self.old order) }
         ensures rests { IfOk result (λ deal. IfSome deal.resting
-            (λ id. named self.new id ≡ Some (price, rest_of self.old side price quantity))) }
+            (λ id. option_map (λ x. x.quantity) (named self.new id)
+            ≡ Some (rest_of self.old order))) }
         ensures refused { OnErr result (self.new ≡ self.old) }
         ensures kept { OnErr result (trades.new.items ≡ trades.old.items) }
     {
-        let resting = self.book.place(side, price, quantity, trades)?;
-        let left = match resting {
-            Some(id) => self.left_of(id),
-            None => 0,
-        };
-        Ok(Deal {
-            dealt: quantity - left,
-            resting,
-        })
+        let dealt = self
+            .book
+            .offered(order.side, order.kind.limit(order.side), order.quantity);
+        let resting = self.book.place(order, trades)?;
+        Ok(Deal { dealt, resting })
     }
 
     /// Deals all of an order at once, or nothing of it, and returns whether it was dealt. It needs room for its trades alone.
@@ -109,34 +128,36 @@ impl Desk {
         quantity: u64,
         trades: &mut Vec<Trade>,
     ) -> Result<bool, PlacingError>
-        ensures dealt { IfOk result
-            (λ dealt. IsTrue dealt ↔ (trades_for self.old side price quantity ≡ quantity)) }
-        ensures trades { result ≡ Ok true → trades.new.items
-            ≡ trades.old.items ++ trades_of self.old side price quantity }
-        ensures whole { result ≡ Ok true → rest_of self.old side price quantity ≡ 0 }
+        ensures dealt { result ≡ Ok true → volume (trades_of self.old (record {
+          side = side;
+          kind = OrderKind.FillOrKill price;
+          quantity = quantity;
+          tag = 0;
+        })) ≡ quantity }
         ensures declined { result ≡ Ok false → self.new ≡ self.old }
         ensures not_full { result ≢ Err PlacingError.BeyondMaxCapacity }
-        ensures memory { result ≡ Err PlacingError.AllocError
-            → LacksRoom (vec_capacity trades.old) (length trades.old.items)
-            (trades_of self.old side price quantity) }
         ensures refused { OnErr result (self.new ≡ self.old) }
     {
-        if self.book.offered(side, price, quantity) < quantity {
-            return Ok(false);
-        }
-        match self.book.place(side, price, quantity, trades) {
+        let order = NewOrder {
+            side,
+            kind: OrderKind::FillOrKill(price),
+            quantity,
+            tag: 0,
+        };
+        match self.book.place(order, trades) {
             Ok(_) => Ok(true),
+            Err(PlacingError::WouldNotFill) => Ok(false),
             Err(refusal) => Err(refusal),
         }
     }
 
-    /// How much is left of an order: 0 where the name names none.
+    /// Returns how much is left of an order: 0 if the name names none.
     pub fn left_of(&self, id: OrderId) -> u64
-        ensures some { (price left : ℕ) → named self.now id ≡ Some (price, left) → result ≡ left }
+        ensures some { (order : _) → named self.now id ≡ Some order → result ≡ order.quantity }
         ensures none { named self.now id ≡ None → result ≡ 0 }
     {
         match self.book.get(id) {
-            Some((_, left)) => left,
+            Some(order) => order.quantity,
             None => 0,
         }
     }

@@ -1,9 +1,6 @@
 -- For the crates above: what follows from the public definitions.
-use Rattle.std.proofs.{Common.◌≡◌, Common.ℕ, Common.false, Common.arith, lemmas.Bool.Decides.nat_tests}
-use Rattle.order_queue.specs.{declared.side.Side.TheVariants.Buy, declared.side.Side.TheVariants.Sell, Queue.IsNoWorse, Queue.meets}
-use Rattle.order_queue.specs.declared.side.Side.{Side}
-
--- where an order doesn't meet a limit, one whose price is no better doesn't either
-pub unmet-worse : (side : Side) (p q limit : ℕ) → IsNoWorse side p q → meets side p limit ≡ false → meets side q limit ≡ false
-unmet-worse Buy p q limit no_worse unmet = grind (arith, nat_tests, no_worse, unmet)
-unmet-worse Sell p q limit no_worse unmet = grind (arith, nat_tests, no_worse, unmet)
+-- if an order doesn't meet a limit, one whose price is no better doesn't either
+pub use Rattle.order_queue.proofs.Meeting.{unmet-worse}
+-- if the first order doesn't meet a limit, the orders within it offer nothing; nothing makes no trades; if nothing is taken, all orders are left
+pub use Rattle.order_queue.proofs.Trading.{within-missed, trades-none}
+pub use Rattle.order_queue.proofs.Taking.{behind-none}

@@ -1,4 +1,5 @@
 pub mod CallerLemmas
+pub mod Meeting
 -- Lemmas of this crate.
 pub mod Ranks
 pub mod Naming
@@ -6,3 +7,4 @@ pub mod Putting
 pub mod Trading
 pub mod Taking
 pub mod Reducing
+pub mod Levels

@@ -1,24 +1,24 @@
 -- The orders of a queue and the entries of its arena: what a pointer names, and what a removal leaves.
-use Rattle.std.proofs.Common.{◌≡◌, ℕ, ◌<◌, ◌==◌, [], ◌∷◌, map, Option, Some, None, IsSome, refl, sym, ap, subst, ◌∙◌, arith, inl, inr, true, false, if◌then◌else◌}
+use Rattle.std.proofs.Common.{◌≡◌, ℕ, ◌<◌, ◌≤◌, ◌==◌, [], ◌∷◌, map, Option, Some, None, IsSome, refl, sym, ap, subst, ◌∙◌, arith, inl, inr, true, false, if◌then◌else◌}
 use Rattle.std.proofs.{lemmas.Bool.Decides.eqb_tells, lemmas.Grind.common_steps, lemmas.List.length-map}
 use Rattle.std.specs.{List.AllByRecursion, Option.option_map, Ordering.nat_cmp}
 use Rattle.chain_base.specs.Chain.{Entry, IsDistinct as AreDistinct, entry_at, item_of, first_pointer, without as without_index}
 use Rattle.chain_base.proofs.CallerLemmas.{entry_at-absent}
 use Rattle.sorted_arena.specs.Sorted.{Sorted, IsSound as IsSoundArena, Updates as UpdatesArena, without as without_entry}
 use Rattle.order_queue.specs.Queue.{most_orders, Updates, with_left, first_of, order_of, without, IsDistinct, IsSound}
-use Rattle.order_queue.specs.Layout.{ranked, resting, queue_of, IsLawful, AreLawful}
-use Rattle.order_queue.specs.{declared.order.Order.Order, declared.side.Side.Side}
+use Rattle.order_queue.specs.Layout.{order_in, queue_of, IsLawful, AreLawful}
+use Rattle.order_queue.specs.{declared.order.Lot.Lot, declared.order.Order.Order, declared.side.Side.Side}
 use Rattle.order_queue.proofs.{Ranks.Entries, Ranks.recursion-map, Ranks.in_order-sorted}
 
 -- the entries behind the first have pairwise different indexes too, and none has the first's
-distinct-rest : (e : Entry (ℕ × ℕ)) (es : Entries) → AreDistinct (e ∷ es) → AreDistinct es
+pub distinct-rest : (e : Entry (ℕ × Lot)) (es : Entries) → AreDistinct (e ∷ es) → AreDistinct es
 distinct-rest e es distinct i = omega (arith, distinct i)
 
-absent-rest : (e : Entry (ℕ × ℕ)) (es : Entries) (i : ℕ) → e.index ≡ i → AreDistinct (e ∷ es) → entry_at es i ≡ None
+absent-rest : (e : Entry (ℕ × Lot)) (es : Entries) (i : ℕ) → e.index ≡ i → AreDistinct (e ∷ es) → entry_at es i ≡ None
 absent-rest e es i here distinct = entry_at-absent es i (grind (arith, common_steps, distinct i))
 
 -- the first entry's pointer finds its item
-pub first-item : (e : Entry (ℕ × ℕ)) (es : Entries) → item_of (e ∷ es) (e.index, e.generation) ≡ Some e.item
+pub first-item : (e : Entry (ℕ × Lot)) (es : Entries) → item_of (e ∷ es) (e.index, e.generation) ≡ Some e.item
 first-item e es = elim (eqb_tells e.index e.index) [
   | inl h ↦ elim (eqb_tells e.generation e.generation) [
     | inl k ↦ rw (h.0, k.0) refl
@@ -34,7 +34,7 @@ first-lost (e ∷ es) p named lost =
     let none : None ≡ Some e.item = lost ∙ ap (item_of (e ∷ es)) here ∙ first-item e es in cc
 
 -- what is true of all entries is true of all but one
-pub recursion-without : (P : Entry (ℕ × ℕ) → Type 0) (es : Entries) (i : ℕ) → AllByRecursion P es → AllByRecursion P (without_index i es)
+pub recursion-without : (P : Entry (ℕ × Lot) → Type 0) (es : Entries) (i : ℕ) → AllByRecursion P es → AllByRecursion P (without_index i es)
 recursion-without P [] i all = tt
 recursion-without P (e ∷ es) i all = elim (e.index == i) as (λ b. AllByRecursion P (if b then es else e ∷ without_index i es)) [
   | true ↦ all.1
@@ -42,46 +42,55 @@ recursion-without P (e ∷ es) i all = elim (e.index == i) as (λ b. AllByRecurs
 ]
 
 module _ (side : Side) where
-  -- price and quantity of an item
-  abbrev pub told : ℕ × ℕ → ℕ × ℕ
-  told item = (ranked side item.0, item.1)
+  -- the order of an item under a pointer
+  abbrev pub order_under : ℕ × ℕ → ℕ × Lot → Order
+  order_under p item = order_in side (record { index = p.0; generation = p.1; item = item })
 
   -- a pointer names the order of the entry that it finds
-  pub order_of-found : (es : Entries) → AreDistinct es → (p : ℕ × ℕ) → order_of (map (resting side) es) p ≡ option_map told (item_of es p)
+  pub order_of-found : (es : Entries) → AreDistinct es → (p : ℕ × ℕ) → order_of (map (order_in side) es) p ≡ option_map (order_under p) (item_of es p)
   order_of-found [] distinct p = refl
   order_of-found (e ∷ es) distinct p = elim (eqb_tells e.index p.0) [
     | inl h ↦ elim (eqb_tells e.generation p.1) [
-      | inl k ↦ rw (h.0, k.0) refl
+      | inl k ↦ rw (h.0, k.0, h.1, k.1) refl
       | inr k ↦ rw (h.0, k.0, order_of-found es (distinct-rest e es distinct) p, absent-rest e es p.0 h.1 distinct) refl
     ]
     | inr h ↦ rw (h.0, order_of-found es (distinct-rest e es distinct) p) refl
   ]
 
-  -- without the order of a pointer, where it names one, the entries are those without its index
-  without-found : (es : Entries) → AreDistinct es → (p : ℕ × ℕ) → IsSome (item_of es p) → without (map (resting side) es) p ≡ map (resting side) (without_index p.0 es)
+  -- if a pointer names an order with a tag, it finds an item with that tag
+  pub item-tagged : (es : Entries) → AreDistinct es → (p : ℕ × ℕ) (tag : ℕ) → option_map (λ (x : Order). x.tag) (order_of (map (order_in side) es) p) ≡ Some tag
+      → (item : ℕ × Lot) × (item_of es p ≡ Some item) × (tag ≡ item.1.tag)
+  item-tagged es distinct p tag named = go (item_of es p) refl
+    where
+      tags : Option Order → Option ℕ
+      tags o = option_map (λ (x : Order). x.tag) o
+
+      go : (o : Option (ℕ × Lot)) → item_of es p ≡ o → (item : ℕ × Lot) × (item_of es p ≡ Some item) × (tag ≡ item.1.tag)
+      go None none = absurd (let lost : Some tag ≡ None = sym named ∙ ap tags (order_of-found es distinct p ∙ ap (option_map (order_under p)) none) in cc)
+      go (Some item) found = (item, found, (let some : Some tag ≡ Some item.1.tag = sym named ∙ ap tags (order_of-found es distinct p ∙ ap (option_map (order_under p)) found) in cc))
+
+  -- without the order of a pointer, if it names one, the entries are those without its index
+  without-found : (es : Entries) → AreDistinct es → (p : ℕ × ℕ) → IsSome (item_of es p) → without (map (order_in side) es) p ≡ map (order_in side) (without_index p.0 es)
   without-found [] distinct p there = refl
   without-found (e ∷ es) distinct p there = elim (eqb_tells e.index p.0) [
     | inl h ↦ elim (eqb_tells e.generation p.1) [
       | inl k ↦ rw (h.0, k.0) refl
       | inr k ↦ absurd (let none : item_of (e ∷ es) p ≡ None = rw (h.0, k.0) refl in cc)
     ]
-    | inr h ↦ rw (h.0, without-found es (distinct-rest e es distinct) p (let same : item_of (e ∷ es) p ≡ item_of es p = rw h.0 refl in subst (λ (o : Option (ℕ × ℕ)). IsSome o) same there)) refl
+    | inr h ↦ rw (h.0, without-found es (distinct-rest e es distinct) p (let same : item_of (e ∷ es) p ≡ item_of es p = rw h.0 refl in subst (λ (o : Option (ℕ × Lot)). IsSome o) same there)) refl
   ]
 
-  pub queue-without : (a : Sorted ℕ ℕ) (p : ℕ × ℕ) → AreDistinct a.entries → IsSome (item_of a.entries p)
+  pub queue-without : (a : Sorted ℕ Lot) (p : ℕ × ℕ) → AreDistinct a.entries → IsSome (item_of a.entries p)
       → queue_of side (without_entry (Some 18446744073709551615) a p) ≡ with_left (queue_of side a) p
   queue-without a p distinct there = rw (without-found a.entries distinct p there) refl
 
   -- the first entry is the order that trades first
-  pub first-none : (es : Entries) → None ≡ first_pointer es → first_of side (map (resting side) es) ≡ None
+  pub first-none : (es : Entries) → None ≡ first_pointer es → first_of (map (order_in side) es) ≡ None
   first-none [] none = refl
   first-none (e ∷ es) none = absurd (cc)
 
-  abbrev order_at : ℕ × ℕ → ℕ × ℕ → Order
-  order_at p item = record { id = record { side = side; pointer = p }; price = ranked side item.0; quantity = item.1 }
-
-  pub first-some : (es : Entries) (p item : ℕ × ℕ) → Some p ≡ first_pointer es → Some item ≡ item_of es p
-      → first_of side (map (resting side) es) ≡ Some (order_at p item)
+  pub first-some : (es : Entries) (p : ℕ × ℕ) (item : ℕ × Lot) → Some p ≡ first_pointer es → Some item ≡ item_of es p
+      → first_of (map (order_in side) es) ≡ Some (order_under p item)
   first-some [] p item named found = absurd (cc)
   first-some (e ∷ es) p item named found =
       let here : p ≡ (e.index, e.generation) = cc in
@@ -89,26 +98,35 @@ module _ (side : Side) where
       let same : item ≡ e.item = cc in
       rw (here, same) refl
 
-  -- pointers are distinct where indexes are
-  distinct-found : (es : Entries) → AreDistinct es → IsDistinct (map (resting side) es)
+  -- pointers are distinct if indexes are
+  distinct-found : (es : Entries) → AreDistinct es → IsDistinct (map (order_in side) es)
   distinct-found [] distinct = tt
   distinct-found (e ∷ es) distinct =
       (order_of-found es (distinct-rest e es distinct) (e.index, e.generation) ∙ rw (absent-rest e es e.index refl distinct) refl, distinct-found es (distinct-rest e es distinct))
 
-  -- what is true of an arena is true of its queue
-  pub sound-found : (a : Sorted ℕ ℕ) → IsSoundArena nat_cmp most_orders a → AreLawful a.entries → IsSound (queue_of side a)
+  of_side-found : (es : Entries) → AllByRecursion (λ x. x.id.side ≡ side) (map (order_in side) es)
+  of_side-found [] = tt
+  of_side-found (e ∷ es) = (refl, of_side-found es)
+
+  -- what holds of an arena holds of its queue
+  pub sound-found : (a : Sorted ℕ Lot) → IsSoundArena nat_cmp most_orders a → AreLawful a.entries → IsSound (queue_of side a)
   sound-found a sound lawful = record {
+    of_side = of_side-found a.entries;
     in_order = in_order-sorted side a.entries sound.sorted;
     distinct = distinct-found a.entries sound.distinct;
-    some_left = recursion-map (resting side) IsLawful (λ x. 0 < x.quantity) (λ e lawful. lawful.1) a.entries lawful;
-    within = omega (arith, length-map a.entries (resting side), sound.within);
+    some_left = recursion-map (order_in side) IsLawful (λ x. 0 < x.quantity) (λ e lawful. lawful.some) a.entries lawful;
+    summable = record {
+      few = omega (arith, length-map a.entries (order_in side), sound.within, sound.limited);
+      bounded = recursion-map (order_in side) IsLawful (λ x. x.quantity ≤ 18446744073709551615) (λ e lawful. lawful.quantity) a.entries lawful;
+    };
+    within = omega (arith, length-map a.entries (order_in side), sound.within);
     limited = sound.limited;
   }
 
   -- what pointers name after a change of the arena, they name in the queue
-  pub updates-found : (old new : Sorted ℕ ℕ) (p : ℕ × ℕ) (now : Option (ℕ × ℕ)) → AreDistinct old.entries → AreDistinct new.entries
-      → UpdatesArena old new p now → Updates (queue_of side old) (queue_of side new) p (option_map told now)
+  pub updates-found : (old new : Sorted ℕ Lot) (p : ℕ × ℕ) (now : Option (ℕ × Lot)) → AreDistinct old.entries → AreDistinct new.entries
+      → UpdatesArena old new p now → Updates (queue_of side old) (queue_of side new) p (option_map (order_under p) now)
   updates-found old new p now before after updates = record {
-    changed = order_of-found new.entries after p ∙ ap (option_map told) updates.changed;
-    others = λ q apart. order_of-found new.entries after q ∙ ap (option_map told) (updates.others q apart) ∙ sym (order_of-found old.entries before q);
+    changed = order_of-found new.entries after p ∙ ap (option_map (order_under p)) updates.changed;
+    others = λ q apart. order_of-found new.entries after q ∙ ap (option_map (order_under q)) (updates.others q apart) ∙ sym (order_of-found old.entries before q);
   }

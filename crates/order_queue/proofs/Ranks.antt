@@ -5,7 +5,7 @@ use Rattle.std.specs.{declared.cmp.Ordering.TheVariants.Less, declared.cmp.Order
 use Rattle.chain_base.specs.Chain.{Entry}
 use Rattle.sorted_arena.specs.Sorted.{AreSorted}
 use Rattle.order_queue.specs.{declared.side.Side.TheVariants.Buy, declared.side.Side.TheVariants.Sell, declared.side.Side.Side}
-use Rattle.order_queue.specs.Layout.{most_price, ranked, resting}
+use Rattle.order_queue.specs.{Layout.most_price, Layout.ranked, Layout.order_in, declared.order.Lot.Lot}
 use Rattle.order_queue.specs.Queue.{IsNoWorse, IsWorse, IsInOrder}
 
 -- of a rank that is not greater a price is no worse, and of a greater one it is worse
@@ -48,15 +48,15 @@ module _ {X : Type 0} where
   recursion-between P [] y ys here all = (here, all)
   recursion-between P (x ∷ xs) y ys here all = (all.0, recursion-between P xs y ys here all.1)
 
--- entries of numbers
+-- entries of orders, by the ranks of their prices
 abbrev pub Entries : Type 0
-Entries = List (Entry (ℕ × ℕ))
+Entries = List (Entry (ℕ × Lot))
 
 -- entries in the order of their ranks are orders in order
-pub in_order-sorted : (side : Side) (es : Entries) → AreSorted nat_cmp es → IsInOrder side (map (resting side) es)
+pub in_order-sorted : (side : Side) (es : Entries) → AreSorted nat_cmp es → IsInOrder side (map (order_in side) es)
 in_order-sorted side [] sorted = tt
 in_order-sorted side (e ∷ es) sorted = (
-  recursion-map (resting side) (λ (f : Entry (ℕ × ℕ)). nat_cmp e.item.0 f.item.0 ≢ Greater) (λ y. IsNoWorse side (ranked side e.item.0) y.price)
+  recursion-map (order_in side) (λ (f : Entry (ℕ × Lot)). nat_cmp e.item.0 f.item.0 ≢ Greater) (λ y. IsNoWorse side (ranked side e.item.0) y.price)
       (λ f least. no_worse-ranked side e.item.0 f.item.0 least) es (recursion_from_All _ es sorted.0),
   in_order-sorted side es sorted.1,
 )

@@ -1,47 +1,115 @@
--- A quantity that is written at the first entry: the first order has so much left.
-use Rattle.std.proofs.Common.{◌≡◌, ℕ, ◌<◌, List, [], ◌∷◌, map, Some, refl, sym, ap, inl, inr}
+-- A quantity that is written at a pointer: its order has so much left.
+use Rattle.std.proofs.Common.{◌≡◌, ◌≢◌, ℕ, suc, zero, ◌<◌, ◌≤◌, ◌==◌, List, [], ◌∷◌, map, Some, None, refl, sym, ap, ◌∙◌, inl, inr, true, false, arith, if◌then◌else◌}
 use Rattle.std.proofs.lemmas.Bool.Decides.{eqb_tells}
-use Rattle.chain_base.specs.Chain.{Entry, with_item_among}
+use Rattle.std.specs.{Option.option_map}
+use Rattle.chain_base.specs.Chain.{IsDistinct as AreDistinct, item_of, with_item_among}
 use Rattle.sorted_arena.specs.Sorted.{Sorted, pair_of, with_value}
-use Rattle.order_queue.specs.{Layout.resting, Layout.queue_of, Layout.AreLawful, Queue.Resting, Queue.first_of, declared.order.Order.Order, declared.side.Side.Side}
-use Rattle.order_queue.proofs.{Naming.first-item, Ranks.Entries}
+use Rattle.order_queue.specs.{Layout.most_price, Layout.order_in, Layout.queue_of, Layout.AreLawful, Queue.Queue, Queue.order_of, Queue.with_quantity, Queue.with_rest, Queue.reduced, Queue.Updates}
+use Rattle.order_queue.specs.{declared.order.Lot.Lot, declared.order.Order.Order, declared.side.Side.Side}
+use Rattle.order_queue.proofs.{Naming.distinct-rest, Ranks.Entries}
 
--- another item at the first entry's index
-with_item-first : (e : Entry (ℕ × ℕ)) (es : Entries) (item : ℕ × ℕ) → with_item_among (e ∷ es) e.index item ≡ record e { item = item } ∷ es
-with_item-first e es item = elim (eqb_tells e.index e.index) [
-  | inl h ↦ rw h.0 refl
-  | inr h ↦ absurd (h.1 refl)
-]
+module _ (side : Side) (p : ℕ × ℕ) (lot : Lot) where
+  -- an entry's item with another lot
+  abbrev pub with_lot : ℕ × Lot → ℕ × Lot
+  with_lot item = (item.0, lot)
 
--- the first order is that of the first entry, and with another quantity it has that
-module _ (side : Side) (first : Order) (quantity : ℕ) where
-  abbrev written : Sorted ℕ ℕ → Sorted ℕ ℕ
-  written a = with_value a first.id.pointer (pair_of a first.id.pointer) quantity
+  -- the orders of the entries with that lot at the pointer's index have its quantity, if its tag is the order's
+  written-found : (es : Entries) → AreDistinct es → (item : ℕ × Lot) → item_of es p ≡ Some item → lot.tag ≡ item.1.tag
+      → map (order_in side) (with_item_among es p.0 (with_lot item)) ≡ with_quantity (map (order_in side) es) p lot.quantity
+  written-found [] distinct item found tagged = absurd (cc)
+  written-found (e ∷ es) distinct item found tagged = elim (eqb_tells e.index p.0) [
+    | inl h ↦ elim (eqb_tells e.generation p.1) [
+      | inl k ↦
+          let here : item_of (e ∷ es) p ≡ Some e.item = rw (h.0, k.0) refl in
+          let same : item ≡ e.item = cc in
+          rw (h.0, k.0, same, (tagged ∙ ap (λ (i : ℕ × Lot). i.1.tag) same)) refl
+      | inr k ↦ absurd (let none : item_of (e ∷ es) p ≡ None = rw (h.0, k.0) refl in cc)
+    ]
+    | inr h ↦
+        let rest : item_of (e ∷ es) p ≡ item_of es p = rw h.0 refl in
+        rw (h.0, written-found es (distinct-rest e es distinct) item (sym rest ∙ found) tagged) refl
+  ]
 
-  written-first : (a : Sorted ℕ ℕ) (e : Entry (ℕ × ℕ)) (es : Entries) → a.entries ≡ e ∷ es → first_of side (map (resting side) a.entries) ≡ Some first
-      → written a ≡ record a { entries = record e { item = (e.item.0, quantity) } ∷ es }
-  written-first a e es shown named =
-      let order : ◌≡◌ {A = Order} (record { id = record { side = side; pointer = (e.index, e.generation) }; price = (resting side e).price; quantity = e.item.1 }) first =
-      (let some = rw shown at named in cc) in
-      let here : first.id.pointer ≡ (e.index, e.generation) = ap (λ (o : Order). o.id.pointer) (sym order) in
-      let found : pair_of a first.id.pointer ≡ Some e.item = rw (here, shown) (first-item e es) in
-      rw (found, here, shown, with_item-first e es (e.item.0, quantity)) refl
+  -- entries stay lawful
+  lawful-written : (es : Entries) (item : ℕ × Lot) → item.0 ≤ most_price → lot.quantity ≤ most_price → 0 < lot.quantity → AreLawful es → AreLawful (with_item_among es p.0 (with_lot item))
+  lawful-written [] item priced few some all = tt
+  lawful-written (e ∷ es) item priced few some all = elim (e.index == p.0) as (λ b. AreLawful (if b then record e { item = with_lot item } ∷ es else e ∷ with_item_among es p.0 (with_lot item))) [
+    | true ↦ (record { price = priced; quantity = few; some = some }, all.1)
+    | false ↦ (all.0, lawful-written es item priced few some all.1)
+  ]
 
-  pub lawful-reduced : (a : Sorted ℕ ℕ) → first_of side (map (resting side) a.entries) ≡ Some first → 0 < quantity → AreLawful a.entries → AreLawful (written a).entries
-  lawful-reduced a named some lawful = go a.entries refl
+  -- a pointer finds an item of a lawful price
+  priced-found : (es : Entries) (item : ℕ × Lot) → item_of es p ≡ Some item → AreLawful es → item.0 ≤ most_price
+  priced-found [] item found all = absurd (cc)
+  priced-found (e ∷ es) item found all = elim (eqb_tells e.index p.0) [
+    | inl h ↦ elim (eqb_tells e.generation p.1) [
+      | inl k ↦
+          let here : item_of (e ∷ es) p ≡ Some e.item = rw (h.0, k.0) refl in
+          let same : item ≡ e.item = cc in rw same (all.0.price)
+      | inr k ↦ absurd (let none : item_of (e ∷ es) p ≡ None = rw (h.0, k.0) refl in cc)
+    ]
+    | inr h ↦ let rest : item_of (e ∷ es) p ≡ item_of es p = rw h.0 refl in priced-found es item (sym rest ∙ found) all.1
+  ]
+
+  abbrev pub written : Sorted ℕ Lot → Sorted ℕ Lot
+  written a = with_value a p (pair_of a p) lot
+
+  module _ (a : Sorted ℕ Lot) (item : ℕ × Lot) (found : pair_of a p ≡ Some item) where
+    shown : written a ≡ record a { entries = with_item_among a.entries p.0 (with_lot item) }
+    shown = ap (λ o. with_value a p o lot) found
+
+    pub lawful-reduced : AreLawful a.entries → 0 < lot.quantity → lot.quantity ≤ most_price → AreLawful (written a).entries
+    lawful-reduced lawful some few = rw shown (lawful-written a.entries item (priced-found a.entries item found lawful) few some lawful)
+
+    pub queue-reduced : AreDistinct a.entries → lot.tag ≡ item.1.tag → 0 < lot.quantity → queue_of side (written a) ≡ reduced (queue_of side a) p lot.quantity
+    queue-reduced distinct tagged some = rw shown (go lot.quantity some (written-found a.entries distinct item found tagged))
+      where
+        go : (n : ℕ) → 0 < n → map (order_in side) (with_item_among a.entries p.0 (with_lot item)) ≡ with_quantity (map (order_in side) a.entries) p n
+            → queue_of side (record a { entries = with_item_among a.entries p.0 (with_lot item) }) ≡ reduced (queue_of side a) p n
+        go zero more is = absurd (omega (arith, more))
+        go (suc n) more is = rw is refl
+
+pair-same : (q p : ℕ × ℕ) → q.0 ≡ p.0 → q.1 ≡ p.1 → q ≡ p
+pair-same q p first second = rw (first, second) refl
+
+-- what pointers name after a quantity is written
+module _ (p : ℕ × ℕ) (n : ℕ) where
+  named-written : (xs : List Order) → order_of (with_quantity xs p n) p ≡ option_map (λ x. with_rest x n) (order_of xs p)
+  named-written [] = refl
+  named-written (y ∷ ys) = elim (eqb_tells y.id.pointer.0 p.0) [
+    | inl h ↦ elim (eqb_tells y.id.pointer.1 p.1) [
+      | inl k ↦ rw (h.0, k.0, h.0, k.0) refl
+      | inr k ↦ rw (h.0, k.0, h.0, k.0) (named-written ys)
+    ]
+    | inr h ↦ rw (h.0, h.0) (named-written ys)
+  ]
+
+  others-written : (xs : List Order) (q : ℕ × ℕ) → q ≢ p → order_of (with_quantity xs p n) q ≡ order_of xs q
+  others-written [] q apart = refl
+  others-written (y ∷ ys) q apart = elim (eqb_tells y.id.pointer.0 p.0) [
+    | inl h ↦ elim (eqb_tells y.id.pointer.1 p.1) [
+      | inl k ↦ elim (eqb_tells y.id.pointer.0 q.0) [
+        | inl i ↦ elim (eqb_tells y.id.pointer.1 q.1) [
+          | inl j ↦ absurd (apart (pair-same q p (sym i.1 ∙ h.1) (sym j.1 ∙ k.1)))
+          | inr j ↦ rw (h.0, k.0, i.0, j.0) refl
+        ]
+        | inr i ↦ rw (h.0, k.0, i.0) refl
+      ]
+      | inr k ↦ rw (h.0, k.0, others-written ys q apart) refl
+    ]
+    | inr h ↦ rw (h.0, others-written ys q apart) refl
+  ]
+
+  updates-written : (q : Queue) → 0 < n → Updates q (reduced q p n) p (option_map (λ x. with_rest x n) (order_of q.orders p))
+  updates-written q some = go n some refl
     where
-      go : (es : Entries) → a.entries ≡ es → AreLawful (written a).entries
-      go [] shown = absurd (let none = rw shown at named in cc)
-      go (e ∷ es) shown = let all : AreLawful (e ∷ es) = rw shown at lawful in rw (written-first a e es shown named) ((all.0.0, some), all.1)
+      go : (m : ℕ) → 0 < m → n ≡ m → Updates q (reduced q p m) p (option_map (λ x. with_rest x m) (order_of q.orders p))
+      go zero more is = absurd (omega (arith, more))
+      go (suc m) more is = record {
+        changed = rw (← is) (named-written q.orders);
+        others = λ r apart. rw (← is) (others-written q.orders r apart);
+      }
 
-  pub queue-reduced : (a : Sorted ℕ ℕ) (x : Resting) (xs : List Resting) → first_of side (map (resting side) a.entries) ≡ Some first → map (resting side) a.entries ≡ x ∷ xs
-      → queue_of side (written a) ≡ record (queue_of side a) { orders = record x { quantity = quantity } ∷ xs }
-  queue-reduced a x xs named shown = go a.entries refl
-    where
-      go : (es : Entries) → a.entries ≡ es → queue_of side (written a) ≡ record (queue_of side a) { orders = record x { quantity = quantity } ∷ xs }
-      go [] is = absurd (let none = rw is at named in cc)
-      go (e ∷ es) is =
-          let whole : ◌≡◌ {A = List Resting} (resting side e ∷ map (resting side) es) (x ∷ xs) = rw is at shown in
-          let head : resting side e ≡ x = cc in
-          let rest : map (resting side) es ≡ xs = cc in
-          rw (written-first a e es is named, ← head, ← rest) refl
+pub updates-reduced : (side : Side) (p : ℕ × ℕ) (lot : Lot) (a : Sorted ℕ Lot) (item : ℕ × Lot) → pair_of a p ≡ Some item → AreDistinct a.entries → lot.tag ≡ item.1.tag → 0 < lot.quantity
+    → Updates (queue_of side a) (queue_of side (written side p lot a)) p (option_map (λ x. with_rest x lot.quantity) (order_of (queue_of side a).orders p))
+updates-reduced side p lot a item found distinct tagged some = rw (queue-reduced side p lot a item found distinct tagged some) (updates-written p lot.quantity (queue_of side a) some)

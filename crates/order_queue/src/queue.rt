@@ -2,10 +2,13 @@
 
 ghost use Rattle.std.specs.Prelude.{◌≡◌, ◌↔◌, ◌+◌, ◌-◌, ◌≤◌, ◌<◌, List, [], ◌∷◌, ◌++◌, Err, Some, None, length, vec_capacity};
 ghost use Rattle.std.specs.Prelude.{IfOk, OnOk, OnErr, OnSome, IfSome, IfNone};
-ghost use Rattle.order_queue.specs.Queue.{most_orders, first_of, order_of, traded, trades_of_first, taken, with_left};
-ghost use Rattle.order_queue.specs.Queue.{Resting, IsSound, Rests, Updates};
+ghost use Rattle.std.specs.Option.{option_map};
+ghost use Rattle.arena_base.specs.Arena.{capacity_for};
+ghost use Rattle.order_queue.specs.Queue.{most_orders, first_of, order_of, resting, within, traded, trades_of_first, taken, with_left, with_rest, reduced, reduced_order};
+ghost use Rattle.order_queue.specs.Layout.{queue_of, AreLawful};
+ghost use Rattle.order_queue.specs.Queue.{HasRoomFor, IsSound, Rests, Updates};
 
-use crate::order::{Order, OrderId, Trade};
+use crate::order::{Lot, Order, Trade, order_at};
 use crate::side::{Side, ranked};
 use sorted_arena::{P0, ReallocationError, SortedArena};
 use std::alloc::{AllocError, Allocator, Global};
@@ -13,16 +16,16 @@ use std::marker::Model;
 
 /// The resting orders of one side of a book, in the order in which they trade: by price, and at equal prices by age.
 ///
-/// In contracts it is its side, the list of its orders, each with its pointer, its price and what is left of it, and the generation of
-/// the next pointer, and the capacity. `len` tells what is true of every queue: the list is in order, no pointer names two orders, of each
-/// something is left, and there is room for all.
+/// In contracts a queue is its side, the list of its orders, the generation of the next pointer, and the capacity.
+/// [`len`](Self::len) promises what holds of every queue: the list is in order, no pointer names two orders, of each something is left, and
+/// all fit in the capacity.
 ///
-/// Only `put` takes memory, and `offer` where the caller's list of trades grows. n is the number of orders in what is said of time.
+/// Only `put` and `reserve` take memory, and `offer` if the caller's list of trades grows. In the docs n is the number of orders.
 #[derive(Drop)]
 pub struct OrderQueue<A: Allocator = Global> {
     side: Side,
-    // what is left of each order, by the rank of its price
-    orders: SortedArena<u64, u64, P0, A>,
+    // what is left of each order and its tag, by the rank of its price
+    orders: SortedArena<u64, Lot, P0, A>,
 }
 
 impl<A: Allocator> Model for OrderQueue<A> {
@@ -38,7 +41,7 @@ impl<A: Allocator> Model for OrderQueue<A> {
 }
 
 impl<A: Allocator> OrderQueue<A> {
-    /// A side without orders. It takes no memory until an order is put into it.
+    /// Creates a side without orders. It takes no memory until an order is put into it.
     pub fn new(side: Side, alloc: A) -> Self
     where
         A: Copy,
@@ -53,14 +56,22 @@ impl<A: Allocator> OrderQueue<A> {
         }
     }
 
-    /// Which side it is.
+    // The arena of the orders.
+    pub(crate) fn arena(&self) -> &SortedArena<u64, Lot, P0, A>
+        ensures view { self.now ≡ queue_of self.now.side result.now }
+        ensures lawful { AreLawful result.now.entries }
+    {
+        &self.orders
+    }
+
+    /// Returns which side it is.
     pub fn side(&self) -> Side
         ensures { result ≡ self.now.side }
     {
         self.side
     }
 
-    /// How many orders there are.
+    /// Returns the number of orders.
     pub fn len(&self) -> usize
         ensures value { result ≡ length self.now.orders }
         ensures sound { IsSound self.now }
@@ -68,37 +79,71 @@ impl<A: Allocator> OrderQueue<A> {
         self.orders.len()
     }
 
-    /// The order that trades first, in O(1).
+    /// Returns how many orders the side holds without growing.
+    pub fn capacity(&self) -> usize
+        ensures { result ≡ self.now.capacity }
+    {
+        self.orders.capacity()
+    }
+
+    /// Makes room for `additional` more orders: putting them will not fail. O(capacity) if the side grows, else O(1).
+    ///
+    /// # Errors
+    ///
+    /// The side is unchanged.
+    /// - `BeyondMaxCapacity`: there would be more than 4,294,967,294 orders.
+    /// - `AllocError`: growing failed.
+    pub fn reserve(&mut self, additional: usize) -> Result<(), ReallocationError>
+        ensures side { self.new.side ≡ self.old.side }
+        ensures orders { self.new.orders ≡ self.old.orders }
+        ensures generation { self.new.generation ≡ self.old.generation }
+        ensures capacity { OnOk result (self.new.capacity
+            ≡ capacity_for most_orders self.old.capacity (length self.old.orders + additional)) }
+        ensures room { OnOk result (HasRoomFor additional self.new) }
+        ensures full { (result ≡ Err ReallocationError.BeyondMaxCapacity)
+            ↔ (most_orders < length self.old.orders + additional) }
+        ensures memory { result ≡ Err ReallocationError.AllocError
+            → self.old.capacity < length self.old.orders + additional }
+        ensures err { OnErr result (self.new ≡ self.old) }
+    {
+        self.orders.reserve(additional)
+    }
+
+    /// Returns the order that trades first, in O(1).
     pub fn first(&self) -> Option<Order>
-        ensures { result ≡ first_of self.now.side self.now.orders }
+        ensures { result ≡ first_of self.now.orders }
     {
         let pointer = self.orders.first()?;
-        let (rank, quantity) = self.orders.get(pointer)?;
-        Some(Order {
-            id: OrderId::new(self.side, pointer),
-            price: ranked(self.side, *rank),
-            quantity: *quantity,
-        })
+        let (rank, lot) = self.orders.get(pointer)?;
+        Some(order_at(self.side, pointer, *rank, *lot))
     }
 
-    /// Price and quantity of the order that the pointer names, in O(1).
-    pub fn get(&self, pointer: P0) -> Option<(u64, u64)>
+    /// Returns the order that the pointer names, in O(1). `None` if it names no order.
+    pub fn get(&self, pointer: P0) -> Option<Order>
         ensures { result ≡ order_of self.now.orders pointer }
     {
-        // with its length an arena tells what holds of it
+        // For the prover: the arena is sound.
         let _ = self.orders.len();
-        let (rank, quantity) = self.orders.get(pointer)?;
-        Some((ranked(self.side, *rank), *quantity))
+        let (rank, lot) = self.orders.get(pointer)?;
+        Some(order_at(self.side, pointer, *rank, *lot))
     }
 
-    /// Puts an order behind all whose price is no worse, and returns its pointer, in O(log n), and O(n) where the arena grows.
+    /// Puts an order behind all whose price is no worse, and returns its pointer.
     ///
-    /// It is refused with `BeyondMaxCapacity` where there are as many orders as pointers have indexes, 4,294,967,294, and with
-    /// `AllocError` where there is no room for one more and memory is refused to the growth. Nothing has changed then.
-    pub fn put(&mut self, price: u64, quantity: u64) -> Result<P0, ReallocationError>
+    /// # Errors
+    ///
+    /// The side is unchanged.
+    /// - `BeyondMaxCapacity`: there are 4,294,967,294 orders, as many as pointers have indexes.
+    /// - `AllocError`: the side is full, and growing failed.
+    ///
+    /// # Complexity
+    ///
+    /// O(log n), plus O(n) if the side grows (amortized O(1)).
+    pub fn put(&mut self, price: u64, quantity: u64, tag: u64) -> Result<P0, ReallocationError>
         requires { 0 < quantity }
-        ensures ok { IfOk result (λ p. Rests self.old price quantity p self.new) }
-        ensures updates { IfOk result (λ p. Updates self.old self.new p (Some (price, quantity))) }
+        ensures ok { IfOk result (λ p. Rests self.old price quantity tag p self.new) }
+        ensures updates { IfOk result (λ p. Updates self.old self.new p
+            (Some (resting self.old.side p price quantity tag))) }
         ensures count { OnOk result (length self.new.orders ≡ length self.old.orders + 1) }
         ensures full { (result ≡ Err ReallocationError.BeyondMaxCapacity)
             ↔ (length self.old.orders ≡ most_orders) }
@@ -106,53 +151,110 @@ impl<A: Allocator> OrderQueue<A> {
             → length self.old.orders ≡ self.old.capacity }
         ensures err { OnErr result (self.new ≡ self.old) }
     {
-        // with its length an arena tells what holds of it
+        // For the prover: the arena is sound.
         let _ = self.orders.len();
-        let pointer = match self.orders.insert(ranked(self.side, price), quantity) {
+        let lot = Lot { quantity, tag };
+        let pointer = match self.orders.insert(ranked(self.side, price), lot) {
             Ok(pointer) => pointer,
             Err((_, refusal)) => return Err(refusal),
         };
         Ok(pointer)
     }
 
-    /// Takes the order that the pointer names out, and returns its price and quantity, in O(log n).
+    /// Removes the order that the pointer names and returns it, in O(log n).
     ///
-    /// For a pointer that names no order it returns `None`, and nothing changes.
-    pub fn remove(&mut self, pointer: P0) -> Option<(u64, u64)>
+    /// If the pointer names no order, returns `None` and nothing changes.
+    pub fn remove(&mut self, pointer: P0) -> Option<Order>
         ensures value { result ≡ order_of self.old.orders pointer }
         ensures updates { Updates self.old self.new pointer None }
         ensures count { OnSome result (length self.old.orders ≡ length self.new.orders + 1) }
         ensures gone { OnSome result (self.new ≡ with_left self.old pointer) }
         ensures none { IfNone result (self.new ≡ self.old) }
     {
-        // with its length an arena tells what holds of it
+        // For the prover: the arena is sound.
         let _ = self.orders.len();
-        let (rank, quantity) = self.orders.remove(pointer)?;
-        Some((ranked(self.side, rank), quantity))
+        let (rank, lot) = self.orders.remove(pointer)?;
+        Some(order_at(self.side, pointer, rank, lot))
     }
 
-    /// How much of a quantity an order of the other side with this limit would trade at once, in O(1) for each order that it would trade
-    /// with. It takes no memory.
+    /// Takes `quantity` units off the order that the pointer names, at most all of it, and returns how much of it is left.
+    ///
+    /// The order keeps its pointer and its place. If nothing of it is left, it leaves. If the pointer names no order, returns `None` and
+    /// nothing changes. O(1), or O(log n) if the order leaves.
+    pub fn reduce(&mut self, pointer: P0, quantity: u64) -> Option<u64>
+        ensures value { result
+            ≡ option_map (λ x. x.quantity - quantity) (order_of self.old.orders pointer) }
+        ensures updates { Updates self.old self.new pointer
+            (reduced_order (order_of self.old.orders pointer) quantity) }
+        ensures after { IfSome result (λ left. self.new ≡ reduced self.old pointer left) }
+        ensures none { IfNone result (self.new ≡ self.old) }
+    {
+        let order = self.get(pointer)?;
+        let left = order.quantity.saturating_sub(quantity);
+        if left == 0 {
+            let _ = self.remove(pointer);
+            return Some(0);
+        }
+        self.write(pointer, order.tag, left);
+        Some(left)
+    }
+
+    // Writes how much is left of the order that the pointer names, which has this tag.
+    fn write(&mut self, pointer: P0, tag: u64, left: u64)
+        requires named { option_map (λ x. x.tag) (order_of self.old.orders pointer) ≡ Some tag }
+        requires some { 0 < left }
+        ensures after { self.new ≡ reduced self.old pointer left }
+        ensures updates { Updates self.old self.new pointer
+            (option_map (λ x. with_rest x left) (order_of self.old.orders pointer)) }
+    {
+        // For the prover: the arena is sound.
+        let _ = self.orders.len();
+        let lot = Lot {
+            quantity: left,
+            tag,
+        };
+        let _ = self.orders.set_value(pointer, lot);
+    }
+
+    /// Returns how much of `quantity` an order of the other side with this limit would trade at once.
+    ///
+    /// O(1) for each order that it would trade with.
     pub fn offered(&self, limit: u64, quantity: u64) -> u64
         ensures { result ≡ traded self.now limit quantity }
     {
         let mut left = quantity;
-        for (_, rank, offered) in self.orders.iter() {
+        for order in self.iter() {
             if left == 0 {
                 break;
             }
-            if !self.side.meets(ranked(self.side, *rank), limit) {
+            if !self.side.meets(order.price, limit) {
                 break;
             }
-            left -= left.min(*offered);
+            left -= left.min(order.quantity);
         }
         quantity - left
     }
 
-    /// Adds the trades of an order of the other side with this limit and quantity to the list, the first order's first, and returns
-    /// what is left of the quantity; the orders stay as they are. It takes O(1) for each trade.
+    /// Returns how much the orders that meet a limit offer in all. O(1) for each of them.
+    pub fn volume_within(&self, limit: u64) -> u128
+        ensures { result ≡ within self.now.side limit self.now.orders }
+    {
+        let mut volume = 0;
+        for order in self.iter() {
+            if !self.side.meets(order.price, limit) {
+                break;
+            }
+            volume += u128::from(order.quantity);
+        }
+        volume
+    }
+
+    /// Appends the trades of an order of the other side with this limit and quantity, the first order's first, and returns what is left of
+    /// the quantity. The orders stay as they are. O(1) for each trade.
     ///
-    /// It is refused where the list has no room for all trades and memory is refused to it. Nothing has been added to it then.
+    /// # Errors
+    ///
+    /// `AllocError`: the list has no room for all trades, and growing it failed. The list is unchanged.
     pub fn offer<B: Allocator>(
         &self,
         limit: u64,
@@ -161,32 +263,23 @@ impl<A: Allocator> OrderQueue<A> {
     ) -> Result<u64, AllocError>
         ensures left { IfOk result (λ left. left + traded self.now limit quantity ≡ quantity) }
         ensures trades { OnOk result (trades.new.items ≡ trades.old.items
-            ++ trades_of_first self.now.side (traded self.now limit quantity) self.now.orders) }
+            ++ trades_of_first (traded self.now limit quantity) self.now.orders) }
         ensures memory { OnErr result (vec_capacity trades.old < length trades.old.items
-            + length (trades_of_first self.now.side
-            (traded self.now limit quantity) self.now.orders)) }
+            + length (trades_of_first (traded self.now limit quantity) self.now.orders)) }
         ensures err { OnErr result (trades.new.items ≡ trades.old.items) }
+        ensures sound { IsSound self.now }
     {
         let before = trades.len();
         let mut left = quantity;
-        for (pointer, rank, offered) in self.orders.iter() {
+        for order in self.iter() {
             if left == 0 {
                 break;
             }
-            let price = ranked(self.side, *rank);
-            if !self.side.meets(price, limit) {
+            if !self.side.meets(order.price, limit) {
                 break;
             }
-            let quantity = left.min(*offered);
-            let order = OrderId::new(self.side, pointer);
-            if trades
-                .push(Trade {
-                    order,
-                    price,
-                    quantity,
-                })
-                .is_err()
-            {
+            let quantity = left.min(order.quantity);
+            if trades.push(order.trade(quantity)).is_err() {
                 trades.truncate(before);
                 return Err(AllocError);
             }
@@ -195,8 +288,7 @@ impl<A: Allocator> OrderQueue<A> {
         Ok(left)
     }
 
-    /// Takes so many units out, from the first order on: an order of which nothing is left leaves. It takes O(log n) for each order
-    /// that leaves.
+    /// Takes so many units off, from the first order on. An order of which nothing is left leaves. O(log n) for each order that leaves.
     pub fn take(&mut self, quantity: u64)
         ensures { self.new ≡ taken quantity self.old }
     {
@@ -208,18 +300,18 @@ impl<A: Allocator> OrderQueue<A> {
             }
             left -= taken;
         }
-        // with its length a queue tells that of each order something is left
+        // For the prover: of each order something is left.
         let _ = self.len();
     }
 
-    // Takes up to so many units out of the first order, which leaves where nothing of it is left. Returns how many.
+    // Takes up to so many units off the first order, which leaves if nothing of it is left. Returns how many.
     fn take_first(&mut self, quantity: u64) -> u64
         requires { 0 < quantity }
         ensures most { result ≤ quantity }
         ensures rest { taken quantity self.old ≡ taken (quantity - result) self.new }
         ensures none { result ≡ 0 → (self.old.orders ≡ []) × (self.new ≡ self.old) }
     {
-        // with its length a queue tells that of each order something is left
+        // For the prover: of each order something is left.
         let _ = self.len();
         let Some(first) = self.first() else {
             return 0;
@@ -228,17 +320,7 @@ impl<A: Allocator> OrderQueue<A> {
             let _ = self.remove(first.id.pointer());
             return first.quantity;
         }
-        self.reduce(first, first.quantity - quantity);
+        self.write(first.id.pointer(), first.tag, first.quantity - quantity);
         quantity
-    }
-
-    // Writes how much is left of the first order.
-    fn reduce(&mut self, first: Order, quantity: u64)
-        requires first { first_of self.old.side self.old.orders ≡ Some first }
-        requires some { 0 < quantity }
-        ensures { (x : Resting) (xs : List Resting) → self.old.orders ≡ x ∷ xs
-            → self.new ≡ record self.old { orders = record x { quantity = quantity } ∷ xs } }
-    {
-        let _ = self.orders.set_value(first.id.pointer(), quantity);
     }
 }

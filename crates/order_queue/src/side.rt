@@ -4,16 +4,16 @@ ghost use Rattle.std.specs.Prelude.{◌≡◌};
 ghost use Rattle.order_queue.specs.{Layout.ranked, Queue.meets};
 
 /// The side of an order. Buyers trade with sellers.
-#[derive(Clone, Copy, PartialEq, Eq, Debug)]
+#[derive(Clone, Copy, PartialEq, Eq, PartialOrd, Ord, Hash, Debug)]
 pub enum Side {
-    /// A bid: who buys, at its price or a lower one. The highest bid is the best.
+    /// Bids, which buy at their price or a lower one. The highest is the best.
     Buy,
-    /// An ask: who sells, at its price or a higher one. The lowest ask is the best.
+    /// Asks, which sell at their price or a higher one. The lowest is the best.
     Sell,
 }
 
 impl Side {
-    /// Whether an order of this side meets the limit of one of the other side: its price is the limit, or better for that one.
+    /// Returns whether an order of this side meets the limit of one of the other side: its price is the limit, or better for that one.
     pub fn meets(self, price: u64, limit: u64) -> bool
         ensures { result ≡ meets self price limit }
     {
@@ -24,7 +24,7 @@ impl Side {
     }
 }
 
-/// The rank of a price on a side, where the lesser trades first, and likewise the price of a rank.
+/// Returns the rank of a price on a side, where the lesser trades first, and also the price of a rank.
 pub(crate) fn ranked(side: Side, number: u64) -> u64
     ensures { result ≡ ranked side number }
 {

@@ -1,5 +1,5 @@
 //! A trading day of thirty orders, worked out by hand.
-use order_book::{OrderBook, OrderId, Side, Trade};
+use order_book::{NewOrder, OrderBook, OrderId, Side, Trade};
 use std::alloc::AllocError;
 
 /// A trade: the number of the resting order, the price and the quantity.
@@ -88,7 +88,10 @@ fn are_trades(names: &Names, trades: &[Trade], wanted: &[Wanted]) -> bool {
 /// Returns whether this much of an order rests at this price.
 fn rests(book: &OrderBook, name: Option<OrderId>, price: u64, rest: u64) -> bool {
     match name {
-        Some(id) => rest > 0 && book.get(id) == Some((price, rest)),
+        Some(id) => match book.get(id) {
+            Some(order) => rest > 0 && (order.price, order.quantity) == (price, rest),
+            None => false,
+        },
         None => rest == 0,
     }
 }
@@ -102,7 +105,7 @@ fn place(
 ) -> Result<bool, AllocError> {
     let (side, price, quantity, wanted, rest) = *row;
     trades.clear();
-    let Ok(name) = book.place(side, price, quantity, trades) else {
+    let Ok(name) = book.place(NewOrder::limit(side, price, quantity), trades) else {
         return Ok(false);
     };
     names.push(name)?;
@@ -127,7 +130,7 @@ fn sell_all(
     wanted: &[Wanted],
 ) -> bool {
     trades.clear();
-    let Ok(None) = book.place(Side::Sell, 0, 112, trades) else {
+    let Ok(None) = book.place(NewOrder::market(Side::Sell, 112), trades) else {
         return false;
     };
     are_trades(names, trades, wanted) && has_bids(book, names, &[])

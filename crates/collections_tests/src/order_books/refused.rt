@@ -1,6 +1,6 @@
 //! Books on a heap with little memory left: a refused call changes nothing, and the same call succeeds once there is memory.
 use linked_list_allocator::LocalHeap;
-use order_book::{OrderBook, OrderId, PlacingError, ReplacingError, Side, Trade};
+use order_book::{NewOrder, OrderBook, OrderId, PlacingError, ReplacingError, Side, Trade};
 use std::alloc::{AllocError, Global};
 
 /// A book on a heap.
@@ -38,7 +38,7 @@ fn leave<'h>(heap: &'h LocalHeap, blocks: &mut Blocks<'h>, units: usize) -> Resu
 
 /// Places an order of one unit, and keeps its name. Returns whether it rests, and there was memory.
 fn put_one(book: &mut Book, side: Side, names: &mut Vec<OrderId>, trades: &mut Vec<Trade>) -> bool {
-    match book.place(side, price_on(side), 1, trades) {
+    match book.place(NewOrder::limit(side, price_on(side), 1), trades) {
         Ok(Some(name)) => names.push(name).is_ok(),
         _ => false,
     }
@@ -65,8 +65,9 @@ fn price_on(side: Side) -> u64 {
 /// Returns whether these are all orders of a side, each still of one unit.
 fn has_all(book: &Book, side: Side, names: &[OrderId]) -> bool {
     for name in names {
-        if book.get(*name) != Some((price_on(side), 1)) {
-            return false;
+        match book.get(*name) {
+            Some(order) if order.price == price_on(side) && order.quantity == 1 => {}
+            _ => return false,
         }
     }
     book.count(side) == names.len()
@@ -118,7 +119,8 @@ enum Order {
 
 /// Places a new order. Returns false if memory was refused; `None` on any other error.
 fn place(market: &mut Market, side: Side) -> Option<bool> {
-    match market.book.place(side, 7, 22, &mut market.trades) {
+    let order = NewOrder::limit(side, 7, 22);
+    match market.book.place(order, &mut market.trades) {
         Ok(_) => Some(true),
         Err(PlacingError::AllocError) => Some(false),
         Err(_) => None,
@@ -203,7 +205,7 @@ fn is_refused(alloc: Global, order: Order, asks: usize, bids: usize, units: usiz
 /// Returns how often an order is refused with no units of memory left, with one, with two and so on; `None` if the book fails.
 fn refusals(alloc: Global, order: Order, asks: usize, bids: usize) -> Option<u32> {
     let mut refused = 0u32;
-    for units in 0..128usize {
+    for units in 0..192usize {
         if is_refused(alloc, order, asks, bids, units)? {
             refused = refused.wrapping_add(1);
         }
@@ -213,7 +215,7 @@ fn refusals(alloc: Global, order: Order, asks: usize, bids: usize) -> Option<u32
 
 /// Returns whether an order was refused at least once, and taken at least once.
 fn is_sometimes(refused: Option<u32>) -> bool {
-    matches!(refused, Some(1..=127))
+    matches!(refused, Some(1..=191))
 }
 
 #[test]

@@ -1,5 +1,5 @@
 //! Replaced and cancelled orders.
-use order_book::{OrderBook, OrderId, PlacingError, ReplacingError, Side, Trade};
+use order_book::{NewOrder, OrderBook, OrderId, PlacingError, ReplacingError, Side, Trade};
 use std::alloc::Global;
 
 /// A side, a price and a quantity.
@@ -7,7 +7,8 @@ type Placed = (Side, u64, u64);
 
 /// Places an order. Returns its name, if something of it comes to rest.
 fn put(book: &mut OrderBook, order: Placed, trades: &mut Vec<Trade>) -> Option<OrderId> {
-    book.place(order.0, order.1, order.2, trades).ok()?
+    let order = NewOrder::limit(order.0, order.1, order.2);
+    book.place(order, trades).ok()?
 }
 
 /// Replaces an order. Returns its new name, if something of it comes to rest again.
@@ -18,6 +19,14 @@ fn put_anew(
     trades: &mut Vec<Trade>,
 ) -> Option<OrderId> {
     book.replace(id, order.0, order.1, trades).ok()?
+}
+
+/// Returns whether an order rests at this price with this quantity left.
+fn rests(book: &OrderBook, id: OrderId, price: u64, quantity: u64) -> bool {
+    match book.get(id) {
+        Some(order) => order.price == price && order.quantity == quantity,
+        None => false,
+    }
 }
 
 /// Returns whether this ask is the first, with this quantity left.
@@ -56,7 +65,7 @@ fn goes_behind_its_equals(book: &mut OrderBook, trades: &mut Vec<Trade>) -> Opti
         return Some(false);
     }
     let bid = put(book, (Side::Buy, 50, 12), trades)?;
-    Some(book.get(bid) == Some((50, 1)) && are_trades(trades, 50, &[(b, 6), (anew, 5)]))
+    Some(rests(book, bid, 50, 1) && are_trades(trades, 50, &[(b, 6), (anew, 5)]))
 }
 
 #[test]
@@ -72,14 +81,14 @@ fn an_order_that_is_replaced_stands_behind_its_equals(rt: HostRuntime) {
 fn trades_when_it_is_raised(book: &mut OrderBook, trades: &mut Vec<Trade>) -> Option<bool> {
     let ask = put(book, (Side::Sell, 50, 6), trades)?;
     let bid = put(book, (Side::Buy, 40, 7), trades)?;
-    let Ok(None) = book.place(Side::Buy, 50, 2, trades) else {
+    let Ok(None) = book.place(NewOrder::limit(Side::Buy, 50, 2), trades) else {
         return Some(false);
     };
     if !is_first_ask(book, ask, 4) {
         return Some(false);
     }
     let raised = put_anew(book, bid, (50, 10), trades)?;
-    if book.get(raised) != Some((50, 6)) || book.get(bid).is_some() {
+    if !rests(book, raised, 50, 6) || book.get(bid).is_some() {
         return Some(false);
     }
     Some(book.cancel(ask).is_none() && are_trades(trades, 50, &[(ask, 2), (ask, 4)]))
@@ -95,13 +104,13 @@ fn a_bid_that_is_raised_trades(rt: HostRuntime) {
 
 /// Returns whether a cancelled order can't be cancelled or replaced again, and an order for nothing fails.
 fn is_gone(book: &mut OrderBook, id: OrderId, trades: &mut Vec<Trade>) -> bool {
-    if book.cancel(id) != Some((40, 7)) || book.cancel(id).is_some() {
+    if !rests(book, id, 40, 7) || book.cancel(id).is_none() || book.cancel(id).is_some() {
         return false;
     }
     if book.replace(id, 50, 1, trades) != Err(ReplacingError::NoOrder) {
         return false;
     }
-    book.place(Side::Buy, 50, 0, trades) == Err(PlacingError::NoQuantity)
+    book.place(NewOrder::limit(Side::Buy, 50, 0), trades) == Err(PlacingError::NoQuantity)
 }
 
 #[test]

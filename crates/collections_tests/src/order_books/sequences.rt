@@ -1,19 +1,26 @@
-//! Every sequence of up to five orders, compared with a plain list.
-use order_book::{Order, OrderBook, OrderId, Side, Trade};
+//! Every sequence of four steps, compared with a plain list: orders of each kind, and reductions.
+use order_book::{NewOrder, Order, OrderBook, OrderId, OrderKind, PlacingError, Side, Trade};
 use std::alloc::Global;
 
-/// A side, a price and a quantity.
-type Placed = (Side, u64, u64);
-
-/// Returns the order with this number, of the six that make up the sequences.
-fn order_of(number: u32) -> Placed {
-    match number % 6 {
-        0 => (Side::Buy, 10, 2),
-        1 => (Side::Buy, 11, 3),
-        2 => (Side::Buy, u64::MAX, 1),
-        3 => (Side::Sell, 10, 2),
-        4 => (Side::Sell, 11, 4),
-        _ => (Side::Sell, 0, 1),
+/// Returns the order with this number, of the nine that make up the sequences with a reduction. Its tag is its number.
+fn order_of(number: u32) -> NewOrder {
+    let (side, kind, quantity) = match number % 10 {
+        0 => (Side::Buy, OrderKind::Limit(10), 2),
+        1 => (Side::Buy, OrderKind::Limit(11), 3),
+        2 => (Side::Buy, OrderKind::Market, 1),
+        3 => (Side::Sell, OrderKind::Limit(10), 2),
+        4 => (Side::Sell, OrderKind::Limit(11), 4),
+        5 => (Side::Sell, OrderKind::Market, 3),
+        6 => (Side::Buy, OrderKind::PostOnly(10), 2),
+        7 => (Side::Sell, OrderKind::FillOrKill(10), 3),
+        _ => (Side::Buy, OrderKind::ImmediateOrCancel(11), 3),
+    };
+    let tag = u64::from(number % 10);
+    NewOrder {
+        side,
+        kind,
+        quantity,
+        tag,
     }
 }
 
@@ -24,6 +31,7 @@ struct Resting {
     side: Side,
     price: u64,
     quantity: u64,
+    tag: u64,
 }
 
 /// Returns whether the first price ranks better for orders of this side.
@@ -61,12 +69,18 @@ fn first_for(list: &[Resting], side: Side) -> Option<Order> {
         Side::Buy => u64::MAX,
         Side::Sell => 0,
     };
-    let order = list.get(best(list, side, limit)?)?;
-    Some(Order {
-        id: order.id,
-        price: order.price,
-        quantity: order.quantity,
-    })
+    Some(shown(list.get(best(list, side, limit)?)?))
+}
+
+/// Returns how much the list offers an order of a side at this limit.
+fn offer(list: &[Resting], side: Side, limit: u64) -> u64 {
+    let mut offered = 0u64;
+    for order in list {
+        if can_trade(order, side, limit) {
+            offered = offered.wrapping_add(order.quantity);
+        }
+    }
+    offered
 }
 
 /// Trades once with the list; `None` if nothing there trades with this order.
@@ -79,13 +93,14 @@ fn trade_once(list: &mut [Resting], side: Side, limit: u64, quantity: u64) -> Op
         order: order.id,
         price: order.price,
         quantity,
+        tag: order.tag,
     })
 }
 
 /// Trades with the list. Returns what is left if the trades are these; `None` if they aren't.
-fn trade(list: &mut [Resting], order: Placed, trades: &[Trade]) -> Option<u64> {
-    let (side, limit, quantity) = order;
-    let mut left = quantity;
+fn trade(list: &mut [Resting], order: NewOrder, trades: &[Trade]) -> Option<u64> {
+    let (side, limit) = (order.side, order.kind.limit(order.side));
+    let mut left = order.quantity;
     for trade in trades {
         if trade_once(list, side, limit, left) != Some(*trade) {
             return None;
@@ -109,6 +124,16 @@ fn count(list: &[Resting], side: Side) -> usize {
     count
 }
 
+/// Returns an order of the list as the book shows it.
+fn shown(order: &Resting) -> Order {
+    Order {
+        id: order.id,
+        price: order.price,
+        quantity: order.quantity,
+        tag: order.tag,
+    }
+}
+
 /// Returns whether each order of the list rests on the book, and no filled one does.
 fn finds_each(book: &OrderBook, list: &[Resting]) -> bool {
     for order in list {
@@ -116,25 +141,48 @@ fn finds_each(book: &OrderBook, list: &[Resting]) -> bool {
         if order.quantity == 0 && found.is_some() {
             return false;
         }
-        if order.quantity > 0 && found != Some((order.price, order.quantity)) {
+        if order.quantity > 0 && found != Some(shown(order)) {
             return false;
         }
     }
     true
 }
 
+/// Returns whether the levels of a side sum up its orders, in the order in which they trade.
+fn has_levels(book: &OrderBook, side: Side) -> bool {
+    let mut orders = book.iter(side);
+    for level in book.depth(side, 3) {
+        let mut left = level.quantity;
+        for _ in 0..level.count {
+            match orders.next() {
+                Some(order) if order.price == level.price => {
+                    left = left.wrapping_sub(u128::from(order.quantity));
+                }
+                _ => return false,
+            }
+        }
+        if left != 0 {
+            return false;
+        }
+    }
+    orders.next().is_none()
+}
+
+/// Returns whether the book and the list have the same orders on a side, and the same first one.
+fn are_alike_on(book: &OrderBook, list: &[Resting], side: Side, first: Option<Order>) -> bool {
+    book.count(side) == count(list, side)
+        && book.iter(side).next() == first
+        && has_levels(book, side)
+}
+
 /// Returns whether the book and the list have the same orders, and the same first ones.
 fn are_alike(book: &OrderBook, list: &[Resting]) -> bool {
-    if book.best_bid() != first_for(list, Side::Sell) {
-        return false;
-    }
-    if book.best_ask() != first_for(list, Side::Buy) {
-        return false;
-    }
-    if book.count(Side::Buy) != count(list, Side::Buy) {
-        return false;
-    }
-    book.count(Side::Sell) == count(list, Side::Sell) && finds_each(book, list)
+    let (bid, ask) = (first_for(list, Side::Sell), first_for(list, Side::Buy));
+    book.best_bid() == bid
+        && book.best_ask() == ask
+        && are_alike_on(book, list, Side::Buy, bid)
+        && are_alike_on(book, list, Side::Sell, ask)
+        && finds_each(book, list)
 }
 
 /// Returns whether no bid is at or above an ask.
@@ -145,18 +193,29 @@ fn is_uncrossed(book: &OrderBook) -> bool {
     }
 }
 
-/// Puts what is left of an order into the list, if it has a name. Returns whether it has one exactly if something is left.
-fn rest(list: &mut Vec<Resting>, order: Placed, id: Option<OrderId>, left: u64) -> bool {
+/// Puts what is left of an order into the list, if it has a name. Returns whether it has one exactly if something of it rests.
+fn rest(list: &mut Vec<Resting>, order: NewOrder, id: Option<OrderId>, left: u64) -> bool {
     let Some(id) = id else {
-        return left == 0;
+        return left == 0 || !order.kind.can_rest();
     };
     let resting = Resting {
         id,
-        side: order.0,
-        price: order.1,
+        side: order.side,
+        price: order.kind.limit(order.side),
         quantity: left,
+        tag: order.tag,
     };
-    list.push(resting).is_ok() && left > 0
+    list.push(resting).is_ok() && left > 0 && order.kind.can_rest()
+}
+
+/// Returns why the list refuses an order, if it does.
+fn refusal(list: &[Resting], order: NewOrder) -> Option<PlacingError> {
+    let offered = offer(list, order.side, order.kind.limit(order.side));
+    match order.kind {
+        OrderKind::PostOnly(_) if offered > 0 => Some(PlacingError::WouldTrade),
+        OrderKind::FillOrKill(_) if offered < order.quantity => Some(PlacingError::WouldNotFill),
+        _ => None,
+    }
 }
 
 /// Places an order on the book and in the list. Returns whether they agree, and as much was offered as is traded.
@@ -164,36 +223,56 @@ fn place(
     book: &mut OrderBook,
     list: &mut Vec<Resting>,
     trades: &mut Vec<Trade>,
-    order: Placed,
+    order: NewOrder,
 ) -> bool {
     trades.clear();
-    let offered = book.offered(order.0, order.1, order.2);
-    let Ok(id) = book.place(order.0, order.1, order.2, trades) else {
-        return false;
-    };
-    let Some(left) = trade(list, order, trades) else {
-        return false;
-    };
-    if offered.wrapping_add(left) != order.2 {
+    let limit = order.kind.limit(order.side);
+    let offered = book.offered(order.side, limit, order.quantity);
+    let within = book.volume_within(order.side, limit);
+    if within != u128::from(offer(list, order.side, limit)) {
         return false;
     }
-    rest(list, order, id, left) && are_alike(book, list) && is_uncrossed(book)
+    match book.place(order, trades) {
+        Err(error) => refusal(list, order) == Some(error) && trades.is_empty(),
+        Ok(id) => {
+            let refused = refusal(list, order);
+            let left = trade(list, order, trades);
+            refused.is_none()
+                && left == Some(order.quantity.wrapping_sub(offered))
+                && rest(list, order, id, order.quantity.wrapping_sub(offered))
+        }
+    }
 }
 
-/// Places the orders of the sequence with this number, whose digits in base 6 are those of the orders. Returns whether the book and the
-/// list always agree.
-fn place_all(
+/// Takes one unit off the oldest order of the list. Returns whether the book does the same.
+fn reduce(book: &mut OrderBook, list: &mut [Resting]) -> bool {
+    let Some(order) = list.first_mut() else {
+        return true;
+    };
+    let left = order.quantity.saturating_sub(1);
+    let expected = if order.quantity > 0 { Some(left) } else { None };
+    order.quantity = left;
+    book.reduce(order.id, 1) == expected
+}
+
+/// Does the steps of the sequence with this number, one for each of its four digits: 9 reduces, the others place an order. Returns whether
+/// the book and the list always agree.
+fn do_all(
     book: &mut OrderBook,
     list: &mut Vec<Resting>,
     trades: &mut Vec<Trade>,
     number: u32,
 ) -> bool {
     let mut digits = number;
-    for _ in 0..5u32 {
-        if !place(book, list, trades, order_of(digits)) {
+    for _ in 0..4u32 {
+        let is_done = match digits % 10 {
+            9 => reduce(book, list),
+            _ => place(book, list, trades, order_of(digits)),
+        };
+        if !is_done || !are_alike(book, list) || !is_uncrossed(book) {
             return false;
         }
-        digits /= 6;
+        digits /= 10;
     }
     true
 }
@@ -202,12 +281,12 @@ fn place_all(
 fn is_plain(alloc: Global, number: u32) -> bool {
     let mut book = OrderBook::new(alloc);
     let (mut list, mut trades) = (Vec::new(alloc), Vec::new(alloc));
-    place_all(&mut book, &mut list, &mut trades, number)
+    do_all(&mut book, &mut list, &mut trades, number)
 }
 
 #[test]
-fn every_sequence_of_up_to_five_orders(rt: HostRuntime) {
-    for number in 0..7776u32 {
+fn every_sequence_of_four_orders_and_reductions(rt: HostRuntime) {
+    for number in 0..10_000u32 {
         assert!(rt; is_plain(rt.alloc(), number));
     }
 }

@@ -1,5 +1,7 @@
-use Rattle.std.proofs.{Common.arith, lemmas.Grind.common_steps}
-use Rattle.order_book.proofs.Volumes.{settled}
+use Rattle.std.proofs.{Common.◌≡◌, Common.◌-◌, Common.◌∙◌, Common.arith, lemmas.Grind.common_steps}
+use Rattle.order_queue.specs.Queue.{traded}
+use Rattle.order_book.specs.Book.{limit_of, dealt}
+use Rattle.order_book.proofs.{Volumes.settled, Deals.rests-others, Deals.behind-others, Deals.deals-limited, Deals.deals-none}
 use Rattle.order_book.proofs.settling.settle.Goals as goal
 
 pub returns-in_default-clause-memory : goal.returns-in_default-clause-memory
@@ -22,3 +24,23 @@ returns-in-Ok-rest-clause-sold g c = grind (arith, settled)
 
 pub returns-in-Err-clause-full : goal.returns-in-Err-clause-full
 returns-in-Err-clause-full g c = grind (arith, common_steps)
+
+pub returns-in-Ok-rest-clause-own_others : goal.returns-in-Ok-rest-clause-own_others
+returns-in-Ok-rest-clause-own_others g c =
+    rests-others c.args.own.now c.rest.new.own c.limit-price.result c.rest_of-2.result c.args.order.tag c.in-Ok-rest.id c.in-Ok-rest.ensures.rests
+
+pub returns-in-Ok-rest-clause-others : goal.returns-in-Ok-rest-clause-others
+returns-in-Ok-rest-clause-others g c = λ p untraded.
+    let q = c.args.other.now in
+    let amount : c.args.order.quantity - c.in-Ok.left ≡ dealt q c.args.order = omega (arith, rw c.limit-price.ensures at c.in-Ok.ensures.left) in
+    rw (c.take.ensures, amount) (behind-others q.side p (dealt q c.args.order) q.orders c.offer.ensures.sound.of_side c.offer.ensures.sound.some_left untraded)
+
+pub returns-in-Ok-rest-clause-limited : goal.returns-in-Ok-rest-clause-limited
+returns-in-Ok-rest-clause-limited g c =
+    deals-limited c.args.other.now (limit_of c.args.order.side c.args.order.kind) c.args.order.quantity c.offer.ensures.sound.in_order
+
+pub returns-in-Ok-rest-clause-quiet : goal.returns-in-Ok-rest-clause-quiet
+returns-in-Ok-rest-clause-quiet g c = λ none.
+    let q = c.args.other.now in
+    let amount : traded q c.limit-price.result c.args.order.quantity ≡ 0 = rw c.limit-price.ensures none in
+    c.in-Ok.ensures.trades ∙ deals-none c.args.trades.now.items (traded q c.limit-price.result c.args.order.quantity) q.orders amount

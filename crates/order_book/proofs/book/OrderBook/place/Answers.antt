@@ -9,7 +9,7 @@ invariant_of-self g c =
     let asks = c.self.inside.asks in
     let settled = c.settle-settled in
     let lawful : IsBook (record { bids = bids; asks = asks }) = subst (λ (b : Book). IsBook b) (sym c.self.view_is) c.count.ensures.lawful in
-    pair-settled_bid bids asks settled.new.own settled.new.other c.self.invariant c.args.price c.args.quantity bids c.self.invariant settled.result
+    pair-settled_bid bids asks settled.new.own settled.new.other c.self.invariant c.args.order bids c.self.invariant settled.result
     (record {
       in_order = lawful.asks.in_order;
       rests = settled.ensures.rests;
@@ -24,7 +24,7 @@ invariant_of-self-in-Sell g c =
     let asks = c.self.inside.asks in
     let settled = c.settle-settled-in-Sell in
     let lawful : IsBook (record { bids = bids; asks = asks }) = subst (λ (b : Book). IsBook b) (sym c.self.view_is) c.count.ensures.lawful in
-    pair-settled_ask bids asks settled.new.other settled.new.own c.self.invariant c.args.price c.args.quantity asks c.self.invariant settled.result
+    pair-settled_ask bids asks settled.new.other settled.new.own c.self.invariant c.args.order asks c.self.invariant settled.result
     (record {
       in_order = lawful.bids.in_order;
       rests = settled.ensures.rests;

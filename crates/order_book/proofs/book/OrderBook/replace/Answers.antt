@@ -1,4 +1,5 @@
 use Rattle.order_queue.specs.Queue.{with_left}
+use Rattle.order_book.specs.declared.new_order.OrderKind.TheVariants.{Limit}
 use Rattle.std.proofs.Common.{sym, subst}
 use Rattle.order_book.specs.Book.{Book, IsBook}
 use Rattle.order_book.proofs.Pairs.{pair-without_bid, pair-without_ask, pair-settled_bid, pair-settled_ask}
@@ -10,7 +11,7 @@ invariant_of-self g c =
     let asks = c.self.inside.asks in
     let settled = c.settle_anew-settled in
     let lawful : IsBook (record { bids = bids; asks = asks }) = subst (λ (b : Book). IsBook b) (sym c.self.view_is) c.count.ensures.lawful in
-    pair-settled_bid bids asks settled.new.own settled.new.other c.self.invariant c.args.price c.args.quantity (with_left bids c.pointer-old.result) (pair-without_bid bids asks c.self.invariant c.pointer-old.result) settled.result
+    pair-settled_bid bids asks settled.new.own settled.new.other c.self.invariant (record { side = c.side-2.result; kind = Limit c.args.price; quantity = c.args.quantity; tag = c.in-Some.old.tag }) (with_left bids c.pointer-pointer.result) (pair-without_bid bids asks c.self.invariant c.pointer-pointer.result) settled.result
     (record {
       in_order = lawful.asks.in_order;
       rests = settled.ensures.rests;
@@ -25,7 +26,7 @@ invariant_of-self-in-Sell g c =
     let asks = c.self.inside.asks in
     let settled = c.settle_anew-settled-in-Sell in
     let lawful : IsBook (record { bids = bids; asks = asks }) = subst (λ (b : Book). IsBook b) (sym c.self.view_is) c.count.ensures.lawful in
-    pair-settled_ask bids asks settled.new.other settled.new.own c.self.invariant c.args.price c.args.quantity (with_left asks c.pointer-old.result) (pair-without_ask bids asks c.self.invariant c.pointer-old.result) settled.result
+    pair-settled_ask bids asks settled.new.other settled.new.own c.self.invariant (record { side = c.side-2.result; kind = Limit c.args.price; quantity = c.args.quantity; tag = c.in-Some.old.tag }) (with_left asks c.pointer-pointer.result) (pair-without_ask bids asks c.self.invariant c.pointer-pointer.result) settled.result
     (record {
       in_order = lawful.bids.in_order;
       rests = settled.ensures.rests;

@@ -11,5 +11,5 @@ returns-in_err-rank g c = absurd (first-lost c.self.inside.orders.entries c.in_o
 
 pub returns : goal.returns
 returns g c =
-    rw (← c.self.view_is, c.new.ensures, c.ranked.ensures)
-    (sym (first-some c.self.inside.side c.self.inside.orders.entries c.in_ok-pointer.pointer (c.in_ok-rank.rank.now, c.in_ok-rank.quantity.now) c.in_ok-pointer.ensures.value c.in_ok-rank.ensures))
+    rw (← c.self.view_is, c.order_at.ensures)
+    (sym (first-some c.self.inside.side c.self.inside.orders.entries c.in_ok-pointer.pointer (c.in_ok-rank.rank.now, c.in_ok-rank.lot.now) c.in_ok-pointer.ensures.value c.in_ok-rank.ensures))

@@ -1,0 +1,209 @@
+//! What the exchange answers to each line.
+
+use crate::HELP;
+use crate::command::{Command, Fault};
+use crate::exchange::Exchange;
+use order_book::{Order, OrderKind, Side};
+use std::io;
+use std::io::Write;
+
+/// How many lines there were, how many of them were obeyed, and how many weren't; and how much was traded, if that can be counted.
+#[derive(Drop)]
+pub struct Figures {
+    pub lines: u64,
+    pub done: u64,
+    pub bad: u64,
+    pub traded: Option<u128>,
+}
+
+impl Figures {
+    /// Returns the figures of an exchange that hasn't been asked anything.
+    pub fn new() -> Figures {
+        Figures {
+            lines: 0,
+            done: 0,
+            bad: 0,
+            traded: Some(0),
+        }
+    }
+}
+
+/// Writes the trades of an incoming order.
+fn write_trades<W: Write>(
+    writer: &mut W,
+    exchange: &Exchange,
+    figures: &mut Figures,
+) -> io::Result<()> {
+    for trade in &exchange.trades {
+        let (price, quantity, number) = (trade.price, trade.quantity, trade.tag);
+        match exchange.tag(number) {
+            0 => writeln!(writer, "trade {quantity} at {price} with {number}")?,
+            tag => writeln!(
+                writer,
+                "trade {quantity} at {price} with {number}, tag {tag}"
+            )?,
+        }
+        figures.traded = match figures.traded {
+            Some(traded) => traded.checked_add(u128::from(quantity)),
+            None => None,
+        };
+    }
+    Ok(())
+}
+
+/// Returns how much of an order the last trades leave.
+fn left_of(exchange: &Exchange, quantity: u64) -> u64 {
+    let mut left = quantity;
+    for trade in &exchange.trades {
+        left = left.saturating_sub(trade.quantity);
+    }
+    left
+}
+
+/// Writes what became of an incoming order that isn't traded.
+fn write_rest<W: Write>(
+    writer: &mut W,
+    exchange: &Exchange,
+    rests: Option<u64>,
+    quantity: u64,
+) -> io::Result<()> {
+    match (rests, left_of(exchange, quantity)) {
+        (Some(number), _) => writeln!(writer, "rests {} as {number}", exchange.left(number)),
+        (None, 0) => writeln!(writer, "filled"),
+        (None, left) => writeln!(writer, "dropped {left}"),
+    }
+}
+
+/// Writes the best order of a side.
+fn write_best<W: Write>(writer: &mut W, word: &str, best: Option<Order>) -> io::Result<()> {
+    match best {
+        Some(order) => {
+            let (price, quantity, number) = (order.price, order.quantity, order.tag);
+            writeln!(writer, "{word} {quantity} at {price}, order {number}")
+        }
+        None => writeln!(writer, "no {word}"),
+    }
+}
+
+/// Writes the first levels of a side.
+fn write_depth<W: Write>(
+    writer: &mut W,
+    exchange: &Exchange,
+    side: Side,
+    levels: usize,
+) -> io::Result<()> {
+    let word = match side {
+        Side::Buy => "bid",
+        Side::Sell => "ask",
+    };
+    for level in exchange.book.depth(side, levels) {
+        let (price, quantity, count) = (level.price, level.quantity, level.count);
+        writeln!(writer, "{word} {quantity} at {price}, orders {count}")?;
+    }
+    Ok(())
+}
+
+/// Places an order, and writes what became of it.
+fn place<W: Write>(
+    writer: &mut W,
+    exchange: &mut Exchange,
+    figures: &mut Figures,
+    order: (Side, OrderKind, u64, u64),
+) -> Result<(), Fault> {
+    let (side, kind, quantity, tag) = order;
+    let rests = exchange.place(side, kind, quantity, tag)?;
+    write_trades(writer, exchange, figures)?;
+    write_rest(writer, exchange, rests, quantity)?;
+    Ok(())
+}
+
+/// Changes a resting order, and writes what became of it.
+fn change<W: Write>(
+    writer: &mut W,
+    exchange: &mut Exchange,
+    figures: &mut Figures,
+    command: Command,
+) -> Result<(), Fault> {
+    match command {
+        Command::Replace(number, price, quantity) => {
+            let rests = exchange.replace(number, price, quantity)?;
+            write_trades(writer, exchange, figures)?;
+            write_rest(writer, exchange, rests, quantity)?;
+        }
+        Command::Reduce(number, quantity) => match exchange.reduce(number, quantity)? {
+            0 => writeln!(writer, "gone {number}")?,
+            left => writeln!(writer, "left {left} of {number}")?,
+        },
+        Command::Cancel(number) => {
+            let (price, quantity) = exchange.cancel(number)?;
+            writeln!(writer, "cancelled {quantity} at {price}")?;
+        }
+        _ => {}
+    }
+    Ok(())
+}
+
+/// Does what a line says, and answers it. An empty line says nothing.
+pub fn obey<W: Write>(
+    writer: &mut W,
+    exchange: &mut Exchange,
+    figures: &mut Figures,
+    line: &str,
+) -> Result<(), Fault> {
+    match Command::read(line)? {
+        Command::Place(side, kind, quantity, tag) => {
+            place(writer, exchange, figures, (side, kind, quantity, tag))?;
+        }
+        Command::Best => {
+            write_best(writer, "bid", exchange.book.best_bid())?;
+            write_best(writer, "ask", exchange.book.best_ask())?;
+        }
+        Command::Depth(levels) => {
+            write_depth(writer, exchange, Side::Buy, levels)?;
+            write_depth(writer, exchange, Side::Sell, levels)?;
+        }
+        Command::Help => write!(writer, "{HELP}")?,
+        command => change(writer, exchange, figures, command)?,
+    }
+    Ok(())
+}
+
+/// Counts a line, and writes why it wasn't obeyed, if so.
+///
+/// # Errors
+///
+/// Writing failed, now or when the line was answered.
+pub fn report<W: Write>(
+    writer: &mut W,
+    figures: &mut Figures,
+    outcome: Result<(), Fault>,
+) -> io::Result<()> {
+    match outcome {
+        Ok(()) => {
+            figures.done = figures.done.saturating_add(1);
+            Ok(())
+        }
+        Err(Fault::Device(error)) => Err(error),
+        Err(fault) => {
+            figures.bad = figures.bad.saturating_add(1);
+            writeln!(writer, "line {}: {fault}", figures.lines)
+        }
+    }
+}
+
+/// Writes the totals, as the last line.
+pub fn write_totals<W: Write>(
+    writer: &mut W,
+    exchange: &Exchange,
+    figures: &Figures,
+) -> io::Result<()> {
+    let (lines, done, bad) = (figures.lines, figures.done, figures.bad);
+    write!(writer, "lines {lines}, done {done}, bad {bad}, ")?;
+    match figures.traded {
+        Some(traded) => write!(writer, "traded {traded}, ")?,
+        None => write!(writer, "traded more than can be counted, ")?,
+    }
+    let bids = exchange.book.count(Side::Buy);
+    let asks = exchange.book.count(Side::Sell);
+    writeln!(writer, "bids {bids}, asks {asks}")
+}

@@ -1,0 +1,99 @@
+-- What the deals of an order leave: within its limit, and no other name changes.
+use Rattle.std.proofs.Common.{◌≡◌, ◌≢◌, ℕ, ◌+◌, ◌-◌, ◌<◌, ◌≤◌, Bool, true, false, List, [], ◌∷◌, ◌++◌, length, length-append, Option, Some, None, OnSome, IfNone, refl, sym, ap, subst, ◌∙◌, arith, inl, inr, if◌then◌else◌}
+use Rattle.std.proofs.{lemmas.Bool.Decides.eqb_tells, lemmas.Bool.Decides.leb_tells, lemmas.Bool.lt-ltb, lemmas.Bool.le-ltb, lemmas.List.append-nil}
+use Rattle.std.specs.List.{AllByRecursion}
+use Rattle.order_queue.specs.Queue.{Queue, IsInOrder, Rests, HasRoomFor, is_named_by, meets, order_of, resting, traded, trades_of_first, within, with_left, behind}
+use Rattle.order_queue.specs.{declared.order.Order.Order, declared.order.Trade.Trade, declared.side.Side.Side, Id.Id}
+use Rattle.order_queue.proofs.CallerLemmas.{within-missed, trades-none, behind-none}
+use Rattle.order_book.specs.Book.{IsUntraded, RestsOrNot}
+
+-- trades of at most what meets a limit meet it
+within-first : (side : Side) (limit n : ℕ) (x : Order) (xs : List Order) → IsInOrder side (x ∷ xs) → n ≤ within side limit (x ∷ xs) → n ≢ 0
+    → (meets side x.price limit ≡ true) × (n - x.quantity ≤ within side limit xs)
+within-first side limit n x xs sorted most some = go (meets side x.price limit) refl
+  where
+    go : (b : Bool) → meets side x.price limit ≡ b → (meets side x.price limit ≡ true) × (n - x.quantity ≤ within side limit xs)
+    go true met =
+        let here : within side limit (x ∷ xs) ≡ x.quantity + within side limit xs = rw met refl in
+        (met, omega (arith, most, here))
+    go false unmet = absurd (some (omega (arith, most, within-missed side limit x xs unmet sorted)))
+
+deals-within : (side : Side) (limit n : ℕ) (xs : List Order) → IsInOrder side xs → n ≤ within side limit xs
+    → AllByRecursion (λ (t : Trade). meets side t.price limit ≡ true) (trades_of_first n xs)
+deals-within side limit n [] sorted most = tt
+deals-within side limit n (x ∷ xs) sorted most = elim (eqb_tells n 0) [
+  | inl none ↦ rw none.0 tt
+  | inr some ↦
+      let first = within-first side limit n x xs sorted most (λ is. some.1 is) in
+      rw some.0 (first.0, deals-within side limit (n - x.quantity) xs sorted.1 first.1)
+]
+
+pub deals-limited : (q : Queue) (limit quantity : ℕ) → IsInOrder q.side q.orders
+    → AllByRecursion (λ (t : Trade). meets q.side t.price limit ≡ true) (trades_of_first (traded q limit quantity) q.orders)
+deals-limited q limit quantity sorted = deals-within q.side limit (traded q limit quantity) q.orders sorted (omega arith)
+
+-- the name of these parts
+abbrev pub id_of : Side → ℕ × ℕ → Id
+id_of side p = record { side = side; pointer = p }
+
+pair-same : (q p : ℕ × ℕ) → q.0 ≡ p.0 → q.1 ≡ p.1 → q ≡ p
+pair-same q p first second = rw (first, second) refl
+
+-- a pointer doesn't name an order that has another name
+unnamed : (side : Side) (p : ℕ × ℕ) (x : Order) → x.id.side ≡ side → x.id ≢ id_of side p → is_named_by p x ≡ false
+unnamed side p x of_side other = elim (eqb_tells x.id.pointer.0 p.0) [
+  | inl h ↦ elim (eqb_tells x.id.pointer.1 p.1) [
+    | inl k ↦ absurd (other (ap (λ s. id_of s x.id.pointer) of_side ∙ ap (id_of side) (pair-same x.id.pointer p h.1 k.1)))
+    | inr k ↦ rw (h.0, k.0) refl
+  ]
+  | inr h ↦ rw h.0 refl
+]
+
+-- a name that wasn't traded with names what it named
+pub behind-others : (side : Side) (p : ℕ × ℕ) (n : ℕ) (xs : List Order) → AllByRecursion (λ (x : Order). x.id.side ≡ side) xs → AllByRecursion (λ (x : Order). 0 < x.quantity) xs
+    → IsUntraded (id_of side p) (trades_of_first n xs) → order_of (behind n xs) p ≡ order_of xs p
+behind-others side p n [] of_side some untraded = refl
+behind-others side p n (x ∷ xs) of_side some untraded = elim (eqb_tells n 0) [
+  | inl none ↦ rw (none.1, behind-none (x ∷ xs) some) refl
+  | inr more ↦
+      let apart : (x.id ≢ id_of side p) × IsUntraded (id_of side p) (trades_of_first (n - x.quantity) xs) = rw more.0 at untraded in
+      let other : is_named_by p x ≡ false = unnamed side p x of_side.0 apart.0 in
+      elim (leb_tells x.quantity n) [
+        | inl whole ↦ rw (le-ltb n x.quantity whole.1, other) (behind-others side p (n - x.quantity) xs of_side.1 some.1 apart.1)
+        | inr part ↦ rw (lt-ltb n x.quantity part.1, other) refl
+      ]
+]
+
+-- an order between others hides no other
+between-others : (front : List Order) (x : Order) (back : List Order) (p : ℕ × ℕ) → is_named_by p x ≡ false → order_of (front ++ x ∷ back) p ≡ order_of (front ++ back) p
+between-others [] x back p other = rw other refl
+between-others (y ∷ front) x back p other = ap (λ o. if is_named_by p y then Some y else o) (between-others front x back p other)
+
+-- nothing is added if nothing is dealt
+pub deals-none : (items : List Trade) (n : ℕ) (xs : List Order) → n ≡ 0 → items ++ trades_of_first n xs ≡ items
+deals-none items n xs none = ap (λ m. items ++ trades_of_first m xs) none ∙ ap (λ ts. items ++ ts) (trades-none xs) ∙ append-nil items
+
+-- the side of a queue stays if an order leaves
+pub side-left : (o : Option Order) (old new : Queue) (p : ℕ × ℕ) → OnSome o (new ≡ with_left old p) → IfNone o (new ≡ old) → new.side ≡ old.side
+side-left None old new p gone none = ap (λ (q : Queue). q.side) none
+side-left (Some x) old new p gone none = ap (λ (q : Queue). q.side) gone
+
+module _ (own new : Queue) (price rest tag : ℕ) where
+  -- an order that comes to rest leaves every other name of its side as it was
+  pub rests-others : (id : Option Id) → RestsOrNot own price rest tag id new → (p : ℕ × ℕ) → Some (id_of own.side p) ≢ id → order_of new.orders p ≡ order_of own.orders p
+  rests-others None rests p other = ap (λ (q : Queue). order_of q.orders p) rests.1
+  rests-others (Some id) rests p other =
+      let r : Rests own price rest tag id.pointer new = rests.2 in
+      let x : Order = resting own.side id.pointer price rest tag in
+      let named : id_of own.side id.pointer ≡ id = ap (λ s. id_of s id.pointer) (sym rests.1) in
+      let apart : id_of own.side id.pointer ≢ id_of own.side p = λ same. other (ap (λ (i : Id). Some i) (sym same ∙ named)) in
+      ap (λ xs. order_of xs p) r.after ∙ between-others r.ahead x r.later p (unnamed own.side p x refl apart) ∙ ap (λ xs. order_of xs p) (sym r.before)
+
+  -- and takes room for one
+  pub rests-room : (id : Option Id) → RestsOrNot own price rest tag id new → (n : ℕ) → HasRoomFor (n + 1) own → HasRoomFor n new
+  rests-room None rests n room = subst (λ q. HasRoomFor n q) (sym rests.1) (omega (arith, room))
+  rests-room (Some id) rests n room =
+      let r : Rests own price rest tag id.pointer new = rests.2 in
+      let x : Order = resting own.side id.pointer price rest tag in
+      let same : new.capacity ≡ own.capacity = r.capacity ∙ rw (lt-ltb (length own.orders) own.capacity (omega (arith, room))) refl in
+      omega (arith, room, same, ap length r.after, ap length r.before, length-append r.ahead (x ∷ r.later), length-append r.ahead r.later)
