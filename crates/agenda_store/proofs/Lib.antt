@@ -1,0 +1,6 @@
+mod Absent
+mod Entries
+mod Jobs
+mod Kept
+mod Links
+mod Replays

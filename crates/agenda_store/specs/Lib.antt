@@ -1,0 +1,5 @@
+pub mod Change
+pub mod Plan
+pub mod Planner
+pub mod Replay
+pub mod Store

@@ -1,0 +1,44 @@
+-- How a plan lies in memory.
+use Rattle.std.specs.Prelude.{◌≡◌, ◌<◌, ℕ, ◌==◌, if◌then◌else◌, List, [], ◌∷◌, map, Option, Some, None, Vec}
+use Rattle.std.specs.List.{AllByRecursion}
+use Rattle.std.specs.BTreeMap as tree
+use Rattle.std.specs.Ordering.{nat_cmp}
+use Rattle.std.specs.declared.alloc.Global.{Global}
+use Rattle.agenda.specs.Agenda.{Scheduled}
+use Rattle.agenda_store.specs.Plan.{Job, Plan}
+use Rattle.agenda_store.specs.declared.planner.Planner.{Planner}
+
+-- what the agenda keeps for a job: its number and its bytes
+abbrev pub Entry : Type 0
+Entry = ℕ × Vec ℕ Global
+
+-- an entry of the agenda as a job
+abbrev pub job_in : Scheduled Entry → Job
+job_in x = record { id = x.job.0; deadline = x.deadline; bytes = x.job.1.items }
+
+abbrev pub plan_of : Planner → Plan
+plan_of planner = record { jobs = map job_in planner.agenda.jobs; next = planner.next }
+
+-- the ticket of the job with this number
+abbrev pub ticket_of : ℕ → List (Scheduled Entry) → Option (ℕ × ℕ)
+ticket_of id [] = None
+ticket_of id (x ∷ xs) = if x.job.0 == id then Some x.ticket else ticket_of id xs
+
+-- No number names two jobs.
+abbrev pub IsApart : List (Scheduled Entry) → Type 0
+IsApart [] = Unit {0}
+IsApart (x ∷ xs) = (ticket_of x.job.0 xs ≡ None) × IsApart xs
+
+-- Each number finds the ticket of its job, and the next number is above all.
+pub record IsLinkedBy (ticket_at : ℕ → Option (ℕ × ℕ)) (next : ℕ) (entries : List (Scheduled Entry)) : Type 0 where
+  pub tickets : (id : ℕ) → ticket_at id ≡ ticket_of id entries
+  pub apart : IsApart entries
+  pub below : AllByRecursion (λ x. x.job.0 < next) entries
+
+-- The map of a planner has the tickets.
+abbrev pub IsLinked : Planner → Type 0
+IsLinked planner = IsLinkedBy (tree.get nat_cmp planner.tickets) planner.next planner.agenda.jobs
+
+-- a deadline and the bytes of a vector
+abbrev pub taken : ℕ × Vec ℕ Global → ℕ × List ℕ
+taken x = (x.0, x.1.items)

@@ -1,0 +1,23 @@
+-- The plan that records stand for, and the plan that a file stands for.
+use Rattle.std.specs.Prelude.{◌≡◌, ◌⊎◌, ℕ, List, map}
+use Rattle.std.specs.List.{AllByRecursion}
+use Rattle.record_log.specs.Format.{Holds}
+use Rattle.agenda_store.specs.Plan.{Plan, empty}
+use Rattle.agenda_store.specs.Change.{Change, spelling, after, IsWritten}
+
+-- The records are those of changes, and the plan is what they make of an empty one.
+pub record IsReplayed (records : List (List ℕ)) (plan : Plan) : Type 0 where
+  pub changes : List Change
+  pub written : AllByRecursion IsWritten changes
+  pub spelled : records ≡ map spelling changes
+  pub plan_is : plan ≡ after changes empty
+
+-- The file holds records of which the plan is made.
+pub record StandsFor (file : List ℕ) (plan : Plan) : Type 0 where
+  pub records : List (List ℕ)
+  pub holds : Holds file records
+  pub replayed : IsReplayed records plan
+
+-- The file stands for one of these plans.
+abbrev pub StandsForEither : Plan → Plan → List ℕ → Type 0
+StandsForEither before now file = StandsFor file before ⊎ StandsFor file now

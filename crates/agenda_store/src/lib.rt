@@ -1,0 +1,11 @@
+//! An agenda that survives a crash: each change is on the disk before its call returns.
+#![tactic(auto)]
+
+mod change;
+mod error;
+mod planner;
+mod store;
+
+pub use error::StoreError;
+pub use record_log::{Device, DeviceError, FileDevice, LogError, Memory};
+pub use store::{JobId, MAX_BYTES, Store};

@@ -1,0 +1,240 @@
+//! `Store`: an agenda on a log.
+
+ghost use Rattle.std.specs.Prelude.{◌≡◌, ◌≤◌, ◌↔◌, false, is_some, IfOk, IfErr, OnOk, OnErr, IsErrOf, IsTrue, length};
+ghost use Rattle.std.specs.Option.{option_map};
+ghost use Rattle.record_log.specs.Device.{IsDurable, LeavesOnly};
+ghost use Rattle.agenda_store.specs.Plan.{Plan, scheduled, cancelled, moved, without_due, job_at, first_due, first_deadline, told};
+ghost use Rattle.agenda_store.specs.Planner.{taken};
+ghost use Rattle.agenda_store.specs.Replay.{StandsFor, StandsForEither};
+ghost use Rattle.agenda_store.specs.Store.{plan_in, disk_of, popped, IsOpen, IsSound};
+
+use crate::change::{Change, replay, spell};
+use crate::error::StoreError;
+use crate::planner::Planner;
+use record_log::{Device, Log};
+use std::alloc::Global;
+
+/// The most bytes that a job may have.
+pub const MAX_BYTES: usize = 65527;
+
+/// The number of a job. Numbers count up from 1, and none is given again.
+#[derive(Clone, Copy, Debug, PartialEq, Eq, PartialOrd, Ord)]
+pub struct JobId(pub u64);
+
+/// An agenda that survives a crash.
+///
+/// Each call that changes it puts one record into a log, and returns once the record is on the disk. Whatever moment a crash comes at,
+/// opening the file gives the agenda after all calls that returned `Ok`, and perhaps the change of the one call in flight besides.
+///
+/// A call that fails closes the store, unless it says otherwise: open the file again. Until then each call answers `Closed`.
+#[derive(Drop)]
+pub struct Store<D: Device> {
+    alloc: Global,
+    planner: Planner,
+    log: Log<D>,
+    is_open: bool,
+}
+
+impl<D: Device> Store<D> {
+    /// Opens a file that a crash may have left. It may crash too, at any moment, and the file then stands for the same agenda.
+    ///
+    /// # Errors
+    ///
+    /// The device comes back, and its file stands for the same agenda.
+    /// - `Log`: the device failed, or the file is no log, or corrupt.
+    /// - `OutOfMemory`, `Full`: the jobs don't fit.
+    /// - `NotAnAgenda`: a record is none of an agenda.
+    pub fn open(alloc: Global, device: D) -> Result<Store<D>, (StoreError, D)>
+        requires { IsTrue D.is_modelled → IsDurable (D.seen device) (D.may_leave device) }
+        ensures sound { IfOk result (IsSound D.is_modelled D.seen D.may_leave) }
+        ensures open { IfOk result IsOpen }
+        ensures plan { IsTrue D.is_modelled → IfOk result (λ store. StandsFor (D.seen device) (plan_in store)) }
+        ensures any_moment { IsTrue D.is_modelled → IfOk result (λ store.
+            (plan : Plan) → StandsFor (D.seen device) plan → LeavesOnly D.moment D.left_since device (disk_of store) (λ c. StandsFor c plan)) }
+        ensures any_moment_err { IsTrue D.is_modelled → IfErr result (λ e.
+            (plan : Plan) → StandsFor (D.seen device) plan → LeavesOnly D.moment D.left_since device e.1 (λ c. StandsFor c plan)) }
+    {
+        match Log::open(alloc, device) {
+            Ok((log, records)) => match replay(alloc, &records) {
+                Ok(planner) => Ok(Store {
+                    alloc,
+                    planner,
+                    log,
+                    is_open: true,
+                }),
+                Err(error) => Err((error, log.into_device())),
+            },
+            Err((error, device)) => Err((StoreError::Log(error), device)),
+        }
+    }
+
+    /// Returns whether no call has failed since the store was opened.
+    pub fn is_open(&self) -> bool
+        ensures { IsTrue result ↔ IsOpen self.now }
+    {
+        self.is_open
+    }
+
+    /// Returns the device.
+    pub fn device(&self) -> &D
+        ensures { result.now ≡ disk_of self.now }
+    {
+        self.log.device()
+    }
+
+    /// Closes the store, and returns its device.
+    pub fn into_device(self) -> D
+        ensures { result ≡ disk_of self }
+    {
+        self.log.into_device()
+    }
+
+    /// Returns how many jobs there are.
+    pub fn len(&self) -> usize
+        ensures { result ≡ length (plan_in self.now).jobs }
+    {
+        self.planner.len()
+    }
+
+    /// Returns the deadline of the first job, in O(1).
+    pub fn next_deadline(&self) -> Option<u64>
+        ensures { result ≡ first_deadline (plan_in self.now).jobs }
+    {
+        self.planner.next_deadline()
+    }
+
+    /// Schedules a job, behind those that aren't due later, and returns its number. In O(log n), and amortized O(1) for growing.
+    ///
+    /// # Errors
+    ///
+    /// - `OutOfMemory`, if the store is still open: nothing changed.
+    /// - else the store is closed, and its file stands for the agenda with the job or without.
+    pub fn schedule(&mut self, deadline: u64, bytes: &[u8]) -> Result<JobId, StoreError>
+        requires size { length bytes.now ≤ 65527 }
+        requires sound { IsSound D.is_modelled D.seen D.may_leave self.old }
+        ensures sound { IsSound D.is_modelled D.seen D.may_leave self.new }
+        ensures open { OnOk result (IsOpen self.new) }
+        ensures closed { self.old.is_open ≡ false → IsErrOf result StoreError.Closed }
+        ensures id { IfOk result (λ id. id.0 ≡ (plan_in self.old).next) }
+        ensures plan { OnOk result (plan_in self.new ≡ scheduled deadline bytes.now (plan_in self.old)) }
+        ensures err { OnErr result (IsOpen self.new → plan_in self.new ≡ plan_in self.old) }
+        ensures any_moment { IsTrue D.is_modelled → IsOpen self.old → LeavesOnly D.moment D.left_since (disk_of self.old) (disk_of self.new)
+            (StandsForEither (plan_in self.old) (scheduled deadline bytes.now (plan_in self.old))) }
+    {
+        if !self.is_open {
+            return Err(StoreError::Closed);
+        }
+        let job = Vec::from_slice(self.alloc, bytes)?;
+        let spelled = spell(self.alloc, Change::Schedule(deadline, bytes))?;
+        self.is_open = false;
+        let id = self.planner.schedule(deadline, job)?;
+        self.log.append(self.alloc, &spelled)?;
+        self.is_open = true;
+        Ok(JobId(id))
+    }
+
+    /// Takes the job of a number off, and returns its deadline and its bytes. `None` if the number names no job. In O(log n).
+    ///
+    /// # Errors
+    ///
+    /// As of [`schedule`](Self::schedule).
+    pub fn cancel(&mut self, id: JobId) -> Result<Option<(u64, Vec<u8>)>, StoreError>
+        requires { IsSound D.is_modelled D.seen D.may_leave self.old }
+        ensures sound { IsSound D.is_modelled D.seen D.may_leave self.new }
+        ensures open { OnOk result (IsOpen self.new) }
+        ensures closed { self.old.is_open ≡ false → IsErrOf result StoreError.Closed }
+        ensures value { IfOk result (λ job. option_map taken job ≡ option_map told (job_at id.0 (plan_in self.old).jobs)) }
+        ensures plan { OnOk result (plan_in self.new ≡ cancelled id.0 (plan_in self.old)) }
+        ensures err { OnErr result (IsOpen self.new → plan_in self.new ≡ plan_in self.old) }
+        ensures any_moment { IsTrue D.is_modelled → IsOpen self.old → LeavesOnly D.moment D.left_since (disk_of self.old) (disk_of self.new)
+            (StandsForEither (plan_in self.old) (cancelled id.0 (plan_in self.old))) }
+    {
+        if !self.is_open {
+            return Err(StoreError::Closed);
+        }
+        if !self.planner.has(id.0) {
+            return Ok(None);
+        }
+        let record = spell(self.alloc, Change::Cancel(id.0))?;
+        self.is_open = false;
+        self.log.append(self.alloc, &record)?;
+        let job = self.planner.cancel(id.0);
+        self.is_open = true;
+        Ok(job)
+    }
+
+    /// Gives the job of a number another deadline, and returns whether there is one. It goes behind all other jobs that aren't due later.
+    /// In O(log n).
+    ///
+    /// # Errors
+    ///
+    /// As of [`schedule`](Self::schedule).
+    pub fn move_to(&mut self, id: JobId, deadline: u64) -> Result<bool, StoreError>
+        requires { IsSound D.is_modelled D.seen D.may_leave self.old }
+        ensures sound { IsSound D.is_modelled D.seen D.may_leave self.new }
+        ensures open { OnOk result (IsOpen self.new) }
+        ensures closed { self.old.is_open ≡ false → IsErrOf result StoreError.Closed }
+        ensures value { IfOk result (λ found. found ≡ is_some (job_at id.0 (plan_in self.old).jobs)) }
+        ensures plan { OnOk result (plan_in self.new ≡ moved id.0 deadline (plan_in self.old)) }
+        ensures err { OnErr result (IsOpen self.new → plan_in self.new ≡ plan_in self.old) }
+        ensures any_moment { IsTrue D.is_modelled → IsOpen self.old → LeavesOnly D.moment D.left_since (disk_of self.old) (disk_of self.new)
+            (StandsForEither (plan_in self.old) (moved id.0 deadline (plan_in self.old))) }
+    {
+        if !self.is_open {
+            return Err(StoreError::Closed);
+        }
+        if !self.planner.has(id.0) {
+            return Ok(false);
+        }
+        let record = spell(self.alloc, Change::Move(id.0, deadline))?;
+        self.is_open = false;
+        self.log.append(self.alloc, &record)?;
+        let found = self.planner.move_to(id.0, deadline);
+        self.is_open = true;
+        Ok(found)
+    }
+
+    /// Takes the first job off if its deadline is at most `now`, and returns its number, its deadline and its bytes. In O(log n).
+    ///
+    /// # Errors
+    ///
+    /// As of [`schedule`](Self::schedule).
+    pub fn pop_due(&mut self, now: u64) -> Result<Option<(JobId, u64, Vec<u8>)>, StoreError>
+        requires { IsSound D.is_modelled D.seen D.may_leave self.old }
+        ensures sound { IsSound D.is_modelled D.seen D.may_leave self.new }
+        ensures open { OnOk result (IsOpen self.new) }
+        ensures closed { self.old.is_open ≡ false → IsErrOf result StoreError.Closed }
+        ensures value { IfOk result (λ job. option_map popped job ≡ first_due now (plan_in self.old).jobs) }
+        ensures plan { OnOk result (plan_in self.new ≡ without_due now (plan_in self.old)) }
+        ensures err { OnErr result (IsOpen self.new → plan_in self.new ≡ plan_in self.old) }
+        ensures any_moment { IsTrue D.is_modelled → IsOpen self.old → LeavesOnly D.moment D.left_since (disk_of self.old) (disk_of self.new)
+            (StandsForEither (plan_in self.old) (without_due now (plan_in self.old))) }
+    {
+        if !self.is_open {
+            return Err(StoreError::Closed);
+        }
+        let Some(id) = self.planner.due(now) else {
+            return Ok(None);
+        };
+        match self.cancel(JobId(id))? {
+            Some((deadline, bytes)) => Ok(Some((JobId(id), deadline, bytes))),
+            None => Ok(None),
+        }
+    }
+
+    /// Returns the deadline and the bytes of the job of a number. `None` if the number names no job. In O(log n).
+    ///
+    /// # Errors
+    ///
+    /// `Closed`: a call failed earlier.
+    pub fn get(&self, id: JobId) -> Result<Option<(u64, &[u8])>, StoreError>
+        requires { IsSound D.is_modelled D.seen D.may_leave self.now }
+        ensures closed { IsErrOf result StoreError.Closed ↔ (self.now.is_open ≡ false) }
+        ensures value { IfOk result (λ job. option_map (λ x. (x.0, x.1.now)) job ≡ option_map told (job_at id.0 (plan_in self.now).jobs)) }
+    {
+        if !self.is_open {
+            return Err(StoreError::Closed);
+        }
+        Ok(self.planner.get(id.0))
+    }
+}

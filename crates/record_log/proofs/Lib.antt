@@ -1,0 +1,9 @@
+mod Append
+mod Blocks
+mod Crash
+mod Frames
+mod Header
+mod Moments
+mod Past
+mod Reading
+mod Refusals

@@ -1,0 +1,51 @@
+-- What the calls of a device do to its file, and what a crash leaves of them.
+use Rattle.std.specs.Prelude.{◌<◌, ◌≡◌, ◌⊎◌, ℕ, ◌+◌, ◌≤◌, max, List, ◌++◌, length, take, drop, Result, IsErrOf, IsTrue, false}
+use Rattle.std.proofs.lemmas.Bool.{false≢true}
+use Rattle.record_log.specs.declared.device.DeviceError.{DeviceError}
+use Rattle.record_log.specs.declared.device.DeviceError.TheVariants.{Failed}
+
+-- `new` is `old` with these bytes at this offset.
+abbrev pub Overwrites : List ℕ → ℕ → List ℕ → List ℕ → Type 0
+Overwrites old at bytes new = new ≡ take at old ++ bytes ++ drop (at + length bytes) old
+
+-- `new` is what a crash leaves of `old` during a write of n bytes: in the range and past the old end any bytes, elsewhere the same.
+pub record IsTorn (at n : ℕ) (old new : List ℕ) : Type 0 where
+  pub before : take at new ≡ take at old
+  pub after : drop (at + n) new ≡ drop (at + n) old
+  pub no_shorter : length old ≤ length new
+  pub no_longer : length new ≤ max (length old) (at + n)
+
+-- `new` is what a crash leaves of `old` while it is cut to n bytes: some length from n to the old one.
+pub record IsPartlyCut (n : ℕ) (old new : List ℕ) : Type 0 where
+  pub no_shorter : n ≤ length new
+  pub front : take (length new) old ≡ new
+
+-- Each outcome of a crash now is a step from an outcome of a crash before.
+abbrev pub Follows : (List ℕ → List ℕ → Type 0) → (List ℕ → Type 0) → (List ℕ → Type 0) → Type 0
+Follows step old new = (c : List ℕ) → new c → (d : List ℕ) × old d × step d c
+
+-- A crash leaves this file and no other.
+abbrev pub IsDurable : List ℕ → (List ℕ → Type 0) → Type 0
+IsDurable file may_leave = (c : List ℕ) → may_leave c → c ≡ file
+
+-- Time passes: a crash since t leaves what it might have left before, or what it may leave now.
+pub record Elapses (before now : ℕ) (past since : ℕ → List ℕ → Type 0) (may_leave : List ℕ → Type 0) : Type 0 where
+  pub later : before ≤ now
+  pub nothing_else : (t : ℕ) (c : List ℕ) → t ≤ before → since t c → past t c ⊎ may_leave c
+  pub keeps : (t : ℕ) (c : List ℕ) → t ≤ before → past t c → since t c
+
+-- A crash at any moment from `old` to `new` leaves a file that has P.
+pub record LeavesOnly {D : Type 0} (moment : D → ℕ) (left_since : D → ℕ → List ℕ → Type 0) (old new : D) (P : List ℕ → Type 0) : Type 0 where
+  pub later : moment old ≤ moment new
+  pub each : (c : List ℕ) → left_since new (moment old) c → P c
+  -- the same seen from an earlier moment
+  pub before : (t : ℕ) (c : List ℕ) → t ≤ moment old → left_since new t c → left_since old t c ⊎ P c
+
+-- `Failed` has a cause: the device has failed since.
+pub record HasCause {T : Type 0} (before now : ℕ) (result : Result T DeviceError) : Type 0 where
+  pub later : before ≤ now
+  pub failed : IsErrOf result Failed → before < now
+
+-- from what doesn't hold
+pub nothing : {A : Type 0} → IsTrue false → A
+nothing wrong = absurd (false≢true wrong)

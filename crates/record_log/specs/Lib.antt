@@ -1,0 +1,5 @@
+pub mod Checksum
+pub mod Device
+pub mod Format
+pub mod Log
+pub mod Memory

@@ -1,0 +1,78 @@
+-- An open log.
+use Rattle.std.specs.Prelude.{◌≡◌, ◌≢◌, ◌⊎◌, ◌<◌, ◌≤◌, ℕ, List, [], ◌∷◌, ◌++◌, length, map, take, drop, Vec}
+use Rattle.std.specs.List.{AllByRecursion}
+use Rattle.std.specs.declared.alloc.Global.{Global}
+use Rattle.record_log.specs.Device.{IsDurable, IsPartlyCut, IsTorn}
+use Rattle.record_log.specs.Format.{header, front, blocks, Fits, IsEnd, HasBlocks, Holds}
+use Rattle.record_log.specs.declared.error.LogError.{LogError}
+use Rattle.record_log.specs.declared.error.LogError.TheVariants.{Device, Full, NotALog, Corrupt}
+use Rattle.record_log.specs.declared.log.Log.{Log}
+
+-- the device of a log
+abbrev pub device_of : {D : Type 0} → Log D → D
+device_of log = log.device
+
+-- The log holds these records, and then a closed gate, all of it on the disk.
+pub record Keeps {D : Type 0} (seen : D → List ℕ) (may_leave : D → List ℕ → Type 0) (log : Log D) (records : List (List ℕ)) : Type 0 where
+  pub file : seen log.device ≡ front records ++ 0 ∷ []
+  pub end : log.end ≡ length (front records)
+  pub fit : AllByRecursion Fits records
+  pub durable : IsDurable (seen log.device) (may_leave log.device)
+
+-- The log holds some records.
+abbrev pub IsSettled : {D : Type 0} → (D → List ℕ) → (D → List ℕ → Type 0) → Log D → Type 0
+IsSettled seen may_leave log = (records : List (List ℕ)) × Keeps seen may_leave log records
+
+-- the bytes of each of these vectors
+abbrev pub contents : List (Vec ℕ Global) → List (List ℕ)
+contents vectors = map (λ v. v.items) vectors
+
+-- The first n bytes are the blocks of these records, and no record begins behind them.
+pub record IsReadTo (n : ℕ) (bytes : List ℕ) (records : List (List ℕ)) : Type 0 where
+  pub within : n ≤ length bytes
+  pub split : take n bytes ≡ blocks records
+  pub is_end : IsEnd (drop n bytes)
+  pub fit : AllByRecursion Fits records
+
+-- No records are there.
+abbrev pub HasNoBlocks : List ℕ → Type 0
+HasNoBlocks bytes = (records : List (List ℕ)) → HasBlocks bytes records → ⊥
+
+-- The first n bytes are a header and the blocks of these records, and no record begins behind them.
+pub record IsLaidOut (n : ℕ) (file : List ℕ) (records : List (List ℕ)) : Type 0 where
+  pub within : n ≤ length file
+  pub split : take n file ≡ front records
+  pub is_end : IsEnd (drop n file)
+  pub fit : AllByRecursion Fits records
+
+-- What a crash leaves while the file is cut to n bytes and a closed gate is put behind them.
+abbrev pub IsPartlySealed : ℕ → List ℕ → List ℕ → Type 0
+IsPartlySealed n old new = IsPartlyCut n old new ⊎ IsTorn n 1 (take n old) new
+
+-- The file is n bytes of a header and the blocks of these records, and then a closed gate.
+pub record IsAtRest (n : ℕ) (file : List ℕ) (records : List (List ℕ)) : Type 0 where
+  pub split : file ≡ front records ++ 0 ∷ []
+  pub end : n ≡ length (front records)
+  pub fit : AllByRecursion Fits records
+
+-- It says that the device failed, or that no memory was left.
+abbrev pub IsDeviceError : LogError → Type 0
+IsDeviceError (Device error) = Unit {0}
+IsDeviceError Full = ⊥
+IsDeviceError NotALog = ⊥
+IsDeviceError Corrupt = ⊥
+
+-- Why a file is refused: it doesn't begin like a log, or no records are behind its header.
+abbrev pub IsRefused : List ℕ → LogError → Type 0
+IsRefused file (Device error) = Unit {0}
+IsRefused file Full = ⊥
+IsRefused file NotALog = (8 < length file) × (take 8 file ≢ header)
+IsRefused file Corrupt = (take 8 file ≡ header) × HasNoBlocks (drop 8 file)
+
+-- Whatever records the old file holds, the new one holds.
+abbrev pub HoldsTheSame : List ℕ → List ℕ → Type 0
+HoldsTheSame old new = (records : List (List ℕ)) → Holds old records → Holds new records
+
+-- A file holds one list of records at most.
+abbrev pub OneReading : Type 0
+OneReading = (file : List ℕ) (a b : List (List ℕ)) → Holds file a → Holds file b → a ≡ b

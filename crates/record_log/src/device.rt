@@ -1,0 +1,105 @@
+//! `Device`: a file as a log sees it.
+
+ghost use Rattle.std.specs.Prelude.{◌≡◌, ◌≤◌, Bool, List, ℕ, length, take, IfOk, OnOk, IsTrue};
+ghost use Rattle.record_log.specs.declared.device.DeviceError.TheVariants.{OutOfMemory};
+ghost use Rattle.record_log.specs.Device.{IsDurable, Follows, IsTorn, IsPartlyCut, Overwrites, Elapses, HasCause};
+
+use std::alloc::{AllocError, AllocFailed, Global};
+use thiserror::Error;
+
+/// Why a call of a device failed.
+#[derive(Clone, Copy, Debug, PartialEq, Eq, Error)]
+pub enum DeviceError {
+    /// No memory was left.
+    #[error("out of memory")]
+    OutOfMemory,
+    /// The device failed, or it is full.
+    #[error("the device failed")]
+    Failed,
+}
+
+impl From<AllocError> for DeviceError {
+    ghost from_gives = { λ _ e. e ≡ OutOfMemory };
+
+    fn from(_: AllocError) -> Self {
+        DeviceError::OutOfMemory
+    }
+}
+
+impl<T: Drop> From<AllocFailed<T>> for DeviceError {
+    ghost from_gives = { λ _ e. e ≡ OutOfMemory };
+
+    fn from(_: AllocFailed<T>) -> Self {
+        DeviceError::OutOfMemory
+    }
+}
+
+/// A file that a crash may interrupt at any moment.
+///
+/// The contract is the model of a disk: until a [`sync`](Self::sync), a write may be lost, torn or put in another order, and leaves any
+/// bytes in its range. Bytes outside the range don't change. A device for which `is_modelled` is false, as a file of the operating system,
+/// promises nothing to a proof: that it behaves like the model is a premise.
+pub trait Device {
+    /// Whether the contract speaks of this device.
+    ghost is_modelled: { Bool };
+
+    /// What a read returns.
+    ghost seen: { Self → List ℕ };
+
+    /// What a crash at this moment may leave.
+    ghost may_leave: { Self → List ℕ → Type 0 };
+
+    /// The moment, a number that doesn't fall.
+    ghost moment: { Self → ℕ };
+
+    /// What a crash at some moment since that one might have left, during a call or between two.
+    ghost left_since: { Self → ℕ → List ℕ → Type 0 };
+
+    /// How often the device has failed.
+    ghost faults: { Self → ℕ };
+
+    /// Returns all bytes of the file.
+    fn read(&mut self, alloc: Global) -> Result<Vec<u8>, DeviceError>
+        ensures bytes { IsTrue is_modelled → IfOk result (λ bytes. bytes.items ≡ seen self.old) }
+        ensures seen { IsTrue is_modelled → seen self.new ≡ seen self.old }
+        ensures crash { IsTrue is_modelled → (c : List ℕ) → may_leave self.new c → may_leave self.old c }
+        ensures time { IsTrue is_modelled
+            → Elapses (moment self.old) (moment self.new) (left_since self.old) (left_since self.new) (may_leave self.new) }
+        ensures cause { IsTrue is_modelled → HasCause (faults self.old) (faults self.new) result };
+
+    /// Writes over what is there, and past the end.
+    fn write_at(&mut self, at: usize, bytes: &[u8]) -> Result<(), DeviceError>
+        requires { IsTrue is_modelled → at ≤ length (seen self.old) }
+        ensures written { IsTrue is_modelled → OnOk result (Overwrites (seen self.old) at bytes.now (seen self.new)) }
+        ensures crash { IsTrue is_modelled
+            → Follows (IsTorn at (length bytes.now)) (may_leave self.old) (may_leave self.new) }
+        ensures time { IsTrue is_modelled
+            → Elapses (moment self.old) (moment self.new) (left_since self.old) (left_since self.new) (may_leave self.new) }
+        ensures cause { IsTrue is_modelled → HasCause (faults self.old) (faults self.new) result };
+
+    /// Cuts the file to a length.
+    fn cut(&mut self, len: usize) -> Result<(), DeviceError>
+        requires { IsTrue is_modelled → len ≤ length (seen self.old) }
+        ensures cut { IsTrue is_modelled → OnOk result (seen self.new ≡ take len (seen self.old)) }
+        ensures crash { IsTrue is_modelled → Follows (IsPartlyCut len) (may_leave self.old) (may_leave self.new) }
+        ensures time { IsTrue is_modelled
+            → Elapses (moment self.old) (moment self.new) (left_since self.old) (left_since self.new) (may_leave self.new) }
+        ensures cause { IsTrue is_modelled → HasCause (faults self.old) (faults self.new) result };
+
+    /// Puts all writes on the disk: from now on, a crash leaves what a read returns.
+    fn sync(&mut self) -> Result<(), DeviceError>
+        ensures durable { IsTrue is_modelled → OnOk result (IsDurable (seen self.old) (may_leave self.new)) }
+        ensures seen { IsTrue is_modelled → seen self.new ≡ seen self.old }
+        ensures crash { IsTrue is_modelled → (c : List ℕ) → may_leave self.new c → may_leave self.old c }
+        ensures time { IsTrue is_modelled
+            → Elapses (moment self.old) (moment self.new) (left_since self.old) (left_since self.new) (may_leave self.new) }
+        ensures cause { IsTrue is_modelled → HasCause (faults self.old) (faults self.new) result };
+
+    /// This moment is one of those since an earlier one.
+    ghost counts_now: { IsTrue is_modelled
+        → (file : Self) (t : ℕ) (c : List ℕ) → t ≤ moment file → may_leave file c → left_since file t c };
+
+    /// Since this moment there is no other.
+    ghost only_now: { IsTrue is_modelled
+        → (file : Self) (c : List ℕ) → left_since file (moment file) c → may_leave file c };
+}

@@ -1,0 +1,71 @@
+//! A record as bytes: its length, its checksum and the bytes themselves.
+
+ghost use Rattle.std.specs.Prelude.{◌≡◌, ◌<◌, ◌≤◌, ◌^◌, [], ◌∷◌, ◌++◌, List, ℕ, length, IfOk, IfSome, IfNone};
+ghost use Rattle.std.specs.Int.{w32, to_be_bytes};
+ghost use Rattle.record_log.specs.Checksum.{checksum};
+ghost use Rattle.record_log.specs.Format.{frame, Fits};
+
+use std::alloc::{AllocError, Global};
+
+/// The most bytes that a record may have.
+pub const MAX_LEN: usize = 65536;
+
+/// The gate in front of a record that counts.
+pub(crate) const OPEN: u8 = 1;
+
+/// The gate behind the last record.
+pub(crate) const CLOSED: u8 = 0;
+
+/// Returns the checksum, FNV-1a of 32 bits.
+fn checksum_of(bytes: &[u8]) -> u32
+    ensures { result ≡ checksum bytes.now }
+{
+    let mut hash: u32 = 2166136261;
+    for byte in bytes {
+        hash = (hash ^ u32::from(*byte)).wrapping_mul(16777619);
+    }
+    hash
+}
+
+/// Returns the frame of a record, and a closed gate behind it.
+pub(crate) fn framed(alloc: Global, bytes: &[u8]) -> Result<Vec<u8>, AllocError>
+    requires { Fits bytes.now }
+    ensures { IfOk result (λ framed. framed.items ≡ frame bytes.now ++ 0 ∷ []) }
+{
+    let mut framed = Vec::new(alloc);
+    framed.extend_from_slice(&(bytes.len() as u32).to_be_bytes())?;
+    framed.extend_from_slice(&checksum_of(bytes).to_be_bytes())?;
+    framed.extend_from_slice(bytes)?;
+    framed.push(CLOSED)?;
+    Ok(framed)
+}
+
+fn number_at(bytes: &[u8]) -> Option<(u32, &[u8])>
+    ensures some { IfSome result (λ x. bytes.now ≡ to_be_bytes w32 x.0 ++ x.1.now) }
+    ensures range { IfSome result (λ x. x.0 < 2 ^ 32) }
+    ensures none { IfNone result (length bytes.now < 4) }
+{
+    match bytes {
+        [a, b, c, d, rest @ ..] => Some((u32::from_be_bytes([*a, *b, *c, *d]), rest)),
+        _ => None,
+    }
+}
+
+/// Returns the record whose frame is in front, and the bytes behind the frame.
+pub(crate) fn split_frame(bytes: &[u8]) -> Option<(&[u8], &[u8])>
+    ensures some { IfSome result (λ x. (bytes.now ≡ frame x.0.now ++ x.1.now) × Fits x.0.now) }
+    ensures none { IfNone result
+        ((payload rest : List ℕ) → Fits payload → bytes.now ≡ frame payload ++ rest → ⊥) }
+{
+    let (len, rest) = number_at(bytes)?;
+    let (sum, rest) = number_at(rest)?;
+    let len = len as usize;
+    if len > MAX_LEN || rest.len() < len {
+        return None;
+    }
+    let (payload, rest) = rest.split_at(len);
+    if checksum_of(payload) != sum {
+        return None;
+    }
+    Some((payload, rest))
+}

@@ -1,0 +1,139 @@
+//! Recovery: what a file holds that a crash may have left, and the repair of its end.
+
+ghost use Rattle.std.specs.Prelude.{◌≡◌, ◌⊎◌, ◌<◌, ◌≤◌, [], ◌∷◌, ◌++◌, List, ℕ, IfSome, IfNone, IfOk, IfErr, OnOk, IsErrOf, IsTrue, length, take, drop};
+ghost use Rattle.std.specs.List.{AllByRecursion};
+ghost use Rattle.record_log.specs.Device.{IsDurable, LeavesOnly};
+ghost use Rattle.record_log.specs.Format.{header, front, IsEnd, Holds};
+ghost use Rattle.record_log.specs.Log.{contents, IsReadTo, IsLaidOut, IsAtRest, IsDeviceError, IsRefused, HasNoBlocks, HoldsTheSame};
+
+use crate::device::{Device, DeviceError};
+use crate::error::LogError;
+use crate::frame::{OPEN, split_frame};
+use crate::steps::{read_durable, seal, write_and_sync};
+use std::alloc::Global;
+
+/// The first bytes of every log: a name, a line feed and the version.
+const HEADER: [u8; 8] = *b"reclog\n\x01";
+
+/// The records of a file, and where the last one ends.
+#[derive(Drop)]
+pub(crate) struct Recovered {
+    pub(crate) records: Vec<Vec<u8>>,
+    pub(crate) end: usize,
+}
+
+/// Returns what is behind an open gate, unless no record begins here.
+fn behind_open_gate(bytes: &[u8]) -> Option<&[u8]>
+    ensures some { IfSome result (λ inner. (bytes.now ≡ 1 ∷ inner.now) × (0 < length inner.now)) }
+    ensures none { IfNone result (IsEnd bytes.now) }
+{
+    match bytes {
+        [OPEN, inner @ ..] if !inner.is_empty() => Some(inner),
+        _ => None,
+    }
+}
+
+/// Reads the records behind a header, up to the first closed gate.
+fn read_records(alloc: Global, bytes: &[u8]) -> Result<Recovered, LogError>
+    ensures ok { IfOk result (λ found. IsReadTo found.end bytes.now (contents found.records.items)) }
+    ensures fault { IfErr result (λ e. IsDeviceError e ⊎ ((e ≡ LogError.Corrupt) × HasNoBlocks bytes.now)) }
+    ensures failed { IsErrOf result (LogError.Device DeviceError.Failed) → ⊥ }
+{
+    let mut records = Vec::new(alloc);
+    let mut rest = bytes;
+    while let Some(inner) = behind_open_gate(rest) {
+        let Some((payload, behind)) = split_frame(inner) else {
+            return Err(LogError::Corrupt);
+        };
+        records.push(Vec::from_slice(alloc, payload)?)?;
+        rest = behind;
+    }
+    Ok(Recovered {
+        records,
+        end: bytes.len() - rest.len(),
+    })
+}
+
+/// Reads the records of a file that is longer than a header.
+fn read_file(alloc: Global, bytes: &[u8]) -> Result<Recovered, LogError>
+    requires { 8 < length bytes.now }
+    ensures ok { IfOk result (λ found. IsLaidOut found.end bytes.now (contents found.records.items)) }
+    ensures refused { IfErr result (IsRefused bytes.now) }
+    ensures failed { IsErrOf result (LogError.Device DeviceError.Failed) → ⊥ }
+{
+    if !bytes.starts_with(&HEADER) {
+        return Err(LogError::NotALog);
+    }
+    let (_, behind) = bytes.split_at(HEADER.len());
+    let found = read_records(alloc, behind)?;
+    Ok(Recovered {
+        records: found.records,
+        end: HEADER.len() + found.end,
+    })
+}
+
+/// Puts a header into a new file.
+fn begin<D: Device>(alloc: Global, device: &mut D) -> Result<Recovered, LogError>
+    requires range { IsTrue D.is_modelled → length (D.seen device.old) ≤ 8 }
+    requires durable { IsTrue D.is_modelled → IsDurable (D.seen device.old) (D.may_leave device.old) }
+    ensures ok { IsTrue D.is_modelled → IfOk result
+        (λ found. IsLaidOut found.end (D.seen device.new) (contents found.records.items)) }
+    ensures records { IsTrue D.is_modelled → IfOk result (λ found. Holds (D.seen device.old) (contents found.records.items)) }
+    ensures durable { IsTrue D.is_modelled → OnOk result (IsDurable (D.seen device.new) (D.may_leave device.new)) }
+    ensures any_moment { IsTrue D.is_modelled → LeavesOnly D.moment D.left_since device.old device.new (λ c. length c ≤ 8) }
+    ensures refused { IfErr result IsDeviceError }
+    ensures later { IsTrue D.is_modelled → D.faults device.old ≤ D.faults device.new }
+    ensures failed { IsTrue D.is_modelled → IsErrOf result (LogError.Device DeviceError.Failed)
+        → D.faults device.old < D.faults device.new }
+{
+    write_and_sync(device, 0, &HEADER)?;
+    Ok(Recovered {
+        records: Vec::new(alloc),
+        end: HEADER.len(),
+    })
+}
+
+/// Reads the records of a file with these bytes. A new file gets a header.
+fn lay_out<D: Device>(alloc: Global, device: &mut D, bytes: &[u8]) -> Result<Recovered, LogError>
+    requires known { IsTrue D.is_modelled → bytes.now ≡ D.seen device.old }
+    requires durable { IsTrue D.is_modelled → IsDurable (D.seen device.old) (D.may_leave device.old) }
+    ensures ok { IsTrue D.is_modelled → IfOk result
+        (λ found. IsLaidOut found.end (D.seen device.new) (contents found.records.items)) }
+    ensures records { IsTrue D.is_modelled → IfOk result (λ found. Holds (D.seen device.old) (contents found.records.items)) }
+    ensures durable { IsTrue D.is_modelled → OnOk result (IsDurable (D.seen device.new) (D.may_leave device.new)) }
+    ensures any_moment { IsTrue D.is_modelled → LeavesOnly D.moment D.left_since device.old device.new
+        (HoldsTheSame (D.seen device.old)) }
+    ensures refused { IsTrue D.is_modelled → IfErr result (IsRefused (D.seen device.old)) }
+    ensures unchanged { IfErr result (λ e. IsDeviceError e ⊎ (device.new ≡ device.old)) }
+    ensures later { IsTrue D.is_modelled → D.faults device.old ≤ D.faults device.new }
+    ensures failed { IsTrue D.is_modelled → IsErrOf result (LogError.Device DeviceError.Failed)
+        → D.faults device.old < D.faults device.new }
+{
+    if bytes.len() <= HEADER.len() {
+        begin(alloc, device)
+    } else {
+        read_file(alloc, bytes)
+    }
+}
+
+/// Reads the records of a file that a crash may have left, and repairs its end.
+pub(crate) fn recover<D: Device>(alloc: Global, device: &mut D) -> Result<Recovered, LogError>
+    requires { IsTrue D.is_modelled → IsDurable (D.seen device.old) (D.may_leave device.old) }
+    ensures records { IsTrue D.is_modelled → IfOk result (λ found. Holds (D.seen device.old) (contents found.records.items)) }
+    ensures at_rest { IsTrue D.is_modelled → IfOk result
+        (λ found. IsAtRest found.end (D.seen device.new) (contents found.records.items)) }
+    ensures durable { IsTrue D.is_modelled → OnOk result (IsDurable (D.seen device.new) (D.may_leave device.new)) }
+    ensures any_moment { IsTrue D.is_modelled → LeavesOnly D.moment D.left_since device.old device.new
+        (HoldsTheSame (D.seen device.old)) }
+    ensures refused { IsTrue D.is_modelled → IfErr result (IsRefused (D.seen device.old)) }
+    ensures unchanged { IsTrue D.is_modelled → IfErr result (λ e. IsDeviceError e
+        ⊎ LeavesOnly D.moment D.left_since device.old device.new (λ c. c ≡ D.seen device.old)) }
+    ensures later { IsTrue D.is_modelled → D.faults device.old ≤ D.faults device.new }
+    ensures failed { IsTrue D.is_modelled → IsErrOf result (LogError.Device DeviceError.Failed)
+        → D.faults device.old < D.faults device.new }
+{
+    let bytes = read_durable(alloc, device)?;
+    let found = lay_out(alloc, device, &bytes)?;
+    seal(device, found.end)?;
+    Ok(found)
+}
