@@ -60,7 +60,12 @@ fn four_keys_behind_three(rt: HostRuntime) {
     let _ = a.reallocate_min_capacity(7);
     // the freed slot first, then those that were never used; the generation rose once
     assert!(rt; appended(&mut a, rt.alloc(), &[4, 5, 6, 7]) == 0);
-    assert!(rt; has_ranks(&a, &[(1, 1), (2, 3), (4, 1), (3, 4), (5, 1), (6, 3), (7, 1)]));
+    assert!(rt;
+        has_ranks(
+            &a,
+            &[(1, 1), (2, 3), (4, 1), (3, 4), (5, 1), (6, 3), (7, 1)]
+        )
+    );
     assert!(rt; a.find_key(&4) == Some(P0::_from_raw(3, 3)) && a.find_key(&2) == Some(at(2)));
     // none: the tree stays as it is
     assert!(rt; appended(&mut a, rt.alloc(), &[]) == 0 && a.len() == 7);
