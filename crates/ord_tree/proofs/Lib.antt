@@ -35,5 +35,6 @@ pub mod Rebuilding
 pub mod Rebuilt
 pub mod Compressing
 pub mod Appending
+pub mod Appended
 pub mod Cloning
 pub mod CallerLemmas

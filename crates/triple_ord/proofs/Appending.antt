@@ -1,5 +1,6 @@
 -- An append of many items, one after another: what the list and the pointers are then.
 use Rattle.ord_tree.specs.Append.{AppendsOne, Appends}
+use Rattle.ord_tree.proofs.CallerLemmas.{numbers-appended}
 use Rattle.triple_ord.specs.Append.{Extends}
 use Rattle.triple_ord.proofs.Words.{◌≡◌, ◌≢◌, ℕ, ◌+◌, List, [], ◌∷◌, ◌++◌, Some, None, is_some, true, map, length, length-map, length-append, append-nil, append_assoc, refl, sym, ap, subst, ◌∙◌, arith, inl, inr, cases_eq, Result, Ok, Err}
 use Rattle.triple_ord.proofs.Words.{Entry, Chain, Tree, missing, after-insertion, item_of, items, count, Updates}
@@ -20,11 +21,6 @@ module _ {T : Type 0} where
     items-one : map (λ e. e.item) new.entries ≡ map (λ e. e.item) old.entries ++ t ∷ []
     items-one = ap (map (λ (e : Entry T). e.item)) listed-one ∙ map-append (λ (e : Entry T). e.item) old.entries (entry ∷ [])
 
-    -- what stays
-    pub numbers-one : (new.generation ≡ old.generation) × (new.capacity ≡ old.capacity) × (new.maximum ≡ old.maximum)
-    numbers-one = let is = (after-insertion old new _ t p.0 p.1 one).1 in
-        (ap (λ (c : Chain T). c.generation) is, ap (λ (c : Chain T). c.capacity) is, ap (λ (c : Chain T). c.maximum) is)
-
     abbrev tree : Chain T → Tree T
     tree c = record { list = c; shape = missing }
 
@@ -32,13 +28,6 @@ module _ {T : Type 0} where
     found-one = inserted-new (tree old) (tree new) old refl (record { front = old.entries; back = []; cut = sym (append-nil old.entries) }) t p one
 
   -- many items
-  pub numbers-appended : (old new : Chain T) (ts : List T) → Appends old ts new → (new.generation ≡ old.generation) × (new.capacity ≡ old.capacity) × (new.maximum ≡ old.maximum)
-  numbers-appended old new [] is = (ap (λ (c : Chain T). c.generation) is, ap (λ (c : Chain T). c.capacity) is, ap (λ (c : Chain T). c.maximum) is)
-  numbers-appended old new (t ∷ ts) more =
-      let one = numbers-one old more.0 t more.1 more.2 in
-      let rest = numbers-appended more.0 new ts more.3 in
-      (rest.0 ∙ one.0, rest.1 ∙ one.1, rest.2 ∙ one.2)
-
   pub items-appended : (old new : Chain T) (ts : List T) → Appends old ts new → map (λ e. e.item) new.entries ≡ map (λ e. e.item) old.entries ++ ts
   items-appended old new [] is = ap (λ (c : Chain T). map (λ (e : Entry T). e.item) c.entries) is ∙ sym (append-nil (map (λ (e : Entry T). e.item) old.entries))
   items-appended old new (t ∷ ts) more =

@@ -20,7 +20,6 @@ use Rattle.triple_ord.specs.{EntryKind.pointer_of_kind, Rekey.Rekeys, Insertion.
 pub use Rattle.triple_ord.proofs.Inserting.{last_of-append, begins, ends, some_last, no_first, no_last, StandsAt, stands, IsLinked, link-read}
 pub use Rattle.triple_ord.proofs.Inserting.{not_before, entry_at-after, entry_at-here, from_index-here, with_item-here}
 pub use Rattle.triple_ord.proofs.OrderLaws.{IsInOrder-rest, IsInOrder-back, in_order-one, in_order-more, all_greater, all_less, recursion-map}
-pub use Rattle.triple_ord.proofs.Appending.{numbers-appended}
 pub use Rattle.triple_ord.proofs.{KeptOrder.in_order-between, KeptOrder.listed-new, KeptOrder.kept_order, RekeyOrder.in_order-without, RekeyOrder.rekeyed_order}
 
 times-without : {T : Type 0} (i : ℕ) (es : List (Entry T)) → times i es ≤ 1 → times i (without i es) ≡ 0
