@@ -12,7 +12,7 @@ module _ {T : Type 0} where
   numbers-same : (old new : Chain T) → new ≡ old → KeepsNumbers old new
   numbers-same old new is = (ap (λ (c : Chain T). c.generation) is, ap (λ (c : Chain T). c.capacity) is, ap (λ (c : Chain T). c.maximum) is)
 
-  numbers-one : (old new : Chain T) (t : T) (p : ℕ × ℕ) → AppendsOne old t p new → KeepsNumbers old new
+  pub numbers-one : (old new : Chain T) (t : T) (p : ℕ × ℕ) → AppendsOne old t p new → KeepsNumbers old new
   numbers-one old new t p one = let is = (after-insertion old new _ t p.0 p.1 one).1 in
       (ap (λ (c : Chain T). c.generation) is, ap (λ (c : Chain T). c.capacity) is, ap (λ (c : Chain T). c.maximum) is)
 

@@ -2,7 +2,7 @@
 -- after a removal the shape is always one that a removal leaves
 pub use Rattle.ord_tree.proofs.Shrunk.{some_always}
 -- an append of many items keeps generation, capacity and maximum
-pub use Rattle.ord_tree.proofs.Appended.{numbers-appended}
+pub use Rattle.ord_tree.proofs.Appended.{numbers-one, numbers-appended}
 -- the list finds and counts the same entries as the chain
 pub use Rattle.ord_tree.proofs.Trees.{entry_at-bare, is_some-bare, times-bare, indexes-bare, vacant_among-bare, greatest_index-bare, bare-with_capacity}
 -- an index occurs in the list of indexes as often as in the list of entries

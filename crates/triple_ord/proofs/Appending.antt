@@ -1,6 +1,6 @@
 -- An append of many items, one after another: what the list and the pointers are then.
 use Rattle.ord_tree.specs.Append.{AppendsOne, Appends}
-use Rattle.ord_tree.proofs.CallerLemmas.{numbers-appended}
+use Rattle.ord_tree.proofs.CallerLemmas.{numbers-one, numbers-appended}
 use Rattle.triple_ord.specs.Append.{Extends}
 use Rattle.triple_ord.proofs.Words.{◌≡◌, ◌≢◌, ℕ, ◌+◌, List, [], ◌∷◌, ◌++◌, Some, None, is_some, true, map, length, length-map, length-append, append-nil, append_assoc, refl, sym, ap, subst, ◌∙◌, arith, inl, inr, cases_eq, Result, Ok, Err}
 use Rattle.triple_ord.proofs.Words.{Entry, Chain, Tree, missing, after-insertion, item_of, items, count, Updates}
