@@ -14,7 +14,7 @@ pub replay_more : (records : List (List ℕ)) (plan : Plan) (change : Change) (b
 replay_more records plan change bytes is replayed written = subst (λ (l : List ℕ). IsReplayed (records ++ l ∷ []) (changed change plan)) (sym is) (one_more records plan change replayed written)
 
 module _ {D : Type 0} (moment : D → ℕ) (left_since : D → ℕ → List ℕ → Type 0) where
-  weaker : (old new : D) (P Q : List ℕ → Type 0) → LeavesOnly moment left_since old new P → ((c : List ℕ) → P c → Q c) → LeavesOnly moment left_since old new Q
+  pub weaker : (old new : D) (P Q : List ℕ → Type 0) → LeavesOnly moment left_since old new P → ((c : List ℕ) → P c → Q c) → LeavesOnly moment left_since old new Q
   weaker old new P Q leaves implies = record {
     later = leaves.later;
     each = λ c left. implies c (leaves.each c left);

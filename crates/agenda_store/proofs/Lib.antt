@@ -4,3 +4,5 @@ mod Jobs
 mod Kept
 mod Links
 mod Replays
+mod Runs
+mod Spellings

@@ -21,3 +21,7 @@ pub record StandsFor (file : List ℕ) (plan : Plan) : Type 0 where
 -- The file stands for one of these plans.
 abbrev pub StandsForEither : Plan → Plan → List ℕ → Type 0
 StandsForEither before now file = StandsFor file before ⊎ StandsFor file now
+
+-- A file stands for one plan at most.
+abbrev pub OnePlan : Type 0
+OnePlan = (file : List ℕ) (p q : Plan) → StandsFor file p → StandsFor file q → p ≡ q

@@ -3,9 +3,12 @@
 
 mod change;
 mod error;
+pub mod laws;
 mod planner;
+mod requests;
 mod store;
 
 pub use error::StoreError;
 pub use record_log::{Device, DeviceError, FileDevice, LogError, Memory};
+pub use requests::Request;
 pub use store::{JobId, MAX_BYTES, Store};
