@@ -1,5 +1,5 @@
 -- Pairs that are inserted behind the last key.
-use Rattle.std.proofs.Common.{◌≡◌, ◌≢◌, ℕ, suc, ◌<◌, slice_index_or, slice_get, ◌++◌, List, [], ◌∷◌, map, length, length-append, arith, ◌+◌, true, false, Option, Some, None, IsSomeAnd, refl, sym, ap, subst, ◌∙◌, append_assoc}
+use Rattle.std.proofs.Common.{◌≡◌, ◌≢◌, ℕ, suc, slice_index_or, slice_get, ◌++◌, List, [], ◌∷◌, map, length, length-append, arith, ◌+◌, true, false, Option, Some, None, IsSomeAnd, refl, sym, ap, subst, ◌∙◌, append_assoc}
 use Rattle.std.proofs.{lemmas.List.map-append, lemmas.List.length-map, lemmas.List.Elements.recursion_from_All}
 use Rattle.std.specs.{Option.option_map_or, List.AllByRecursion, List.AllAdjacentBelow, Ordering.is_gt, Ordering.ordering_reverse, Cmp.IsTotalOrder}
 use Rattle.std.specs.declared.cmp.Ordering.{Ordering, TheVariants.Less, TheVariants.Greater}

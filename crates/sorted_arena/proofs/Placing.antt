@@ -1,8 +1,8 @@
 -- Iterators over lists whose entries have the indexes from 1 on.
-use Rattle.std.proofs.Common.{◌≡◌, ◌≢◌, ℕ, zero, suc, ◌+◌, ◌-◌, ◌<◌, ◌≤◌, List, [], ◌∷◌, ◌++◌, length, length-append, append_assoc, slice_get, take, drop, Option, Some, None, refl, sym, ap, subst, ◌∙◌, arith}
+use Rattle.std.proofs.Common.{◌≡◌, ◌≢◌, Bool, true, false, ℕ, zero, suc, ◌+◌, ◌-◌, ◌<◌, ◌≤◌, List, [], ◌∷◌, ◌++◌, length, length-append, append_assoc, slice_get, take, drop, Option, Some, None, refl, sym, ap, subst, ◌∙◌, arith}
 use Rattle.std.specs.{Option.option_map, Iterator.YieldsFirstBy, Iterator.YieldsLastBy}
 use Rattle.chain_base.specs.Chain.{Entry, entry_at}
-use Rattle.sorted_arena.specs.{Layout.AreNumbered, Place.position_of, Stretch.stretch, Stretch.first_index, Stretch.IsStretch}
+use Rattle.sorted_arena.specs.{Layout.AreNumbered, Place.position_of, Place.left_at, Place.IsPlace, Stretch.stretch, Stretch.first_index, Stretch.IsStretch}
 use Rattle.sorted_arena.proofs.{Numbering.position-cut, Numbering.found-numbered, Numbering.run-first, Numbering.run-last, Numbering.run-between, Stretching.stretch-middle}
 
 module _ {T : Type 0} where
@@ -37,6 +37,35 @@ module _ {T : Type 0} where
             ∙ ap (λ (xs : List (Entry T)). take (length s.middle) (drop (length s.front) xs)) s.cut ∙ run-between s.front s.middle s.back ∙ sym (stretch-middle es first end s);
         within = omega (arith, begins, ends, ap length s.cut, length-append s.front (s.middle ++ s.back), length-append s.middle s.back);
       }
+
+  -- an iterator over what is between two indexes, whether entries are counted or linked
+  module _ (es : List (Entry T)) (first end : Option ℕ) where
+    pub place-stretch : (is_numbered : Bool) → (is_numbered ≡ true → AreNumbered 1 es) → IsStretch es first end
+        → (from to : ℕ) → from ≡ position_of (length es) first → to ≡ position_of (length es) end → IsPlace es is_numbered first end from (to - from)
+    place-stretch true numbered s from to from_is to_is = (numbered refl, (run-stretch es first end (numbered refl) s from to from_is to_is).within)
+    place-stretch false numbered s from to from_is to_is = s
+
+    pub gives-stretch : (is_numbered : Bool) → (is_numbered ≡ true → AreNumbered 1 es) → IsStretch es first end
+        → (from to : ℕ) → from ≡ position_of (length es) first → to ≡ position_of (length es) end → left_at es is_numbered first end from (to - from) ≡ stretch es first end
+    gives-stretch true numbered s from to from_is to_is = (run-stretch es first end (numbered refl) s from to from_is to_is).gives
+    gives-stretch false numbered s from to from_is to_is = refl
+
+  -- an iterator whose entries are linked, and one whose entries are counted
+  module _ (es : List (Entry T)) (is_numbered : Bool) (first end : Option ℕ) (from left : ℕ) where
+    pub left-linked : is_numbered ≡ false → left_at es is_numbered first end from left ≡ stretch es first end
+    left-linked is = ap (λ (b : Bool). left_at es b first end from left) is
+
+    pub place-linked : is_numbered ≡ false → IsPlace es is_numbered first end from left → IsStretch es first end
+    place-linked is place = subst (λ (b : Bool). IsPlace es b first end from left) is place
+
+    pub linked-place : is_numbered ≡ false → IsStretch es first end → IsPlace es is_numbered first end from left
+    linked-place is stands = subst (λ (b : Bool). IsPlace es b first end from left) (sym is) stands
+
+    pub left-numbered : is_numbered ≡ true → left_at es is_numbered first end from left ≡ take left (drop from es)
+    left-numbered is = ap (λ (b : Bool). left_at es b first end from left) is
+
+    pub place-numbered : is_numbered ≡ true → IsPlace es is_numbered first end from left → AreNumbered 1 es × (from + left ≤ length es)
+    place-numbered is place = subst (λ (b : Bool). IsPlace es b first end from left) is place
 
   -- each position has an entry
   pub got : (es : List (Entry T)) (k : ℕ) → k < length es → (e : Entry T) × (slice_get es k ≡ Some e)

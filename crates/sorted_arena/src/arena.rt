@@ -144,8 +144,8 @@ impl<K: Ord, V, P: BasePtr, A: Allocator> SortedArena<K, V, P, A> {
 
     /// Gives the entries the indexes from 1 on in their order, under the next generation. All old pointers are stale then. O(capacity).
     ///
-    /// Before a [`shrink`](Self::shrink), this leaves just as much capacity as there are entries. Iterators are quicker until an entry comes
-    /// before others or a key changes, or one goes that isn't the last.
+    /// Before a [`shrink`](Self::shrink), this leaves just as much capacity as there are entries. Iterators read no links afterwards, until
+    /// an entry is inserted before another, one that isn't the last is removed, or one gets another key.
     pub fn compact(&mut self)
         ensures items { map item_of self.new.entries ≡ map item_of self.old.entries }
         ensures found { (i : ℕ) → pair_of self.new (i + 1, self.new.generation)

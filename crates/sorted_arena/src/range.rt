@@ -20,30 +20,30 @@ use triple_ord::{BasePtr, BasePtrInx, P0};
 #[derive(Drop)]
 pub struct Range<'a, K: Ord, V, P: BasePtr = P0, A: Allocator = Global> {
     pairs: &'a Pairs<K, V, P, A>,
-    place: Place<P>,
-}
-
-// Where an iterator stands.
-#[derive(Drop)]
-enum Place<P: BasePtr> {
-    // The index of the next entry from the front, and of the entry behind the next one from the back. A step reads a link.
-    Linked(Option<P::Inx>, Option<P::Inx>),
-    // The position of the next entry from the front, and how many are left, in an arena whose i-th entry has index i. A step waits for
-    // no link.
-    Numbered(usize, usize),
+    // Whether the i-th entry has index i. Then entries are counted, and no step waits for a link.
+    is_numbered: bool,
+    // Otherwise: the index of the next entry from the front, and of the entry behind the next one from the back.
+    first: Option<P::Inx>,
+    end: Option<P::Inx>,
+    // If so: the position of the next entry from the front, and how many are left.
+    from: usize,
+    left: usize,
 }
 
 impl<'a, K: Ord, V, P: BasePtr, A: Allocator> Model for Range<'a, K, V, P, A> {
     ghost use Rattle.std.specs.Prelude.{List};
+    ghost use Rattle.std.specs.Option.{option_map};
     ghost use Rattle.chain_base.specs.Chain.{Entry};
 
     ghost Value = { List (Entry (K × V)) };
 
     ghost use Rattle.sorted_arena.specs.Place.{left_at, IsPlace};
 
-    ghost view = { λ r. left_at P.Inx.number r.pairs.now.list.entries r.place };
+    ghost view = { λ r. left_at r.pairs.now.list.entries r.is_numbered
+        (option_map P.Inx.number r.first) (option_map P.Inx.number r.end) r.from r.left };
 
-    ghost invariant = { λ r. IsPlace P.Inx.number r.pairs.now.list.entries r.place };
+    ghost invariant = { λ r. IsPlace r.pairs.now.list.entries r.is_numbered
+        (option_map P.Inx.number r.first) (option_map P.Inx.number r.end) r.from r.left };
 }
 
 impl<'a, K: Ord, V, P: BasePtr, A: Allocator> Iterator for Range<'a, K, V, P, A> {
@@ -54,28 +54,26 @@ impl<'a, K: Ord, V, P: BasePtr, A: Allocator> Iterator for Range<'a, K, V, P, A>
     ghost remaining = { item_count (λ left. left) };
 
     fn next(&mut self) -> Option<(P, &'a K, &'a V)> {
-        match self.place {
-            Place::Linked(first, end) => {
-                if are_same::<P>(first, end) {
-                    return None;
-                }
-                let i = first?;
-                let entry = self.pairs.get_inx_link_no_gen(i)?;
-                let link = entry.1;
-                self.place = Place::Linked(link.next(), end);
-                let (k, v) = link.t.k_v();
-                Some((P::_from_raw(i, entry.0), k, v))
+        if self.is_numbered {
+            if self.left == 0 {
+                return None;
             }
-            Place::Numbered(from, left) => {
-                if left == 0 {
-                    return None;
-                }
-                // with its length an arena tells what holds of its list
-                let _ = self.pairs.len();
-                self.place = Place::Numbered(from + 1, left - 1);
-                entry_at(self.pairs, from)
-            }
+            // with its length an arena tells what holds of its list
+            let _ = self.pairs.len();
+            let position = self.from;
+            self.from = position + 1;
+            self.left -= 1;
+            return entry_at(self.pairs, position);
         }
+        if are_same::<P>(self.first, self.end) {
+            return None;
+        }
+        let i = self.first?;
+        let entry = self.pairs.get_inx_link_no_gen(i)?;
+        let link = entry.1;
+        self.first = link.next();
+        let (k, v) = link.t.k_v();
+        Some((P::_from_raw(i, entry.0), k, v))
     }
 }
 
@@ -83,27 +81,23 @@ impl<'a, K: Ord, V, P: BasePtr, A: Allocator> DoubleEndedIterator for Range<'a, 
     ghost next_back_gives = { YieldsLastBy (shown_entry P.numbers) (λ left. left) };
 
     fn next_back(&mut self) -> Option<(P, &'a K, &'a V)> {
-        match self.place {
-            Place::Linked(first, end) => {
-                if are_same::<P>(first, end) {
-                    return None;
-                }
-                let i = last_before(self.pairs, end)?;
-                let entry = self.pairs.get_inx(i)?;
-                self.place = Place::Linked(first, Some(i));
-                let (k, v) = entry.1.k_v();
-                Some((P::_from_raw(i, entry.0), k, v))
+        if self.is_numbered {
+            if self.left == 0 {
+                return None;
             }
-            Place::Numbered(from, left) => {
-                if left == 0 {
-                    return None;
-                }
-                // with its length an arena tells what holds of its list
-                let _ = self.pairs.len();
-                self.place = Place::Numbered(from, left - 1);
-                entry_at(self.pairs, from + (left - 1))
-            }
+            // with its length an arena tells what holds of its list
+            let _ = self.pairs.len();
+            self.left -= 1;
+            return entry_at(self.pairs, self.from + self.left);
         }
+        if are_same::<P>(self.first, self.end) {
+            return None;
+        }
+        let i = last_before(self.pairs, self.end)?;
+        let entry = self.pairs.get_inx(i)?;
+        self.end = Some(i);
+        let (k, v) = entry.1.k_v();
+        Some((P::_from_raw(i, entry.0), k, v))
     }
 }
 
@@ -227,16 +221,15 @@ impl<K: Ord, V, P: BasePtr, A: Allocator> SortedArena<K, V, P, A> {
             (option_map (λ q. q.0) (option_map P.numbers first))
             (option_map (λ q. q.0) (option_map P.numbers end)) }
     {
-        let place = if self.is_compact() {
-            let count = self.len();
-            let from = position(first, count);
-            Place::Numbered(from, position(end, count).saturating_sub(from))
-        } else {
-            Place::Linked(inx_of(first), inx_of(end))
-        };
+        let count = self.len();
+        let from = position(first, count);
         Range {
             pairs: self.pairs(),
-            place,
+            is_numbered: self.is_compact(),
+            first: inx_of(first),
+            end: inx_of(end),
+            from,
+            left: position(end, count).saturating_sub(from),
         }
     }
 

@@ -13,8 +13,8 @@ use triple_ord::{BasePtr, ReallocationError};
 impl<K: Ord + Drop, V: Drop, P: BasePtr, A: Allocator> SortedArena<K, V, P, A> {
     /// Inserts pairs that are in order behind all entries. One comparison and amortized O(1) for each.
     ///
-    /// If there are at least as many as entries, and all are in order and get room, they are appended at once, and the tree is built anew. Otherwise
-    /// they are inserted one after another.
+    /// At least as many pairs as entries are appended at once, and the tree is built anew, if all are in order and there is memory for all.
+    /// Otherwise they are inserted one after another.
     ///
     /// # Errors
     ///
@@ -63,8 +63,8 @@ impl<K: Ord + Drop, V: Drop, P: BasePtr, A: Allocator> SortedArena<K, V, P, A> {
         }
     }
 
-    // Makes room for pairs that can be appended at once: at least as many as there are entries, in order, and none with a smaller key than
-    // the last. Returns whether there is.
+    // Makes room for pairs that can be appended at once: at least as many as entries, in order, and the first with no smaller key than the
+    // last entry. Returns whether they can be, and there is room.
     fn is_made_ready(&mut self, pairs: &[(K, V)]) -> bool
         ensures entries { self.new.entries ≡ self.old.entries }
         ensures generation { self.new.generation ≡ self.old.generation }

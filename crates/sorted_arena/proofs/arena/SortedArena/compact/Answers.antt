@@ -1,5 +1,4 @@
-use Rattle.std.proofs.Common.{arith, length, map, ap}
-use Rattle.std.proofs.lemmas.List.{length-map}
+use Rattle.std.proofs.Common.{arith}
 use Rattle.sorted_arena.proofs.Cutting.{sorted-items}
 use Rattle.sorted_arena.proofs.Numbering.{compact-canonical}
 use Rattle.sorted_arena.proofs.arena.SortedArena.compact.Goals as goal

@@ -1,51 +1,50 @@
-use Rattle.std.proofs.Common.{◌≡◌, [], length, sym, ap, arith, ◌∙◌, Bor}
+use Rattle.std.proofs.Common.{◌≡◌, ◌+◌, ◌-◌, [], length, sym, ap, arith, ◌∙◌, Bor}
 use Rattle.std.specs.Option.{option_map}
 use Rattle.chain_base.specs.Link.{Link}
-use Rattle.sorted_arena.specs.Place.{left_at}
 use Rattle.sorted_arena.proofs.Stretching.{stretch-same, first-linked, steps-first, StepsFirst}
-use Rattle.sorted_arena.proofs.Placing.{yields-front}
+use Rattle.sorted_arena.proofs.Placing.{left-linked, place-linked, linked-place, left-numbered, place-numbered, yields-front}
 use Rattle.sorted_arena.proofs.range.RangeIterator.next.Goals as goal
 
 pub returns-then-are_same-clause-steps : goal.returns-then-are_same-clause-steps
 returns-then-are_same-clause-steps g c =
-    let es = c.self.inside.pairs.now.list.entries in
-    let none : c.args.self.now ≡ [] = sym c.self.view_is ∙ ap (left_at g.P.Inx.BasePtrInx.number es) c.in-Linked.is ∙ stretch-same es _ _ (c.are_same.ensures.same c.if-are_same.true) in
+    let seen = left-linked c.self.inside.pairs.now.list.entries c.self.inside.is_numbered (option_map g.P.Inx.BasePtrInx.number c.self.inside.first) (option_map g.P.Inx.BasePtrInx.number c.self.inside.end) c.self.inside.from c.self.inside.left c.if-self.false in
+    let none : c.args.self.now ≡ [] = sym c.self.view_is ∙ seen ∙ stretch-same c.self.inside.pairs.now.list.entries _ _ (c.are_same.ensures.same c.if-are_same.true) in
     (none, none)
 
-pub returns-in_err-entry-in-Linked-clause-steps : goal.returns-in_err-entry-in-Linked-clause-steps
-returns-in_err-entry-in-Linked-clause-steps g c =
-    absurd (first-linked c.self.inside.pairs.now.list.entries _ _ (rw c.in-Linked.is at c.self.invariant) (c.are_same.ensures.apart c.if-are_same.false) (g.P.Inx.BasePtrInx.number c.in_ok-i-in-Linked.i)
-    (ap (option_map g.P.Inx.BasePtrInx.number) c.in_ok-i-in-Linked.was) c.in_err-entry-in-Linked.ensures)
+pub returns-in_err-entry-clause-steps : goal.returns-in_err-entry-clause-steps
+returns-in_err-entry-clause-steps g c =
+    let stands = place-linked c.self.inside.pairs.now.list.entries c.self.inside.is_numbered (option_map g.P.Inx.BasePtrInx.number c.self.inside.first) (option_map g.P.Inx.BasePtrInx.number c.self.inside.end) c.self.inside.from c.self.inside.left c.if-self.false c.self.invariant in
+    absurd (first-linked c.self.inside.pairs.now.list.entries _ _ stands (c.are_same.ensures.apart c.if-are_same.false) (g.P.Inx.BasePtrInx.number c.in_ok-i.i) (ap (option_map g.P.Inx.BasePtrInx.number) c.in_ok-i.was) c.in_err-entry.ensures)
 
 -- the step
-stepped : (g : _) (c : goal.After-_from_raw g) → StepsFirst c.self.inside.pairs.now.list.entries (option_map g.P.Inx.BasePtrInx.number c.in-Linked.first)
-    (option_map g.P.Inx.BasePtrInx.number c.in-Linked.end)
-    (record { index = g.P.Inx.BasePtrInx.number c.in_ok-i-in-Linked.i; generation = g.P.Gen.BasePtrGen.number c.in_ok-entry-in-Linked.entry.0; item = (c.k_v.result.0.now, c.k_v.result.1.now) })
-    c.in_ok-entry-in-Linked.entry.1.next
+stepped : (g : _) (c : goal.After-_from_raw g) → StepsFirst c.self.inside.pairs.now.list.entries (option_map g.P.Inx.BasePtrInx.number c.self.inside.first) (option_map g.P.Inx.BasePtrInx.number c.self.inside.end)
+    (record { index = g.P.Inx.BasePtrInx.number c.in_ok-i.i; generation = g.P.Gen.BasePtrGen.number c.in_ok-entry.entry.0; item = (c.k_v.result.0.now, c.k_v.result.1.now) })
+    c.in_ok-entry.entry.1.next
 stepped g c =
+    let stands = place-linked c.self.inside.pairs.now.list.entries c.self.inside.is_numbered (option_map g.P.Inx.BasePtrInx.number c.self.inside.first) (option_map g.P.Inx.BasePtrInx.number c.self.inside.end) c.self.inside.from c.self.inside.left c.if-self.false c.self.invariant in
     let item = ap (λ (l : Link (Bor (g.row.K.Denot × g.row.V.Denot))). l.item.now) c.link.view_is in
     let parts = ap (λ (k : g.row.K.Denot). (k, c.k_v.result.1.now)) c.k_v.ensures.key ∙ ap (λ (v : g.row.V.Denot). (c.link.inside.t.now.0, v)) c.k_v.ensures.value in
-    steps-first c.self.inside.pairs.now.list.entries _ _ (rw c.in-Linked.is at c.self.invariant) (c.are_same.ensures.apart c.if-are_same.false) (g.P.Inx.BasePtrInx.number c.in_ok-i-in-Linked.i)
-    (ap (option_map g.P.Inx.BasePtrInx.number) c.in_ok-i-in-Linked.was) (g.P.Gen.BasePtrGen.number c.in_ok-entry-in-Linked.entry.0) (c.k_v.result.0.now, c.k_v.result.1.now) _ c.in_ok-entry-in-Linked.ensures
+    steps-first c.self.inside.pairs.now.list.entries _ _ stands (c.are_same.ensures.apart c.if-are_same.false) (g.P.Inx.BasePtrInx.number c.in_ok-i.i)
+    (ap (option_map g.P.Inx.BasePtrInx.number) c.in_ok-i.was) (g.P.Gen.BasePtrGen.number c.in_ok-entry.entry.0) (c.k_v.result.0.now, c.k_v.result.1.now) _ c.in_ok-entry.ensures
     (sym item ∙ sym parts)
 
-pub invariant_of-self : goal.invariant_of-self
-invariant_of-self g c = rw c.next.ensures.value (stepped g c).stands
+pub invariant_of-self-2 : goal.invariant_of-self-2
+invariant_of-self-2 g c =
+    linked-place c.self.inside.pairs.now.list.entries c.self.inside.is_numbered (option_map g.P.Inx.BasePtrInx.number c.next-self-inside.result) (option_map g.P.Inx.BasePtrInx.number c.self.inside.end) c.self.inside.from c.self.inside.left c.if-self.false (rw c.next-self-inside.ensures.value (stepped g c).stands)
 
-pub returns-in_ok-entry-in-Linked-clause-steps : goal.returns-in_ok-entry-in-Linked-clause-steps
-returns-in_ok-entry-in-Linked-clause-steps g c =
-    let next = c.next.ensures.value in
-    sym c.self.view_is ∙ ap (left_at g.P.Inx.BasePtrInx.number c.self.inside.pairs.now.list.entries) c.in-Linked.is ∙ rw (c._from_raw.ensures, next) (stepped g c).step
+pub returns-clause-steps : goal.returns-clause-steps
+returns-clause-steps g c =
+    let seen = left-linked c.self.inside.pairs.now.list.entries c.self.inside.is_numbered (option_map g.P.Inx.BasePtrInx.number c.self.inside.first) (option_map g.P.Inx.BasePtrInx.number c.self.inside.end) c.self.inside.from c.self.inside.left c.if-self.false in
+    let left = left-linked c.self.inside.pairs.now.list.entries c.self.inside.is_numbered (option_map g.P.Inx.BasePtrInx.number c.next-self-inside.result) (option_map g.P.Inx.BasePtrInx.number c.self.inside.end) c.self.inside.from c.self.inside.left c.if-self.false in
+    sym c.self.view_is ∙ seen ∙ rw (c._from_raw.ensures, left, c.next-self-inside.ensures.value) (stepped g c).step
 
-pub returns-in_ok-entry-in-Linked-clause-goes : goal.returns-in_ok-entry-in-Linked-clause-goes
-returns-in_ok-entry-in-Linked-clause-goes g c = record { on = λ _. (tt, tt, omega (arith, ap length (returns-in_ok-entry-in-Linked-clause-steps g c))); keeps = tt; rests = λ _. tt }
+pub returns-clause-goes : goal.returns-clause-goes
+returns-clause-goes g c = record { on = λ _. (tt, tt, omega (arith, ap length (returns-clause-steps g c))); keeps = tt; rests = λ _. tt }
 
-pub returns-else-left-eq0-clause-steps : goal.returns-else-left-eq0-clause-steps
-returns-else-left-eq0-clause-steps g c =
+pub returns-then-self-clause-steps : goal.returns-then-self-clause-steps
+returns-then-self-clause-steps g c =
     let es = c.self.inside.pairs.now.list.entries in
-    let is = sym c.self.view_is ∙ ap (left_at g.P.Inx.BasePtrInx.number es) c.in-Numbered.is in
-    let held = rw c.in-Numbered.is at c.self.invariant in
-    rw is (yields-front _ es c.in-Numbered.from c.in-Numbered.left c.if-left-eq0.false held.1 c.entry_at.result c.entry_at.ensures)
-
-pub overflow_add-self : goal.overflow_add-self
-overflow_add-self g c = let held = rw c.in-Numbered.is at c.self.invariant in let h = held.1 in omega (arith, c.if-left-eq0.false, c.len.ensures.value)
+    let is = sym c.self.view_is ∙ left-numbered c.self.inside.pairs.now.list.entries c.self.inside.is_numbered (option_map g.P.Inx.BasePtrInx.number c.self.inside.first) (option_map g.P.Inx.BasePtrInx.number c.self.inside.end) c.self.inside.from c.self.inside.left c.if-self.true in
+    let held = place-numbered c.self.inside.pairs.now.list.entries c.self.inside.is_numbered (option_map g.P.Inx.BasePtrInx.number c.self.inside.first) (option_map g.P.Inx.BasePtrInx.number c.self.inside.end) c.self.inside.from c.self.inside.left c.if-self.true c.self.invariant in
+    let left = left-numbered c.self.inside.pairs.now.list.entries c.self.inside.is_numbered (option_map g.P.Inx.BasePtrInx.number c.self.inside.first) (option_map g.P.Inx.BasePtrInx.number c.self.inside.end) (c.self.inside.from + 1) (c.self.inside.left - 1) c.if-self.true in
+    rw (is, left) (yields-front _ es c.self.inside.from c.self.inside.left c.if-self-eq0.false held.1 c.entry_at.result c.entry_at.ensures)
