@@ -1,3 +1,4 @@
 -- The definitions that the contracts cite.
 pub mod Book
+pub mod Words
 pub mod Layout

@@ -3,7 +3,7 @@
 ghost use Rattle.std.specs.Prelude.{◌≡◌, ◌≢◌, ◌↔◌, ◌+◌, ◌-◌, ◌++◌, ◌<◌, ◌⊎◌, ℕ, [], ◌∷◌, length, vec_capacity, IsTrue, true, false};
 ghost use Rattle.std.specs.Prelude.{Some, None, Ok, Err, IfOk, OnOk, OnErr, IfSome, IfNone};
 ghost use Rattle.std.specs.Option.{option_map};
-ghost use Rattle.order_queue.specs.Queue.{HasRoomFor, first_levels, resting, reduced_order, volume};
+ghost use Rattle.order_book.specs.Words.{HasRoomFor, first_levels, volume};
 ghost use Rattle.order_book.specs.Book.{IsFull, LacksRoom, Updates, named, queue, rest_of, trades_for, trades_of};
 
 use order_book::{
