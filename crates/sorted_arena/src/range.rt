@@ -20,7 +20,8 @@ use triple_ord::{BasePtr, BasePtrInx, P0};
 #[derive(Drop)]
 pub struct Range<'a, K: Ord, V, P: BasePtr = P0, A: Allocator = Global> {
     pairs: &'a Pairs<K, V, P, A>,
-    // Whether the i-th entry has index i. Then entries are counted, and no step waits for a link.
+    // Whether the i-th entry has index i. Then entries are counted, and no step waits for a link. It never changes, so that a caller's loop
+    // tests it once; an enum of both ways is put together anew at each step, which takes twice as long.
     is_numbered: bool,
     // Otherwise: the index of the next entry from the front, and of the entry behind the next one from the back.
     first: Option<P::Inx>,
