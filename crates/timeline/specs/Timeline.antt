@@ -1,7 +1,8 @@
 -- What a timeline is: the value that holds at each time, told by the times at which it changes.
-use Rattle.std.specs.Prelude.{◌≡◌, ◌≢◌, ℕ, ◌+◌, ◌*◌, ◌<◌, ◌≤◌, ◌⊎◌, min, max, leb, nat_lt, if◌then◌else◌, List, [], ◌∷◌, length, Option, Some, None}
-use Rattle.std.specs.List.{AllByRecursion}
-use Rattle.timeline.specs.declared.span.Span.{Span}
+use Rattle.std.specs.Prelude.{◌≡◌, ◌≢◌, ℕ, ◌+◌, ◌*◌, ◌<◌, ◌≤◌, ◌⊎◌, leb, nat_lt, if◌then◌else◌, List, [], ◌∷◌, length, Option, Some, None, IsSome, IfSome}
+use Rattle.std.specs.{List.AllByRecursion, Option.option_map, Borrow.Bor}
+use Rattle.arena_base.specs.Arena.{capacity_for}
+use Rattle.timeline.specs.declared.span.{Span.Span, WholeSpan.WholeSpan, Gap.Gap}
 
 -- a change: from this time on the value is this one, or there is none
 pub record Change (V : Type 0) : Type 0 where
@@ -49,11 +50,13 @@ module _ {V : Type 0} where
     pub within : length t.changes ≤ t.capacity
     pub limited : t.capacity ≤ most_changes
 
-  -- The capacity with room for two more changes: what it is, if there is room; otherwise twice that, at most as many as there can be, and at
-  -- least enough.
+  -- so many more settings fit without growing: each needs room for two changes
+  abbrev pub HasRoomFor : ℕ → Timeline V → Type 0
+  HasRoomFor n t = length t.changes + 2 * n ≤ t.capacity
+
+  -- the capacity with room for two more changes
   abbrev pub roomy_capacity : Timeline V → ℕ
-  roomy_capacity t = let needed = length t.changes + 2 in
-      if leb needed t.capacity then t.capacity else max needed (min most_changes (2 * t.capacity))
+  roomy_capacity t = capacity_for most_changes t.capacity (length t.changes + 2)
 
   -- the capacity after a setting from one time until another; one over no time takes no room
   abbrev pub capacity_set : Timeline V → ℕ → ℕ → ℕ
@@ -63,6 +66,28 @@ module _ {V : Type 0} where
   pub record IsSet (old : List (Change V)) (from until : ℕ) (value : Option V) (new : List (Change V)) : Type 0 where
     pub within : (t : ℕ) → from ≤ t → t < until → value_at new t ≡ value
     pub outside : (t : ℕ) → (t < from) ⊎ (until ≤ t) → value_at new t ≡ value_at old t
+
+  -- from one time on the value is this one, or none, and before it is what it was
+  pub record IsSetFrom (old : List (Change V)) (from : ℕ) (value : Option V) (new : List (Change V)) : Type 0 where
+    pub within : (t : ℕ) → from ≤ t → value_at new t ≡ value
+    pub before : (t : ℕ) → t < from → value_at new t ≡ value_at old t
+
+  -- one value, whose clone may be refused, holds from one time until another and then
+  abbrev pub HoldsRefusable : (V → Type 0) → List (Change V) → ℕ → ℕ → Type 0
+  HoldsRefusable is_infallible cs from until = (v : V) × (¬ (is_infallible v)) × ((t : ℕ) → from ≤ t → t ≤ until → value_at cs t ≡ Some v)
+
+  -- The stretch around a time, from the change that began it until the next change, if there is one.
+  pub record IsWholeSpan (cs : List (Change V)) (t : ℕ) (span : WholeSpan V) : Type 0 where
+    pub begins : span.from ≤ t
+    pub ends : IfSome span.until (λ until. t < until)
+    pub holds : (u : ℕ) → span.from ≤ u → IfSome span.until (λ until. u < until) → value_at cs u ≡ Some span.value
+    pub another_before : (u : ℕ) → u + 1 ≡ span.from → value_at cs u ≢ Some span.value
+    pub another_after : IfSome span.until (λ until. value_at cs until ≢ Some span.value)
+
+  -- the first time after a time at which the value is another one; None if it holds for ever
+  abbrev pub IsNextChange : List (Change V) → ℕ → Option ℕ → Type 0
+  IsNextChange cs t None = (u : ℕ) → t ≤ u → value_at cs u ≡ value_at cs t
+  IsNextChange cs t (Some n) = (t < n) × ((u : ℕ) → t ≤ u → u < n → value_at cs u ≡ value_at cs t) × (value_at cs n ≢ value_at cs t)
 
   -- The first stretch of a value from one time until another: before it none holds, over it its value does, and where it ends another
   -- value or none begins, unless that is the end of the time that was asked for.
@@ -82,3 +107,32 @@ module _ {V : Type 0} where
   abbrev pub AreSpans : List (Change V) → ℕ → ℕ → List (Span V) → Type 0
   AreSpans cs from until [] = HasNone cs from until
   AreSpans cs from until (span ∷ spans) = IsNextSpan cs from until span × AreSpans cs span.until until spans
+
+  -- a value holds at each time from one until another
+  abbrev pub HasValues : List (Change V) → ℕ → ℕ → Type 0
+  HasValues cs from until = (t : ℕ) → from ≤ t → t < until → IsSome (value_at cs t)
+
+  -- The first stretch without a value from one time until another: before it values hold, and where it ends a value begins, unless that
+  -- is the end of the time that was asked for.
+  pub record IsNextGap (cs : List (Change V)) (from until : ℕ) (gap : Gap) : Type 0 where
+    pub begins : from ≤ gap.from
+    pub lasts : gap.from < gap.until
+    pub ends : gap.until ≤ until
+    pub values_before : HasValues cs from gap.from
+    pub none : HasNone cs gap.from gap.until
+    pub value_after : gap.until < until → IsSome (value_at cs gap.until)
+
+  -- All stretches without a value from one time until another, in turn.
+  abbrev pub AreGaps : List (Change V) → ℕ → ℕ → List Gap → Type 0
+  AreGaps cs from until [] = HasValues cs from until
+  AreGaps cs from until (gap ∷ gaps) = IsNextGap cs from until gap × AreGaps cs gap.until until gaps
+
+-- what a span, whole or cut, and a change show of the value that they refer to
+abbrev pub shown_span : {V : Type 0} → Span (Bor V) → Span V
+shown_span s = record { from = s.from; until = s.until; value = s.value.now }
+
+abbrev pub shown_whole : {V : Type 0} → WholeSpan (Bor V) → WholeSpan V
+shown_whole s = record { from = s.from; until = s.until; value = s.value.now }
+
+abbrev pub shown_change : {V : Type 0} → ℕ × Option (Bor V) → Change V
+shown_change c = record { time = c.0; value = option_map (λ v. v.now) c.1 }

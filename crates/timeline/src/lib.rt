@@ -2,13 +2,21 @@
 #![tactic(auto)]
 
 mod changes;
+mod gaps;
+mod list;
+mod paint;
 mod span;
 mod spans;
+mod text;
 mod timeline;
 mod value;
+mod walk;
 
-pub use span::Span;
+pub use gaps::Gaps;
+pub use list::ChangesByTime;
+pub use sorted_arena::ReallocationError;
+pub use span::{Gap, Span, WholeSpan};
 pub use spans::Spans;
+pub use text::Text;
 pub use timeline::Timeline;
-pub use triple_ord::ReallocationError;
 pub use value::TimelineValue;

@@ -1,62 +1,71 @@
 //! `Spans`: the spans of a timeline, in order.
 
-ghost use Rattle.std.specs.Prelude.{◌≡◌};
-ghost use Rattle.std.specs.Iterator.{YieldsFirst, item_count};
-ghost use Rattle.timeline.specs.Timeline.{AreSpans};
+ghost use Rattle.std.specs.Prelude.{◌≡◌, IfSome, IfNone};
+ghost use Rattle.std.specs.Iterator.{YieldsFirstBy, item_count};
+ghost use Rattle.timeline.specs.Timeline.{AreSpans, IsNextSpan, HasNone, shown_span};
 
 use crate::span::Span;
 use crate::timeline::Timeline;
+use crate::walk::Walk;
 use std::alloc::{Allocator, Global};
 use std::marker::Model;
 
 /// An iterator over the spans within a time. It takes no memory. In contracts it is the list of the spans that are left.
 #[derive(Drop)]
-pub struct Spans<'a, V: Copy, A: Allocator = Global> {
-    timeline: &'a Timeline<V, A>,
-    // where the last span ended
-    from: u64,
-    until: u64,
+pub struct Spans<'a, V, A: Allocator = Global> {
+    walk: Walk<'a, V, A>,
 }
 
-impl<'a, V: Copy, A: Allocator> Model for Spans<'a, V, A> {
+impl<'a, V, A: Allocator> Model for Spans<'a, V, A> {
     ghost use Rattle.std.specs.Prelude.{List};
     ghost use Rattle.timeline.specs.declared.span.Span.{Span};
 
     ghost Value = { List (Span V) };
 
-    ghost use Rattle.timeline.specs.Timeline.{AreChanges};
-    ghost use Rattle.timeline.specs.Layout.{spans_of};
+    ghost use Rattle.timeline.specs.Layout.{spans_among};
 
-    ghost view = { λ s. spans_of s.timeline.now.changes s.from s.until };
-
-    ghost invariant = { λ s. AreChanges s.timeline.now.changes };
+    ghost view = { λ s. spans_among s.walk };
 }
 
-impl<V: Copy, A: Allocator> Timeline<V, A> {
-    /// Returns an iterator over the spans from `from` until before `until`, in order. Each step is O(log n).
+impl<V, A: Allocator> Timeline<V, A> {
+    /// Returns an iterator over the spans from `from` until before `until`, in order. O(log n), and each step is O(1).
     pub fn spans(&self, from: u64, until: u64) -> Spans<'_, V, A>
         ensures { AreSpans self.now.changes from until result }
     {
-        // with its length a timeline tells what holds of it
-        let _ = self.len();
         Spans {
-            timeline: self,
-            from,
-            until,
+            walk: self.walk(from, until),
         }
+    }
+
+    /// Returns the first span of a value within the time from `from` until before `until`, in O(log n). `None` if no value holds there.
+    ///
+    /// The span ends where another value or none begins, at the latest at `until`. Called again from its end on, it returns the next one.
+    pub fn next_span(&self, from: u64, until: u64) -> Option<Span<&V>>
+        ensures span { IfSome result
+            (λ span. IsNextSpan self.now.changes from until (shown_span span)) }
+        ensures none { IfNone result (HasNone self.now.changes from until) }
+    {
+        self.spans(from, until).next()
     }
 }
 
-impl<'a, V: Copy, A: Allocator> Iterator for Spans<'a, V, A> {
-    type Item = Span<V>;
+impl<'a, V, A: Allocator> Iterator for Spans<'a, V, A> {
+    type Item = Span<&'a V>;
 
-    ghost next_gives = { YieldsFirst (λ spans. spans) };
+    ghost next_gives = { YieldsFirstBy shown_span (λ left. left) };
 
-    ghost remaining = { item_count (λ spans. spans) };
+    ghost remaining = { item_count (λ left. left) };
 
-    fn next(&mut self) -> Option<Span<V>> {
-        let span = self.timeline.next_span(self.from, self.until)?;
-        self.from = span.until;
-        Some(span)
+    fn next(&mut self) -> Option<Span<&'a V>> {
+        while let Some(piece) = self.walk.piece() {
+            if let Some(value) = piece.value {
+                return Some(Span {
+                    from: piece.from,
+                    until: piece.until,
+                    value,
+                });
+            }
+        }
+        None
     }
 }

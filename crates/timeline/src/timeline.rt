@@ -1,39 +1,47 @@
 //! `Timeline`: the value that holds at each time.
 
-ghost use Rattle.std.specs.Prelude.{◌≡◌, ◌<◌, ◌+◌, ◌↔◌, [], Some, None, Err, OnOk, OnErr, IfSome, IfNone, length};
-ghost use Rattle.timeline.specs.Timeline.{most_changes, capacity_set, value_at, IsTimeline, IsSet, IsNextSpan, HasNone};
+ghost use Rattle.std.specs.Prelude.{◌≡◌, true, false, ◌<◌, ◌+◌, ◌*◌, ◌↔◌, ◌⊎◌, [], Some, None, Err, OnOk, OnErr, IfSome, IfNone, length};
+ghost use Rattle.std.specs.Option.{option_copied};
+ghost use Rattle.arena_base.specs.Arena.{capacity_for};
+ghost use Rattle.timeline.specs.Timeline.{most_changes, roomy_capacity, capacity_set, value_at, shown_whole, IsTimeline, HasRoomFor};
+ghost use Rattle.timeline.specs.Timeline.{IsSet, IsSetFrom, IsWholeSpan, IsNextChange, HoldsRefusable};
+ghost use Rattle.timeline.specs.Layout.{pieces_of, capacity_put, Sets, CannotEnd, IsEmptyTime};
 
-use crate::changes::{Changes, change_at, end_of, first_held, held_at, make_room, take_all};
-use crate::span::Span;
+use crate::changes::{Changes, around, held_at, held_from, next_after, time_of};
+use crate::list::ChangesByTime;
+use crate::paint::{make_room, paint};
+use crate::span::WholeSpan;
 use crate::value::TimelineValue;
+use crate::walk::Walk;
+use sorted_arena::{ReallocationError, SortedArena};
 use std::alloc::{Allocator, Global};
 use std::marker::Model;
-use triple_ord::{ReallocationError, SimpleOrdArena};
 
 /// A function from times to values, each of which holds over a span of time.
 ///
 /// A time is a number in whatever unit the program counts it. In contracts a timeline is the list of its changes, each a time from which on
 /// another value holds, or none, and its capacity.
 ///
-/// Only `set` and `clear` take memory. In the docs n is the number of changes.
+/// Only `reserve` and the settings take memory. In the docs n is the number of changes.
 #[derive(Drop)]
-pub struct Timeline<V: Copy, A: Allocator = Global> {
+pub struct Timeline<V, A: Allocator = Global> {
     changes: Changes<V, A>,
 }
 
-impl<V: Copy, A: Allocator> Model for Timeline<V, A> {
+impl<V, A: Allocator> Model for Timeline<V, A> {
     ghost use Rattle.timeline.specs.Timeline.{Timeline};
 
     ghost Value = { Timeline V };
 
-    ghost use Rattle.timeline.specs.Layout.{timeline_of, IsArenaOfChanges};
+    ghost use Rattle.timeline.specs.Timeline.{AreChanges};
+    ghost use Rattle.timeline.specs.Layout.{changes_of, timeline_of};
 
     ghost view = { λ t. timeline_of t.changes };
 
-    ghost invariant = { λ t. IsArenaOfChanges t.changes };
+    ghost invariant = { λ t. AreChanges (changes_of t.changes) };
 }
 
-impl<V: Copy, A: Allocator> Timeline<V, A> {
+impl<V, A: Allocator> Timeline<V, A> {
     /// Creates a timeline without values. It takes no memory until a value is set.
     pub fn new(alloc: A) -> Self
     where
@@ -42,7 +50,7 @@ impl<V: Copy, A: Allocator> Timeline<V, A> {
         ensures capacity { result.capacity ≡ 0 }
     {
         Timeline {
-            changes: SimpleOrdArena::new(alloc),
+            changes: SortedArena::new(alloc),
         }
     }
 
@@ -62,59 +70,123 @@ impl<V: Copy, A: Allocator> Timeline<V, A> {
     }
 
     /// Returns the value at a time, in O(log n). `None` if no value holds.
-    pub fn get(&self, time: u64) -> Option<V>
-        ensures { result ≡ value_at self.now.changes time }
+    pub fn get(&self, time: u64) -> Option<&V>
+        ensures { option_copied result ≡ value_at self.now.changes time }
     {
         held_at(&self.changes, time)
     }
 
-    /// Returns the first span of a value within the time from `from` until before `until`, in O(log n). `None` if no value holds there.
+    /// Returns the whole stretch of time around `time` over which its value holds, in O(log n). `None` if no value holds.
     ///
-    /// The span ends where another value or none begins, at the latest at `until`. Called again from its end on, it returns the next one.
-    pub fn next_span(&self, from: u64, until: u64) -> Option<Span<V>>
-        ensures span { IfSome result (λ span. IsNextSpan self.now.changes from until span) }
-        ensures none { IfNone result (HasNone self.now.changes from until) }
+    /// It begins with the change that brought the value, and ends at the next one; `until` is `None` if no change follows.
+    pub fn span_at(&self, time: u64) -> Option<WholeSpan<&V>>
+        ensures span { IfSome result
+            (λ span. IsWholeSpan self.now.changes time (shown_whole span)) }
+        ensures none { IfNone result (value_at self.now.changes time ≡ None) }
     {
-        let start = first_held(&self.changes, from)?;
-        if start >= until {
-            return None;
+        // with its length an arena tells what holds of it
+        let _ = self.changes.len();
+        let (last, next) = around(&self.changes, time);
+        match held_from(&self.changes, last) {
+            Some((from, value)) => Some(WholeSpan {
+                from,
+                until: time_of(&self.changes, next),
+                value,
+            }),
+            None => None,
         }
-        let value = held_at(&self.changes, start)?;
-        let end = end_of(&self.changes, start, until);
-        Some(Span {
-            from: start,
-            until: end,
-            value,
-        })
+    }
+
+    /// Returns the first time after `time` at which another value holds, or none, in O(log n). `None` if there is no such time.
+    pub fn next_change(&self, time: u64) -> Option<u64>
+        ensures { IsNextChange self.now.changes time result }
+    {
+        next_after(&self.changes, time)
+    }
+
+    /// Returns an iterator over all changes: times, each with the value that holds from then on, or none. Each step is O(1).
+    pub fn changes(&self) -> ChangesByTime<'_, V, A>
+        ensures { result ≡ self.now.changes }
+    {
+        ChangesByTime {
+            items: self.changes.iter().items(),
+        }
+    }
+
+    // The pieces from one time until another.
+    pub(crate) fn walk(&self, from: u64, until: u64) -> Walk<'_, V, A>
+        ensures pieces { result ≡ pieces_of self.now.changes from until }
+        ensures lawful { IsTimeline self.now }
+    {
+        // with its length a timeline tells what holds of it
+        let _ = self.len();
+        Walk::new(&self.changes, from, until)
+    }
+
+    /// Makes room for this many more settings: each takes two changes.
+    ///
+    /// O(n) if the timeline grows, else O(1). If it grows, its capacity at least doubles, up to the limit.
+    ///
+    /// # Errors
+    ///
+    /// The timeline is unchanged.
+    /// - `BeyondMaxCapacity`: there would be more than 4,294,967,294 changes.
+    /// - `AllocError`: growing failed.
+    pub fn reserve(&mut self, settings: usize) -> Result<(), ReallocationError>
+        ensures changes { self.new.changes ≡ self.old.changes }
+        ensures room { OnOk result (HasRoomFor settings self.new) }
+        ensures capacity { OnOk result (self.new.capacity ≡ capacity_for most_changes
+            self.old.capacity (length self.old.changes + 2 * settings)) }
+        ensures full { (result ≡ Err ReallocationError.BeyondMaxCapacity)
+            ↔ (most_changes < length self.old.changes + 2 * settings) }
+        ensures memory { result ≡ Err ReallocationError.AllocError
+            → self.old.capacity < length self.old.changes + 2 * settings }
+        ensures err { OnErr result (self.new ≡ self.old) }
+    {
+        let Some(additional) = settings.checked_mul(2) else {
+            return Err(ReallocationError::BeyondMaxCapacity);
+        };
+        self.changes.reserve(additional)
+    }
+}
+
+impl<V: Drop, A: Allocator> Timeline<V, A> {
+    /// Removes all changes, in O(capacity): no value holds at any time. The capacity stays.
+    pub fn reset(&mut self)
+        ensures changes { self.new.changes ≡ [] }
+        ensures capacity { self.new.capacity ≡ self.old.capacity }
+    {
+        self.changes.clear();
     }
 }
 
 impl<V: TimelineValue, A: Allocator> Timeline<V, A> {
     /// Makes `value` hold from `from` until before `until`. At all other times the value stays.
     ///
-    /// If `until` isn't later than `from`, nothing changes.
+    /// If `until` isn't later than `from`, nothing changes. If a stretch that began before `from` goes on at `until`, its value is cloned.
     ///
     /// # Errors
     ///
-    /// The timeline is unchanged.
+    /// The timeline is unchanged, and `value` is dropped.
     /// - `BeyondMaxCapacity`: two more changes would be more than 4,294,967,294.
-    /// - `AllocError`: there is no room for two more changes, and growing failed.
+    /// - `AllocError`: there is no room for two more changes, and growing failed; or the clone was refused.
     ///
     /// # Complexity
     ///
-    /// O((k + 1) log n) for k changes within that time; plus O(n) when the timeline grows. It makes room for two more changes first; its
-    /// capacity then at least doubles, up to the limit.
+    /// O((k + 1) log n) for k changes within that time, with two searches; plus O(n) when the timeline grows. It makes room for two more
+    /// changes first; if it grows, its capacity at least doubles, up to the limit, and the value at `until` is cloned.
     pub fn set(&mut self, from: u64, until: u64, value: V) -> Result<(), ReallocationError>
         ensures set { OnOk result (IsSet self.old.changes from until (Some value) self.new.changes) }
         ensures full { (result ≡ Err ReallocationError.BeyondMaxCapacity)
             ↔ ((from < until) × (most_changes < length self.old.changes + 2)) }
         ensures memory { result ≡ Err ReallocationError.AllocError
-            → (from < until) × (self.old.capacity < length self.old.changes + 2) }
+            → (from < until) × ((self.old.capacity < length self.old.changes + 2)
+            ⊎ HoldsRefusable V.is_infallible self.old.changes from until) }
         ensures capacity { OnOk result (self.new.capacity ≡ capacity_set self.old from until) }
         ensures err { OnErr result (self.new ≡ self.old) }
         ensures lawful { IsTimeline self.new }
     {
-        self.put(from, until, Some(value))
+        self.put(from, Some(until), Some(value))
     }
 
     /// Removes all values from `from` until before `until`. At all other times the value stays.
@@ -127,37 +199,98 @@ impl<V: TimelineValue, A: Allocator> Timeline<V, A> {
         ensures full { (result ≡ Err ReallocationError.BeyondMaxCapacity)
             ↔ ((from < until) × (most_changes < length self.old.changes + 2)) }
         ensures memory { result ≡ Err ReallocationError.AllocError
-            → (from < until) × (self.old.capacity < length self.old.changes + 2) }
+            → (from < until) × ((self.old.capacity < length self.old.changes + 2)
+            ⊎ HoldsRefusable V.is_infallible self.old.changes from until) }
         ensures capacity { OnOk result (self.new.capacity ≡ capacity_set self.old from until) }
         ensures err { OnErr result (self.new ≡ self.old) }
         ensures lawful { IsTimeline self.new }
     {
-        self.put(from, until, None)
+        self.put(from, Some(until), None)
     }
 
-    // Makes this the value, or makes it none.
-    fn put(&mut self, from: u64, until: u64, value: Option<V>) -> Result<(), ReallocationError>
-        ensures set { OnOk result (IsSet self.old.changes from until value self.new.changes) }
+    /// Makes `value` hold from `from` on, without end: also at `u64::MAX`. Before, the value stays. Nothing is cloned.
+    ///
+    /// # Errors
+    ///
+    /// The timeline is unchanged, and `value` is dropped.
+    /// - `BeyondMaxCapacity`: two more changes would be more than 4,294,967,294.
+    /// - `AllocError`: there is no room for two more changes, and growing failed.
+    ///
+    /// # Complexity
+    ///
+    /// That of [`set`](Self::set).
+    pub fn set_from(&mut self, from: u64, value: V) -> Result<(), ReallocationError>
+        ensures set { OnOk result (IsSetFrom self.old.changes from (Some value) self.new.changes) }
         ensures full { (result ≡ Err ReallocationError.BeyondMaxCapacity)
-            ↔ ((from < until) × (most_changes < length self.old.changes + 2)) }
+            ↔ (most_changes < length self.old.changes + 2) }
         ensures memory { result ≡ Err ReallocationError.AllocError
-            → (from < until) × (self.old.capacity < length self.old.changes + 2) }
-        ensures capacity { OnOk result (self.new.capacity ≡ capacity_set self.old from until) }
+            → self.old.capacity < length self.old.changes + 2 }
+        ensures capacity { OnOk result (self.new.capacity ≡ roomy_capacity self.old) }
+        ensures err { OnErr result (self.new ≡ self.old) }
+        ensures lawful { IsTimeline self.new }
+    {
+        self.put(from, None, Some(value))
+    }
+
+    /// Removes all values from `from` on, without end. Before, the value stays.
+    ///
+    /// # Errors
+    ///
+    /// Those of [`set_from`](Self::set_from), at the same cost.
+    pub fn clear_from(&mut self, from: u64) -> Result<(), ReallocationError>
+        ensures set { OnOk result (IsSetFrom self.old.changes from None self.new.changes) }
+        ensures full { (result ≡ Err ReallocationError.BeyondMaxCapacity)
+            ↔ (most_changes < length self.old.changes + 2) }
+        ensures memory { result ≡ Err ReallocationError.AllocError
+            → self.old.capacity < length self.old.changes + 2 }
+        ensures capacity { OnOk result (self.new.capacity ≡ roomy_capacity self.old) }
+        ensures err { OnErr result (self.new ≡ self.old) }
+        ensures lawful { IsTimeline self.new }
+    {
+        self.put(from, None, None)
+    }
+
+    // Makes this the value, or makes it none, until before the end if there is one.
+    fn put(
+        &mut self,
+        from: u64,
+        until: Option<u64>,
+        value: Option<V>,
+    ) -> Result<(), ReallocationError>
+        ensures set { OnOk result (Sets self.old.changes from until value self.new.changes) }
+        ensures full { (result ≡ Err ReallocationError.BeyondMaxCapacity)
+            ↔ (IfSome until (λ u. from < u) × (most_changes < length self.old.changes + 2)) }
+        ensures memory { result ≡ Err ReallocationError.AllocError
+            → IfSome until (λ u. from < u) × ((self.old.capacity < length self.old.changes + 2)
+            ⊎ CannotEnd V.is_infallible self.old.changes from until) }
+        ensures capacity { OnOk result (self.new.capacity ≡ capacity_put self.old from until) }
         ensures err { OnErr result (self.new ≡ self.old) }
         ensures lawful { IsTimeline self.new }
     {
         // with its length a timeline tells what holds of it
         let _ = self.len();
-        if from >= until {
+        if is_empty(from, until) {
             return Ok(());
         }
-        make_room(&mut self.changes)?;
-        let after = held_at(&self.changes, until);
-        take_all(&mut self.changes, from, until);
-        change_at(&mut self.changes, from, value);
-        change_at(&mut self.changes, until, after);
-        // with its length a timeline tells what holds of it
-        let _ = self.len();
-        Ok(())
+        let spare = make_room(&mut self.changes, until)?;
+        match paint(&mut self.changes, from, until, value, spare) {
+            Ok(()) => {
+                // with its length a timeline tells what holds of it
+                let _ = self.len();
+                Ok(())
+            }
+            Err(_) => Err(ReallocationError::AllocError),
+        }
+    }
+}
+
+// Whether no time is from this one until before the end.
+fn is_empty(from: u64, until: Option<u64>) -> bool
+    ensures yes { result ≡ true → IsEmptyTime from until }
+    ensures no { result ≡ false → IfSome until (λ u. from < u) }
+{
+    match until {
+        Some(until) => until <= from,
+        None => false,
     }
 }

@@ -1,5 +1,7 @@
-use Rattle.timeline.proofs.Spanning.{are-spans}
+use Rattle.timeline.proofs.Walking.{pieces-are, spans-are}
 use Rattle.timeline.proofs.timeline.Timeline.spans.Goals as goal
 
 pub returns : goal.returns
-returns g c = are-spans c.args.self.now.changes c.args.from c.args.until (record { rising = c.len.ensures.lawful.rising; joined = c.len.ensures.lawful.joined })
+returns g c =
+    rw c.walk.ensures.pieces (spans-are c.args.self.now.changes c.args.from c.args.until _
+    (pieces-are c.args.self.now.changes c.args.from c.args.until (record { rising = c.walk.ensures.lawful.rising; joined = c.walk.ensures.lawful.joined })))
