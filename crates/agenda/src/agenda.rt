@@ -114,7 +114,7 @@ impl<J, A: Allocator> Agenda<J, A> {
         ensures none { IfNone result (self.new ≡ self.old) }
         ensures step { IsStep self.old self.new }
     {
-        // with its length an arena tells what holds of its list
+        // For the prover: the list is sound.
         let _ = self.jobs.len();
         let pair = self.jobs.remove(ticket.pointer).allow()?;
         Some(pair.into_k_v())
@@ -189,7 +189,7 @@ impl<J: Drop, A: Allocator> Agenda<J, A> {
         ensures generation { self.new.generation ≡ self.old.generation }
         ensures step { IsStep self.old self.new }
     {
-        // with its length an arena tells what holds of its list
+        // For the prover: the list is sound.
         let _ = self.jobs.len();
         self.jobs.rekey_pair(ticket.pointer, deadline).is_ok()
     }
@@ -206,7 +206,7 @@ impl<J: Drop, A: Allocator> Agenda<J, A> {
         ensures none { IfNone result (self.new ≡ self.old) }
         ensures step { IsStep self.old self.new }
     {
-        // with its length an arena tells what holds of its list
+        // For the prover: the list is sound.
         let _ = self.jobs.len();
         let moved = self.jobs.remove(ticket.pointer).allow()?;
         let (_, job) = moved.into_k_v();

@@ -51,7 +51,7 @@ pub(crate) fn put<J: Drop, A: Allocator>(
     ensures err { OnErr result (jobs.new ≡ jobs.old) }
     ensures sound { IsSound most_jobs greatest_generation jobs.old.list }
 {
-    // with its length an arena tells what holds of its list
+    // For the prover: the list is sound.
     let _ = jobs.len();
     let kind = kind_behind(jobs, &deadline);
     match jobs.entry_insert(kind) {
@@ -77,7 +77,7 @@ pub(crate) fn put_within<J: Drop, A: Allocator>(jobs: &mut Jobs<J, A>, deadline:
         (behind_key deadline) jobs.old (deadline, job) result jobs.new }
     ensures sound { IsSound most_jobs greatest_generation jobs.old.list }
 {
-    // with its length an arena tells what holds of its list
+    // For the prover: the list is sound.
     let _ = jobs.len();
     let kind = kind_behind(jobs, &deadline);
     match jobs.entry_insert_within_capacity(kind) {

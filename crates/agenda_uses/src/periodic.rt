@@ -18,7 +18,7 @@ pub fn run_due(rounds: &mut Rounds, now: u64, period: u64) -> Option<(u64, Ticke
     ensures count { count rounds.new ≡ count rounds.old }
     ensures none { IfNone result (rounds.new ≡ rounds.old) }
 {
-    // with its length an agenda tells that there is room for all its jobs
+    // For the prover: there is room for all jobs.
     let _ = rounds.len();
     let (deadline, job) = rounds.pop_due(now)?;
     match rounds.schedule(deadline.saturating_add(period), job) {

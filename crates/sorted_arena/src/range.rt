@@ -59,7 +59,7 @@ impl<'a, K: Ord, V, P: BasePtr, A: Allocator> Iterator for Range<'a, K, V, P, A>
             if self.left == 0 {
                 return None;
             }
-            // with its length an arena tells what holds of its list
+            // For the prover: the list is sound.
             let _ = self.pairs.len();
             let position = self.from;
             self.from = position + 1;
@@ -86,7 +86,7 @@ impl<'a, K: Ord, V, P: BasePtr, A: Allocator> DoubleEndedIterator for Range<'a, 
             if self.left == 0 {
                 return None;
             }
-            // with its length an arena tells what holds of its list
+            // For the prover: the list is sound.
             let _ = self.pairs.len();
             self.left -= 1;
             return entry_at(self.pairs, self.from + self.left);
@@ -112,7 +112,7 @@ fn entry_at<'a, K: Ord, V, P: BasePtr, A: Allocator>(
     requires within { position < length pairs.now.list.entries }
     ensures { option_map (shown_entry P.numbers) result ≡ slice_get pairs.now.list.entries position }
 {
-    // with its length an arena tells what holds of its list
+    // For the prover: the list is sound.
     let _ = pairs.len();
     let i = P::Inx::try_from_usize(position + 1)?;
     let entry = pairs.get_inx(i)?;
@@ -178,7 +178,7 @@ impl<K: Ord, V, P: BasePtr, A: Allocator> SortedArena<K, V, P, A> {
         ensures runs_back { GivesInReverse (shown_entry {K = K} {V = V} P.numbers) }
         ensures fits { length result < 2 ^ 64 }
     {
-        // with its length an arena tells what holds of it
+        // For the prover: the arena is sound.
         let _ = self.len();
         self.from_until(self.first(), None)
     }
@@ -207,7 +207,7 @@ impl<K: Ord, V, P: BasePtr, A: Allocator> SortedArena<K, V, P, A> {
         ensures runs_back { GivesInReverse (shown_entry {K = K} {V = V} P.numbers) }
         ensures fits { length result < 2 ^ 64 }
     {
-        // with its length an arena tells what holds of it
+        // For the prover: the arena is sound.
         let _ = self.len();
         let end = self.first_past(until);
         let first = self.first_before(from, end);

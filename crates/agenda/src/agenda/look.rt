@@ -13,7 +13,7 @@ impl<J, A: Allocator> Agenda<J, A> {
     pub fn contains(&self, ticket: Ticket) -> bool
         ensures { result ≡ is_some (job_of self.now.jobs ticket) }
     {
-        // with its length an arena tells what holds of its list
+        // For the prover: the list is sound.
         let _ = self.jobs.len();
         self.jobs.contains(ticket.pointer)
     }
@@ -22,7 +22,7 @@ impl<J, A: Allocator> Agenda<J, A> {
     pub fn get(&self, ticket: Ticket) -> Option<(u64, &J)>
         ensures { option_map (λ x. (x.0, x.1.now)) result ≡ job_of self.now.jobs ticket }
     {
-        // with its length an arena tells what holds of its list
+        // For the prover: the list is sound.
         let _ = self.jobs.len();
         let pair = self.jobs.get(ticket.pointer)?;
         let (deadline, job) = pair.k_v();
@@ -34,7 +34,7 @@ impl<J, A: Allocator> Agenda<J, A> {
         ensures value { option_map shown_job result ≡ first_job self.now.jobs }
         ensures none { IfNone result (count self.now ≡ 0) }
     {
-        // with its length an arena tells what holds of its list
+        // For the prover: the list is sound.
         let _ = self.jobs.len();
         let first = self.jobs.first()?;
         let pair = self.jobs.get(first)?;

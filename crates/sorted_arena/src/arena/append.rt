@@ -54,7 +54,7 @@ impl<K: Ord + Drop, V: Drop, P: BasePtr, A: Allocator> SortedArena<K, V, P, A> {
         ensures capacity { self.new.capacity ≡ self.old.capacity }
         ensures sound { IsSound K.cmp P.Inx.most self.new }
     {
-        // with its length an arena tells what holds of it
+        // For the prover: the arena is sound.
         let _ = self.len();
         match self.insert(k, v) {
             Ok(p) => p,

@@ -24,7 +24,7 @@ impl<K: Ord, V, P: BasePtr, A: Allocator> SortedArena<K, V, P, A> {
         ensures visits { IsWithinRankedBound (count self.now) result.1 }
         ensures sound { IsSound K.cmp P.Inx.most self.now }
     {
-        // with its length an arena tells what holds of it, and of its list
+        // For the prover: the arena and its list are sound.
         let _ = self.pairs.len();
         let _ = self.len();
         self.pairs.find_key_counted(k)
@@ -42,7 +42,7 @@ impl<K: Ord, V, P: BasePtr, A: Allocator> SortedArena<K, V, P, A> {
         ensures visits { IsWithinRankedBound (count self.now) result.1 }
         ensures sound { IsSound K.cmp P.Inx.most self.now }
     {
-        // with its length an arena tells what holds of it, and of its list
+        // For the prover: the arena and its list are sound.
         let _ = self.pairs.len();
         let _ = self.len();
         lower_bound_in(&self.pairs, k)
@@ -59,7 +59,7 @@ impl<K: Ord, V, P: BasePtr, A: Allocator> SortedArena<K, V, P, A> {
         ensures visits { IsWithinRankedBound (count self.now) result.1 }
         ensures sound { IsSound K.cmp P.Inx.most self.now }
     {
-        // with its length an arena tells what holds of it, and of its list
+        // For the prover: the arena and its list are sound.
         let _ = self.pairs.len();
         let _ = self.len();
         upper_bound_in(&self.pairs, k)

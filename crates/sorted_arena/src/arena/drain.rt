@@ -77,7 +77,7 @@ impl<K: Ord + Drop, V: Drop, P: BasePtr, A: Allocator> SortedArena<K, V, P, A> {
         ensures kept { OnErr result (drained.new.items ≡ drained.old.items) }
         ensures err { OnErr result (self.new ≡ self.old) }
     {
-        // with its length an arena tells what holds of it
+        // For the prover: the arena is sound.
         let _ = self.len();
         let (first, count) = self.run_between(from, until);
         drained.reserve(count)?;
@@ -100,7 +100,7 @@ impl<K: Ord + Drop, V: Drop, P: BasePtr, A: Allocator> SortedArena<K, V, P, A> {
             self.old.entries) }
         ensures count { count self.new + result ≡ count self.old }
     {
-        // with its length an arena tells what holds of it
+        // For the prover: the arena is sound.
         let _ = self.len();
         let (first, count) = self.run_between(from, until);
         let mut next = first;
@@ -136,7 +136,7 @@ impl<K: Ord, V, P: BasePtr, A: Allocator> SortedArena<K, V, P, A> {
             → TakesOut P.Gen.greatest self.old (option_map P.numbers next) at result.0 self.new
             (option_map P.numbers result.1) }
     {
-        // with its length an arena tells what holds of it
+        // For the prover: the arena is sound.
         let _ = self.len();
         let p = next.unwrap();
         let after = self.next(p);

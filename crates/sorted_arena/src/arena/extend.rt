@@ -79,7 +79,7 @@ impl<K: Ord + Drop, V: Drop, P: BasePtr, A: Allocator> SortedArena<K, V, P, A> {
     fn is_continued(&self, pairs: &[(K, V)]) -> bool
         ensures { result ≡ true → AreInOrder K.cmp (map item_of self.now.entries ++ pairs.now) }
     {
-        // with its length an arena tells what holds of it
+        // For the prover: the arena is sound.
         let _ = self.len();
         match pairs.first() {
             Some(first) => !self.is_last_greater(&first.0) && are_sorted(pairs),
@@ -96,7 +96,7 @@ impl<K: Ord + Drop, V: Drop, P: BasePtr, A: Allocator> SortedArena<K, V, P, A> {
         ensures kept { Keeps self.old self.new }
         ensures generation { self.new.generation ≡ self.old.generation }
     {
-        // with its length an arena tells what holds of its list
+        // For the prover: the list is sound.
         let _ = self.pairs.len();
         let _ = self.pairs.append_pairs_within_capacity(pairs);
     }
@@ -138,7 +138,7 @@ impl<K: Ord + Drop, V: Drop, P: BasePtr, A: Allocator> SortedArena<K, V, P, A> {
         ensures { result
             ≡ option_map_or (λ x. is_gt (K.cmp x.0 k.now)) (last_item self.now.entries) false }
     {
-        // with its length an arena tells what holds of it
+        // For the prover: the arena is sound.
         let _ = self.len();
         let Some(p) = self.last() else {
             return false;

@@ -21,7 +21,7 @@ impl<K: Ord, V, P: BasePtr, A: Allocator> SortedArena<K, V, P, A> {
         ensures none { IfNone result (count self.now ≡ 0) }
         ensures sound { IsSound K.cmp P.Inx.most self.now }
     {
-        // with its length an arena tells what holds of it
+        // For the prover: the arena is sound.
         let _ = self.len();
         self.pairs.first()
     }
@@ -34,7 +34,7 @@ impl<K: Ord, V, P: BasePtr, A: Allocator> SortedArena<K, V, P, A> {
         ensures none { IfNone result (count self.now ≡ 0) }
         ensures sound { IsSound K.cmp P.Inx.most self.now }
     {
-        // with its length an arena tells what holds of it, and of its list
+        // For the prover: the arena and its list are sound.
         let _ = self.pairs.len();
         let _ = self.len();
         self.pairs.last()
@@ -49,7 +49,7 @@ impl<K: Ord, V, P: BasePtr, A: Allocator> SortedArena<K, V, P, A> {
         ensures in_order { IfSome result (λ q. IsSomeAnd (pair_of self.now (P.numbers p))
             (λ e. IsSomeAnd (pair_of self.now (P.numbers q)) (λ f. K.cmp e.0 f.0 ≢ Greater))) }
     {
-        // with its length an arena tells what holds of its list
+        // For the prover: the list is sound.
         let _ = self.pairs.len();
         next_in(&self.pairs, p)
     }
@@ -63,7 +63,7 @@ impl<K: Ord, V, P: BasePtr, A: Allocator> SortedArena<K, V, P, A> {
         ensures in_order { IfSome result (λ q. IsSomeAnd (pair_of self.now (P.numbers p))
             (λ e. IsSomeAnd (pair_of self.now (P.numbers q)) (λ d. K.cmp d.0 e.0 ≢ Greater))) }
     {
-        // with its length an arena tells what holds of its list
+        // For the prover: the list is sound.
         let _ = self.pairs.len();
         prev_in(&self.pairs, p)
     }

@@ -30,7 +30,7 @@ impl<K: Ord, V, P: BasePtr, A: Allocator> SortedArena<K, V, P, A> {
         ensures err { OnErr result (self.new ≡ self.old) }
         ensures sound { IsSound K.cmp P.Inx.most self.new }
     {
-        // with its length an arena tells what holds of its list
+        // For the prover: the list is sound.
         let _ = self.pairs.len();
         let rekeyed = self.pairs.rekey_pair(p, k);
         self.is_compact = self.is_compact && rekeyed.is_err();

@@ -27,7 +27,7 @@ impl<K: Ord, V, P: BasePtr, A: Allocator> SortedArena<K, V, P, A> {
         ensures none { IfNone result (self.new ≡ self.old) }
         ensures sound { OnSome result (IsSound K.cmp P.Inx.most self.new) }
     {
-        // with its length an arena tells what holds of its list
+        // For the prover: the list is sound.
         let _ = self.pairs.len();
         let stays_compact = self.is_compact && is_last_in(&self.pairs, p);
         let pair = self.pairs.remove(p).allow()?;
@@ -74,7 +74,7 @@ impl<K: Ord, V, P: BasePtr, A: Allocator> SortedArena<K, V, P, A> {
         ensures none { IfNone result (self.new ≡ self.old) }
         ensures sound { OnSome result (IsSound K.cmp P.Inx.most self.new) }
     {
-        // with its length an arena tells what holds of its list
+        // For the prover: the list is sound.
         let _ = self.len();
         let last = self.last()?;
         self.remove(last)
@@ -93,7 +93,7 @@ impl<K: Ord, V, P: BasePtr, A: Allocator> SortedArena<K, V, P, A> {
             (All (λ e. K.cmp (key_of e) until.now ≡ Greater) self.new.entries) }
         ensures none { IfNone result (self.new ≡ self.old) }
     {
-        // with its length an arena tells what holds of its list
+        // For the prover: the list is sound.
         let _ = self.len();
         let first = self.first()?;
         let (k, _) = self.get(first)?;
@@ -116,7 +116,7 @@ impl<K: Ord, V, P: BasePtr, A: Allocator> SortedArena<K, V, P, A> {
             (self.new ≡ with_left P.Gen.greatest self.old (behind_first self.old.entries)) }
         ensures none { IfNone result (self.new ≡ self.old) }
     {
-        // with its length an arena tells what holds of its list
+        // For the prover: the list is sound.
         let _ = self.len();
         let first = self.first()?;
         let (k, v) = self.get(first)?;
@@ -150,7 +150,7 @@ impl<K: Ord, V, P: BasePtr, A: Allocator> SortedArena<K, V, P, A> {
         ensures kept { OnErr result (popped.new.items ≡ popped.old.items) }
         ensures err { OnErr result (self.new ≡ self.old) }
     {
-        // with its length an arena tells what holds of it
+        // For the prover: the arena is sound.
         let _ = self.len();
         let from: Bound<&'k K> = Bound::Unbounded;
         self.drain_between(from, Bound::Included(until), popped)
@@ -166,7 +166,7 @@ impl<K: Ord, V, P: BasePtr, A: Allocator> SortedArena<K, V, P, A> {
         ensures left { All (λ e. K.cmp (key_of e) until.now ≡ Greater) self.new.entries }
         ensures count { count self.new + result ≡ count self.old }
     {
-        // with its length an arena tells what holds of it
+        // For the prover: the arena is sound.
         let _ = self.len();
         let from: Bound<&'k K> = Bound::Unbounded;
         self.remove_between(from, Bound::Included(until))

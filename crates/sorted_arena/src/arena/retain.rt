@@ -27,7 +27,7 @@ impl<K: Ord + Drop, V: Drop, P: BasePtr, A: Allocator> SortedArena<K, V, P, A> {
         while let Some(p) = next {
             next = self.ask(p, &mut f);
         }
-        // with its length an arena tells what holds of it
+        // For the prover: the arena is sound.
         let _ = self.len();
     }
 
@@ -41,7 +41,7 @@ impl<K: Ord + Drop, V: Drop, P: BasePtr, A: Allocator> SortedArena<K, V, P, A> {
         ensures still_callable { F.IsAlwaysCallable f.new }
         ensures sound { IsSound K.cmp P.Inx.most self.new }
     {
-        // with its length an arena tells what holds of it
+        // For the prover: the arena is sound.
         let _ = self.len();
         if self.is_kept(p, f) {
             return self.next(p);
