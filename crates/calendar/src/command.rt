@@ -2,18 +2,21 @@
 
 use std::alloc::AllocError;
 use std::io;
-use std::num::IntErrorKind;
 use std::str::SplitAsciiWhitespace;
 use thiserror::Error;
 use timeline::ReallocationError;
 
-/// What a line says: which word holds from one time until before another, or that none does; or what it asks.
+/// What a line says: which word holds from one time until before another, or for ever, or that none does; or what it asks.
 #[derive(Clone, Copy)]
 pub enum Command<'a> {
-    Set(u64, u64, &'a str),
-    Clear(u64, u64),
+    Set(u64, Option<u64>, &'a str),
+    Clear(u64, Option<u64>),
     Get(u64),
+    At(u64),
     Spans(u64, u64),
+    Gaps(u64, u64),
+    Help,
+    Blank,
 }
 
 /// Why a line is no command.
@@ -49,10 +52,12 @@ pub enum Fault {
 }
 
 impl<'a> Command<'a> {
-    /// What a line says.
+    /// What a line says. Words are separated by white space of ASCII.
     pub fn read(line: &'a str) -> Result<Command<'a>, Misread> {
         let mut words = line.split_ascii_whitespace();
-        let word = words.next().unwrap_or("");
+        let Some(word) = words.next() else {
+            return Ok(Command::Blank);
+        };
         let command = read_named(word, &mut words)?;
         match words.next() {
             None => Ok(command),
@@ -69,28 +74,26 @@ fn read_named<'a>(
     match name {
         "set" => set(words),
         "clear" => clear(words),
-        "get" => get(words),
+        "get" => Ok(Command::Get(number(words.next())?)),
+        "at" => Ok(Command::At(number(words.next())?)),
         "spans" => spans(words),
+        "gaps" => gaps(words),
+        "help" => Ok(Command::Help),
         _ => Err(Misread::UnknownCommand),
     }
 }
 
 fn set<'a>(words: &mut SplitAsciiWhitespace<'a>) -> Result<Command<'a>, Misread> {
     let from = number(words.next())?;
-    let until = number(words.next())?;
+    let until = end(words.next())?;
     let word = words.next().ok_or(Misread::WordMissing)?;
     Ok(Command::Set(from, until, word))
 }
 
 fn clear<'a>(words: &mut SplitAsciiWhitespace<'a>) -> Result<Command<'a>, Misread> {
     let from = number(words.next())?;
-    let until = number(words.next())?;
+    let until = end(words.next())?;
     Ok(Command::Clear(from, until))
-}
-
-fn get<'a>(words: &mut SplitAsciiWhitespace<'a>) -> Result<Command<'a>, Misread> {
-    let time = number(words.next())?;
-    Ok(Command::Get(time))
 }
 
 fn spans<'a>(words: &mut SplitAsciiWhitespace<'a>) -> Result<Command<'a>, Misread> {
@@ -99,12 +102,25 @@ fn spans<'a>(words: &mut SplitAsciiWhitespace<'a>) -> Result<Command<'a>, Misrea
     Ok(Command::Spans(from, until))
 }
 
-// The number that a word says.
+fn gaps<'a>(words: &mut SplitAsciiWhitespace<'a>) -> Result<Command<'a>, Misread> {
+    let from = number(words.next())?;
+    let until = number(words.next())?;
+    Ok(Command::Gaps(from, until))
+}
+
+// The end that a word says: a number, or none if the word is `-`.
+fn end(word: Option<&str>) -> Result<Option<u64>, Misread> {
+    match word {
+        Some("-") => Ok(None),
+        word => Ok(Some(number(word)?)),
+    }
+}
+
+// The number that a word says, in digits alone.
 fn number(word: Option<&str>) -> Result<u64, Misread> {
     let word = word.ok_or(Misread::NumberMissing)?;
-    match word.parse::<u64>() {
-        Ok(number) => Ok(number),
-        Err(error) if *error.kind() == IntErrorKind::PosOverflow => Err(Misread::NumberTooLarge),
-        Err(_) => Err(Misread::NotANumber),
+    if !word.bytes().all(|byte| byte.is_ascii_digit()) {
+        return Err(Misread::NotANumber);
     }
+    word.parse::<u64>().map_err(|_| Misread::NumberTooLarge)
 }

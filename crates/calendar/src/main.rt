@@ -1,28 +1,36 @@
 //! A calendar of words: reads commands from standard input, one a line, and answers each on standard output.
 #![tactic(auto)]
 
-mod calendar;
+mod answers;
 mod command;
 
-use calendar::Calendar;
-use command::{Command, Fault};
+use answers::{Calendar, obey};
+use command::Fault;
 use command_line::{Request, WRONG_USAGE};
-use std::io;
-use std::io::{BufRead, BufReader, ErrorKind};
+use std::alloc::Global;
+use std::io::{BufRead, BufReader, BufWriter, Write};
 use std::process::ExitCode;
+use std::{io, str};
+use timeline::Timeline;
 
-/// What `--help` prints.
+/// What `--help` and `help` print.
 const HELP: &str = "\
 usage: calendar < COMMANDS
 
 Reads one command per line and answers each:
 
   set FROM UNTIL WORD   the word holds from FROM until before UNTIL
-  clear FROM UNTIL      no word holds there
+  set FROM - WORD       the word holds from FROM on
+  clear FROM UNTIL      no word holds there; - for UNTIL: from FROM on
   get TIME              the word at a time
+  at TIME               the whole span around a time; - if it has no end
   spans FROM UNTIL      a line for each span in that time
+  gaps FROM UNTIL       a line for each gap in that time
+  help                  this text
 
 A bad line is answered by `line N: REASON` and changes nothing. The last line has totals.
+Answers are written as soon as no whole line is left to be read: at a terminal and
+from a pipe after each line, from a file in blocks.
 Exit status: 0; 1 if reading or writing failed; 64 on wrong usage.
 ";
 
@@ -34,62 +42,48 @@ struct Figures {
     bad: u64,
 }
 
-/// Writes the stretches of words from one time until before another, one a line.
-fn tell_spans(rt: &impl Print, calendar: &Calendar, from: u64, until: u64) -> io::Result<()> {
-    let mut is_free = true;
-    for span in calendar.times.spans(from, until) {
-        let (from, until, word) = (span.from, span.until, calendar.word(span.value));
-        println!(rt; "{from} {until} {word}")?;
-        is_free = false;
-    }
-    if is_free {
-        println!(rt; "no word")?;
+/// Obeys a line, and answers it. A line that can't be obeyed is reported by its number and changes nothing.
+fn answer<W: Write>(
+    alloc: Global,
+    out: &mut W,
+    calendar: &mut Calendar,
+    figures: &mut Figures,
+    line: &[u8],
+) -> io::Result<()> {
+    let outcome = match str::from_utf8(line) {
+        Ok(text) => obey(alloc, out, calendar, text),
+        Err(_) => Err(Fault::NotText),
+    };
+    match outcome {
+        Ok(true) => figures.done = figures.done.saturating_add(1),
+        Ok(false) => {}
+        Err(Fault::Device(error)) => return Err(error),
+        Err(fault) => {
+            figures.bad = figures.bad.saturating_add(1);
+            writeln!(out, "line {}: {fault}", figures.lines)?;
+        }
     }
     Ok(())
 }
 
-/// Does what a line says, and answers it.
-fn obey(rt: &(impl Print + AllocGlobal), calendar: &mut Calendar, line: &str) -> Result<(), Fault> {
-    match Command::read(line)? {
-        Command::Set(from, until, word) => {
-            let word = calendar.place_of(rt.alloc(), word)?;
-            calendar.times.set(from, until, word)?;
-            println!(rt; "done")?;
-        }
-        Command::Clear(from, until) => {
-            calendar.times.clear(from, until)?;
-            println!(rt; "done")?;
-        }
-        Command::Get(time) => match calendar.times.get(time) {
-            Some(word) => println!(rt; "{}", calendar.word(word))?,
-            None => println!(rt; "no word")?,
-        },
-        Command::Spans(from, until) => tell_spans(rt, calendar, from, until)?,
-    }
-    Ok(())
-}
-
-/// Obeys each line of standard input in turn. A line that can't be obeyed is reported by its number and changes nothing.
-fn serve(
-    rt: &(impl Input + Print + AllocGlobal),
+/// Obeys each line of standard input in turn. What was answered is written once no whole line is left in the buffer of the input.
+fn serve<W: Write>(
+    rt: &(impl Input + AllocGlobal),
+    out: &mut W,
     calendar: &mut Calendar,
     figures: &mut Figures,
 ) -> io::Result<()> {
-    for line in BufReader::new(rt.alloc(), rt.reader())?.lines(rt.alloc()) {
+    let mut input = BufReader::new(rt.alloc(), rt.reader())?;
+    let mut line = Vec::new(rt.alloc());
+    for _ in 0..u64::MAX {
+        line.clear();
+        if input.read_until(b'\n', &mut line)? == 0 {
+            break;
+        }
         figures.lines = figures.lines.saturating_add(1);
-        let outcome = match line {
-            Ok(line) if line.trim().is_empty() => continue,
-            Ok(line) => obey(rt, calendar, line.as_str()),
-            Err(error) if error.kind() == ErrorKind::InvalidData => Err(Fault::NotText),
-            Err(error) => return Err(error),
-        };
-        match outcome {
-            Ok(()) => figures.done = figures.done.saturating_add(1),
-            Err(Fault::Device(error)) => return Err(error),
-            Err(fault) => {
-                figures.bad = figures.bad.saturating_add(1);
-                println!(rt; "line {}: {fault}", figures.lines)?;
-            }
+        answer(rt.alloc(), out, calendar, figures, line.as_slice())?;
+        if !input.buffer().contains(&b'\n') {
+            out.flush()?;
         }
     }
     Ok(())
@@ -97,12 +91,17 @@ fn serve(
 
 /// Serves standard input, and writes the figures as the last line.
 fn run(rt: &(impl Input + Print + AllocGlobal)) -> io::Result<()> {
-    let mut calendar = Calendar::new(rt.alloc());
+    let mut out = BufWriter::new(rt.alloc(), io::writer(rt))?;
+    let mut calendar = Timeline::new(rt.alloc());
     let mut figures = Figures::default();
-    let end = serve(rt, &mut calendar, &mut figures);
-    let (changes, words) = (calendar.times.len(), calendar.words.len());
+    let end = serve(rt, &mut out, &mut calendar, &mut figures);
     let (lines, done, bad) = (figures.lines, figures.done, figures.bad);
-    println!(rt; "lines {lines}, done {done}, bad {bad}, changes {changes}, words {words}")?;
+    writeln!(
+        out,
+        "lines {lines}, done {done}, bad {bad}, changes {}",
+        calendar.len()
+    )?;
+    out.flush()?;
     end
 }
 

@@ -1,0 +1,59 @@
+//! What a program makes of a timeline, proved from the promises of the timeline's calls alone: there is no proof file.
+#![tactic(auto)]
+
+ghost use Rattle.std.specs.Prelude.{◌≡◌, ◌≤◌, ◌<◌, ◌+◌, ℕ, Some, None, IfSome, IfNone, IsOk, OnOk, OnErr, length};
+ghost use Rattle.std.specs.Option.{option_copied};
+ghost use Rattle.timeline.specs.Timeline.{value_at, HasNone, HasValues, HasRoomFor, IsNextGap};
+
+use std::alloc::Allocator;
+use timeline::{Gap, ReallocationError, Text, Timeline};
+
+/// Who is on duty at each time.
+pub type Shifts<A> = Timeline<Text<A>, A>;
+
+/// The first gap from one time until another: nobody is on duty then, and somebody always before.
+pub fn next_gap<A: Allocator + Copy>(shifts: &Shifts<A>, from: u64, until: u64) -> Option<Gap>
+    ensures gap { IfSome result (λ gap. IsNextGap shifts.now.changes from until gap) }
+    ensures none { IfNone result (HasValues shifts.now.changes from until) }
+{
+    shifts.gaps(from, until).next()
+}
+
+/// The time until which the one on duty now stays; `None` if that is for ever, or nobody is.
+pub fn end_of_shift<A: Allocator + Copy>(shifts: &Shifts<A>, now: u64) -> Option<u64>
+    ensures later { IfSome result (λ end. now < end) }
+    ensures same { IfSome result (λ end. (t : ℕ) → now ≤ t → t < end
+        → value_at shifts.now.changes t ≡ value_at shifts.now.changes now) }
+{
+    shifts.next_change(now)
+}
+
+/// Puts somebody on duty. On `Err` everybody has the shifts as before.
+pub fn put<A: Allocator + Copy>(
+    shifts: &mut Shifts<A>,
+    from: u64,
+    until: u64,
+    who: Text<A>,
+) -> Result<(), ReallocationError>
+    ensures within { OnOk result ((t : ℕ) → from ≤ t → t < until
+        → value_at shifts.new.changes t ≡ Some who) }
+    ensures before { OnOk result ((t : ℕ) → t < from
+        → value_at shifts.new.changes t ≡ value_at shifts.old.changes t) }
+    ensures err { OnErr result (shifts.new ≡ shifts.old) }
+{
+    shifts.set(from, until, who)
+}
+
+/// Sets a rate, for which room was reserved: that never fails.
+pub fn set_reserved<A: Allocator>(rates: &mut Timeline<u64, A>, from: u64, rate: u64)
+    requires { HasRoomFor 1 rates.old }
+    ensures { (t : ℕ) → from ≤ t → value_at rates.new.changes t ≡ Some rate }
+{
+    // with its length a timeline tells what holds of it
+    let _ = rates.len();
+    match rates.set_from(from, rate) {
+        Ok(()) => {}
+        Err(ReallocationError::BeyondMaxCapacity) => unreachable!(),
+        Err(ReallocationError::AllocError) => unreachable!(),
+    }
+}
