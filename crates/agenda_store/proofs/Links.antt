@@ -147,6 +147,6 @@ alike a b = elim (cases_eq a b) [
 abbrev pub with_jobs : ℕ → List Job → Plan
 with_jobs next jobs = record { jobs = jobs; next = next }
 
--- an entry as it is shown
+-- the deadline and the bytes of an entry
 abbrev pub told_entry : ℕ × Entry → ℕ × List ℕ
 told_entry x = (x.0, x.1.1.items)

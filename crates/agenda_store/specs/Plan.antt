@@ -61,7 +61,7 @@ abbrev pub first_deadline : List Job → Option ℕ
 first_deadline [] = None
 first_deadline (first ∷ jobs) = Some first.deadline
 
--- a job as it is shown: its deadline and its bytes
+-- the deadline and the bytes of a job
 abbrev pub told : Job → ℕ × List ℕ
 told job = (job.deadline, job.bytes)
 

@@ -1,0 +1,86 @@
+//! What a line says, and what may be wrong with it.
+
+use std::num::IntErrorKind;
+use std::str::SplitAsciiWhitespace;
+use thiserror::Error;
+
+/// What a line says: a job with its deadline, what becomes of one by its number, or what it asks.
+#[derive(Clone, Copy)]
+pub enum Command<'a> {
+    At(u64, &'a str),
+    Cancel(u64),
+    Move(u64, u64),
+    Due(u64),
+    Next,
+    Help,
+}
+
+/// Why a line is no command.
+#[derive(Debug, Clone, Copy, PartialEq, Eq, Drop, Error)]
+pub enum Misread {
+    #[error("unknown command")]
+    UnknownCommand,
+    #[error("a number is missing")]
+    NumberMissing,
+    #[error("not a number")]
+    NotANumber,
+    #[error("a number is too large")]
+    NumberTooLarge,
+    #[error("a name is missing")]
+    NameMissing,
+    #[error("a name of more than 65527 bytes")]
+    NameTooLong,
+    #[error("a word too many")]
+    WordTooMany,
+}
+
+impl<'a> Command<'a> {
+    /// What a line says.
+    pub fn read(line: &'a str) -> Result<Command<'a>, Misread> {
+        let mut words = line.split_ascii_whitespace();
+        let word = words.next().unwrap_or("");
+        let command = read_named(word, &mut words)?;
+        match words.next() {
+            None => Ok(command),
+            Some(_) => Err(Misread::WordTooMany),
+        }
+    }
+}
+
+// The command of this name, with what follows.
+fn read_named<'a>(
+    name: &str,
+    words: &mut SplitAsciiWhitespace<'a>,
+) -> Result<Command<'a>, Misread> {
+    match name {
+        "at" => at(words),
+        "cancel" => Ok(Command::Cancel(number(words.next())?)),
+        "move" => move_to(words),
+        "due" => Ok(Command::Due(number(words.next())?)),
+        "next" => Ok(Command::Next),
+        "help" => Ok(Command::Help),
+        _ => Err(Misread::UnknownCommand),
+    }
+}
+
+fn at<'a>(words: &mut SplitAsciiWhitespace<'a>) -> Result<Command<'a>, Misread> {
+    let deadline = number(words.next())?;
+    let name = words.next().ok_or(Misread::NameMissing)?;
+    Ok(Command::At(deadline, name))
+}
+
+fn move_to<'a>(words: &mut SplitAsciiWhitespace<'a>) -> Result<Command<'a>, Misread> {
+    let id = number(words.next())?;
+    let deadline = number(words.next())?;
+    Ok(Command::Move(id, deadline))
+}
+
+// The number that a word says.
+fn number(word: Option<&str>) -> Result<u64, Misread> {
+    let word = word.ok_or(Misread::NumberMissing)?;
+    match word.parse::<u64>() {
+        Ok(number) => Ok(number),
+        Err(error) if *error.kind() == IntErrorKind::PosOverflow => Err(Misread::NumberTooLarge),
+        Err(_) => Err(Misread::NotANumber),
+    }
+}

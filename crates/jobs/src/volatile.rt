@@ -1,0 +1,50 @@
+//! `Volatile`: a file in memory that ends with the program.
+
+ghost use Rattle.std.specs.Prelude.{false, []};
+ghost use Rattle.record_log.specs.Device.{nothing};
+
+use agenda_store::{Device, DeviceError};
+use std::alloc::Global;
+
+/// A file in memory that ends with the program. Its contract promises nothing.
+#[derive(Drop)]
+pub struct Volatile {
+    pub bytes: Vec<u8>,
+}
+
+impl Device for Volatile {
+    ghost is_modelled = { false };
+
+    ghost seen = { λ _. [] };
+
+    ghost may_leave = { λ _ _. ⊥ };
+
+    ghost moment = { λ _. 0 };
+
+    ghost left_since = { λ _ _ _. ⊥ };
+
+    ghost faults = { λ _. 0 };
+
+    ghost counts_now = { λ wrong. nothing wrong };
+
+    ghost only_now = { λ wrong. nothing wrong };
+
+    fn read(&mut self, alloc: Global) -> Result<Vec<u8>, DeviceError> {
+        Ok(self.bytes.to_vec(alloc)?)
+    }
+
+    fn write_at(&mut self, at: usize, bytes: &[u8]) -> Result<(), DeviceError> {
+        self.bytes.truncate(at);
+        self.bytes.extend_from_slice(bytes)?;
+        Ok(())
+    }
+
+    fn cut(&mut self, len: usize) -> Result<(), DeviceError> {
+        self.bytes.truncate(len);
+        Ok(())
+    }
+
+    fn sync(&mut self) -> Result<(), DeviceError> {
+        Ok(())
+    }
+}
