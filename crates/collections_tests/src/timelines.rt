@@ -2,7 +2,7 @@
 use crate::agendas::rest_of;
 use linked_list_allocator::LocalHeap;
 use std::alloc::Global;
-use timeline::{ReallocationError, Span, Timeline};
+use timeline::{ReallocationError, Span, Text, Timeline};
 
 type Numbers<A = Global> = Timeline<u8, A>;
 
@@ -18,8 +18,8 @@ fn put(numbers: &mut Numbers, setting: Setting) -> Result<(), ReallocationError>
 }
 
 /// Returns whether a span has this beginning, end and value.
-fn is_span(span: &Span<u8>, (from, until, value): (u64, u64, u8)) -> bool {
-    span.from == from && span.until == until && span.value == value
+fn is_span(span: &Span<&u8>, (from, until, value): (u64, u64, u8)) -> bool {
+    span.from == from && span.until == until && *span.value == value
 }
 
 /// Returns whether the first span in a stretch of time is this one, if any.
@@ -118,98 +118,164 @@ fn stretches_are_cut_at_the_time_that_is_asked_for(rt: HostRuntime) {
     }
 }
 
-/// The number of times that the tests with many settings check.
-const TIMES: usize = 7;
-
-/// Gives the times in between their value.
-fn put_plainly(values: &mut [Option<u8>; TIMES], (from, until, value): Setting) {
-    let mut time = 0u64;
-    for held in values.iter_mut() {
-        if from <= time && time < until {
-            *held = value;
-        }
-        time = time.wrapping_add(1);
-    }
+/// The times that the test of all sequences looks at: 0, 1, 2, 3 and the greatest.
+fn time(index: usize) -> u64 {
+    if index < 4 { index as u64 } else { u64::MAX }
 }
 
-/// Returns whether the values at the times from 0 on are these, and the number of changes agrees with them.
-fn has_values(numbers: &Numbers, values: &[Option<u8>; TIMES]) -> bool {
-    let (mut time, mut changes, mut before) = (0u64, 0usize, None);
-    for value in values {
-        if numbers.get(time) != *value {
-            return false;
-        }
-        if *value != before {
-            changes = changes.wrapping_add(1);
-        }
-        before = *value;
-        time = time.wrapping_add(1);
-    }
-    numbers.len() == changes
-}
+/// A setting of a plain array: from the time at one index until before the time at another, or for ever.
+type Call = (usize, Option<usize>, Option<u8>);
 
-/// Returns whether the spans agree with these values: they give each time its value, and neighbours have different values.
-fn has_stretches(numbers: &Numbers, values: &[Option<u8>; TIMES]) -> bool {
-    let mut painted = [None; TIMES];
-    let mut last = (0u64, None);
-    for span in numbers.spans(0, 7) {
-        let is_apart = (span.from, Some(span.value)) != last;
-        if span.from < last.0 || span.until <= span.from || !is_apart {
-            return false;
-        }
-        put_plainly(&mut painted, (span.from, span.until, Some(span.value)));
-        last = (span.until, Some(span.value));
-    }
-    painted == *values
-}
-
-/// Returns whether a timeline after these settings agrees with a plain list.
-fn is_plain(alloc: Global, settings: &[Setting]) -> Result<bool, ReallocationError> {
-    let mut numbers = Numbers::new(alloc);
-    let mut values = [None; TIMES];
-    for setting in settings {
-        put(&mut numbers, *setting)?;
-        put_plainly(&mut values, *setting);
-    }
-    Ok(has_values(&numbers, &values) && has_stretches(&numbers, &values))
-}
-
-/// Returns the setting with this number, of all from times below six until times up to six, to nothing, 1 or 2.
-fn setting(n: u64) -> Setting {
+/// Returns the call with this number, of all from a time until another or for ever, to nothing, 1 or 2.
+fn call(n: usize) -> Call {
     let value = match n % 3 {
         0 => None,
         1 => Some(1),
         _ => Some(2),
     };
-    ((n / 3) % 6, (n / 18) % 6 + 1, value)
+    let until = match (n / 15) % 5 {
+        0 => None,
+        index => Some(index),
+    };
+    ((n / 3) % 5, until, value)
 }
 
+/// Makes a call on a timeline.
+fn make(numbers: &mut Numbers, (from, until, value): Call) -> Result<(), ReallocationError> {
+    let from = time(from);
+    match (until, value) {
+        (Some(until), Some(value)) => numbers.set(from, time(until), value),
+        (Some(until), None) => numbers.clear(from, time(until)),
+        (None, Some(value)) => numbers.set_from(from, value),
+        (None, None) => numbers.clear_from(from),
+    }
+}
+
+/// Makes a call on a plain array.
+fn make_plainly(values: &mut [Option<u8>; 5], (from, until, value): Call) {
+    let until = until.unwrap_or(5);
+    let mut index = 0usize;
+    for held in values.iter_mut() {
+        if from <= index && index < until {
+            *held = value;
+        }
+        index = index.wrapping_add(1);
+    }
+}
+
+/// Returns whether the value at each time is that of the array, and each time without one is in a gap, unless it is the greatest.
+fn has_values(numbers: &Numbers, values: &[Option<u8>; 5]) -> bool {
+    let mut gaps = 0u64;
+    for gap in numbers.gaps(0, 4) {
+        gaps = gaps.wrapping_add(gap.until.wrapping_sub(gap.from));
+    }
+    let mut index = 0usize;
+    for value in values.iter() {
+        if numbers.get(time(index)).copied() != *value {
+            return false;
+        }
+        if index < 4 && value.is_none() {
+            gaps = gaps.wrapping_sub(1);
+        }
+        index = index.wrapping_add(1);
+    }
+    gaps == 0
+}
+
+/// Makes three calls on a timeline and a plain array. Returns whether they agree.
+fn is_plain(alloc: Global, calls: (usize, usize, usize)) -> Result<bool, ReallocationError> {
+    let mut numbers = Numbers::new(alloc);
+    let mut values = [None; 5];
+    make(&mut numbers, call(calls.0))?;
+    make(&mut numbers, call(calls.1))?;
+    make(&mut numbers, call(calls.2))?;
+    make_plainly(&mut values, call(calls.0));
+    make_plainly(&mut values, call(calls.1));
+    make_plainly(&mut values, call(calls.2));
+    Ok(has_values(&numbers, &values))
+}
+
+// The first call sets 1: 2 would be 1 by another name, and on an empty timeline clearing does nothing.
 #[test]
-fn each_two_settings(rt: HostRuntime) {
-    for first in 0..108u64 {
-        for second in 0..108u64 {
-            assert!(rt;
-                is_plain(rt.alloc(), &[setting(first), setting(second)]).expect(&rt, "memory")
-            );
+fn each_three_settings(rt: HostRuntime) {
+    for first in 0..25usize {
+        let first = first * 3 + 1;
+        for second in 0..75usize {
+            for third in 0..75usize {
+                assert!(rt; is_plain(rt.alloc(), (first, second, third)).expect(&rt, "memory"));
+            }
         }
     }
 }
 
 #[test]
-fn five_settings_in_many_orders(rt: HostRuntime) {
-    let mut n = 7u64;
-    for _ in 0..2000u64 {
-        n = n
-            .wrapping_mul(6364136223846793005)
-            .wrapping_add(1442695040888963407);
-        let mut settings = [(0, 0, None); 5];
-        let mut part = n;
-        for place in settings.iter_mut() {
-            part >>= 9;
-            *place = setting(part);
-        }
-        assert!(rt; is_plain(rt.alloc(), settings.as_slice()).expect(&rt, "memory"));
+fn whole_spans_and_changes(rt: HostRuntime) {
+    let mut day = a_day(rt.alloc()).expect(&rt, "memory");
+    day.set_from(20, 3).expect(&rt, "memory");
+    let lunch = day.span_at(12).expect(&rt, "a span");
+    assert!(rt; (lunch.from, lunch.until, *lunch.value) == (12, Some(13), 2));
+    let evening = day.span_at(u64::MAX).expect(&rt, "a span");
+    assert!(rt; (evening.from, evening.until, *evening.value) == (20, None, 3));
+    assert!(rt; day.span_at(18).is_none());
+    assert!(rt; day.next_change(12) == Some(13) && day.next_change(20).is_none());
+    let mut times = 0u64;
+    for (time, value) in day.changes() {
+        times = times.wrapping_mul(100).wrapping_add(time);
+        assert!(rt; value.is_none() == (time == 17));
     }
+    assert!(rt; times == 912131720);
+    day.reset();
+    assert!(rt; day.len() == 0 && day.get(12).is_none());
+}
+
+/// Cuts a stretch of a text in two. `None` if the text has no memory; the text then holds on.
+fn cut<'h>(
+    heap: &'h LocalHeap,
+    texts: &mut Timeline<Text<&'h LocalHeap>, &'h LocalHeap>,
+) -> Option<bool> {
+    let Ok(tea) = String::from_str(heap, "tea") else {
+        return None;
+    };
+    match texts.set(12, 13, Text::new(tea)) {
+        Ok(()) => Some(true),
+        Err(_) => Some(false),
+    }
+}
+
+/// Puts a long text and cuts it, in a heap of so many bytes. Returns how far that came.
+fn cut_in(alloc: Global, bytes: usize) -> Option<u64> {
+    let heap = LocalHeap::new(alloc, bytes).ok()?;
+    let mut texts: Timeline<Text<&LocalHeap>, &LocalHeap> = Timeline::new(&heap);
+    if texts.reserve(2).is_err() {
+        return Some(0);
+    }
+    let Ok(work) = String::from_str(&heap, "a text of more than thirty letters") else {
+        return Some(1);
+    };
+    if texts.set(9, 17, Text::new(work)).is_err() {
+        return None;
+    }
+    let is_cut = cut(&heap, &mut texts);
+    let holds = texts.get(16).map_or("", |text| text.as_str())
+        == "a text of more than thirty letters";
+    let Some(is_cut) = is_cut else {
+        return Some(2);
+    };
+    let wanted = if is_cut { 4 } else { 2 };
+    if !holds || texts.len() != wanted {
+        return None;
+    }
+    Some(if is_cut { 4 } else { 3 })
+}
+
+#[test]
+fn nothing_changes_where_a_clone_is_refused(rt: HostRuntime) {
+    let mut met = [false; 5];
+    for units in 1..60usize {
+        let reached = cut_in(rt.alloc(), units * 16).expect(&rt, "an answer that is right");
+        met[(reached % 5) as usize] = true;
+    }
+    assert!(rt; met[0] && met[1] && met[3] && met[4]);
 }
 
 /// Sets spans apart from each other until memory is refused. Returns how many were set; 10 if one isn't as it was set, or a refusal
@@ -219,7 +285,8 @@ fn set_until_refused(numbers: &mut Numbers<&LocalHeap>) -> u64 {
         let (from, until) = (n * 10, n * 10 + 5);
         let held = numbers.len();
         match numbers.set(from, until, 1) {
-            Ok(()) if numbers.get(until - 1) == Some(1) && numbers.get(until).is_none() => {}
+            Ok(()) if numbers.get(until - 1).copied() == Some(1) && numbers.get(until).is_none() =>
+                {}
             Err(ReallocationError::AllocError)
                 if numbers.len() == held && numbers.get(from).is_none() => {
                 return n;
