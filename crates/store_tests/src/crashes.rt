@@ -6,10 +6,15 @@ use crate::torn::Torn;
 use agenda_store::{Device, JobId, Store, StoreError};
 use std::alloc::Global;
 
+/// Number, deadline and length of each job after nine calls: job 1 was moved to 104, job 3 cancelled.
+const HELD: &[u8] = &[
+    6, 101, 3, 7, 102, 0, 2, 103, 0, 4, 103, 3, 1, 104, 3, 5, 104, 0,
+];
+
 /// Enough steps for a day.
 const NO_CRASH: usize = 1 << 20;
 
-// The deadlines that a store holds, each below 256, in the order in which the jobs leave, and their first letters. The store is emptied.
+// Empties a store: number, deadline and length of each job, all below 256, in the order in which they leave.
 fn contents<D: Device>(store: &mut Store<D>, found: &mut Vec<u8>) -> Result<(), StoreError>
     requires { IsSound D.is_modelled D.seen D.may_leave store.old }
 {
@@ -117,12 +122,29 @@ fn each_crash_leaves_the_agenda_before_or_after(rt: HostRuntime) {
     }
 }
 
+// The disk after an opening that stops after so many steps.
+fn reopened(alloc: Global, bytes: &[u8], steps: usize) -> Option<Torn> {
+    let disk = Torn::new(alloc, bytes, steps).ok()?;
+    match Store::open(alloc, disk) {
+        Ok(store) => Some(store.into_device()),
+        Err((_, disk)) => Some(disk),
+    }
+}
+
+#[test]
+fn each_crash_of_an_opening_leaves_the_same(rt: HostRuntime) {
+    for round in 0..980usize {
+        let (first, done) = crash(rt.alloc(), round / 14 * 10, 21).expect(&rt, "memory");
+        let again = reopened(rt.alloc(), &first.bytes, round % 14).expect(&rt, "memory");
+        assert!(rt; is_before_or_after(rt.alloc(), &again.bytes, done));
+        assert!(rt; is_before_or_after(rt.alloc(), &again.synced, done));
+    }
+}
+
 #[test]
 fn a_day_without_a_crash(rt: HostRuntime) {
     let (disk, done) = crash(rt.alloc(), NO_CRASH, 9).expect(&rt, "memory");
     assert!(rt; done == 9);
     let found = held(rt.alloc(), &disk.synced).expect(&rt, "the jobs");
-    // deadlines 103 (job 2), 104 (job 1, moved), 104 (job 7), 110 (job 3) and so on, each with number, deadline, length
-    assert!(rt; found.len() % 3 == 0);
-    assert!(rt; !found.is_empty());
+    assert!(rt; found.as_slice() == HELD);
 }
