@@ -143,7 +143,7 @@ fn change<W: Write>(
     Ok(())
 }
 
-/// Does what a line says, and answers it. An empty line says nothing.
+/// Does what a line says, and answers it.
 pub fn obey<W: Write>(
     writer: &mut W,
     exchange: &mut Exchange,

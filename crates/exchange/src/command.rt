@@ -72,11 +72,9 @@ impl Command {
 // The command of this name, with the words that follow.
 fn read_named(name: &str, words: &mut SplitAsciiWhitespace) -> Result<Command, Misread> {
     match name {
-        "buy" => priced(Side::Buy, OrderKind::Limit, words),
-        "sell" => priced(Side::Sell, OrderKind::Limit, words),
-        "post" => priced(side(words.next())?, OrderKind::PostOnly, words),
-        "ioc" => priced(side(words.next())?, OrderKind::ImmediateOrCancel, words),
-        "fok" => priced(side(words.next())?, OrderKind::FillOrKill, words),
+        "buy" => limit(Side::Buy, words),
+        "sell" => limit(Side::Sell, words),
+        "post" | "ioc" | "fok" => of_kind(name, words),
         "market" => market(words),
         _ => read_other(name, words),
     }
@@ -95,16 +93,26 @@ fn read_other(name: &str, words: &mut SplitAsciiWhitespace) -> Result<Command, M
     }
 }
 
-// An order with a price, a quantity and perhaps a tag.
-fn priced(
-    side: Side,
-    kind: fn(u64) -> OrderKind,
-    words: &mut SplitAsciiWhitespace,
-) -> Result<Command, Misread> {
+// A limit order: a price, a quantity and perhaps a tag.
+fn limit(side: Side, words: &mut SplitAsciiWhitespace) -> Result<Command, Misread> {
     let price = number(words.next())?;
     let quantity = number(words.next())?;
     let tag = tag(words)?;
-    Ok(Command::Place(side, kind(price), quantity, tag))
+    Ok(Command::Place(side, OrderKind::Limit(price), quantity, tag))
+}
+
+// An order of the kind with this name: a side, and then as a limit order.
+fn of_kind(name: &str, words: &mut SplitAsciiWhitespace) -> Result<Command, Misread> {
+    let side = side(words.next())?;
+    let price = number(words.next())?;
+    let quantity = number(words.next())?;
+    let tag = tag(words)?;
+    let kind = match name {
+        "post" => OrderKind::PostOnly(price),
+        "ioc" => OrderKind::ImmediateOrCancel(price),
+        _ => OrderKind::FillOrKill(price),
+    };
+    Ok(Command::Place(side, kind, quantity, tag))
 }
 
 fn market(words: &mut SplitAsciiWhitespace) -> Result<Command, Misread> {

@@ -9,9 +9,9 @@ use answers::{Figures, obey, report, write_totals};
 use command::Fault;
 use command_line::{Request, WRONG_USAGE};
 use exchange::Exchange;
-use std::io;
-use std::io::{BufRead, BufReader, BufWriter, ErrorKind, Read, Write};
+use std::io::{BufRead, BufReader, BufWriter, Write};
 use std::process::ExitCode;
+use std::{io, str};
 
 /// What `--help` prints, and `help` answers.
 const HELP: &str = "\
@@ -38,66 +38,50 @@ written when no whole line is left to be read.
 Exit status: 0; 1 if reading or writing failed; 64 on wrong usage.
 ";
 
-/// Writes what is in the buffer, unless a whole line is left to be read.
-fn flush_when_waiting<R: Read, W: Write>(reader: &BufReader<R>, writer: &mut W) -> io::Result<()> {
-    if reader.buffer().contains(&b'\n') {
-        return Ok(());
-    }
-    writer.flush()
-}
-
 /// Obeys a line, and answers it. A line that can't be obeyed is reported by its number and changes nothing; a blank one is passed over.
 fn answer<W: Write>(
     writer: &mut W,
     exchange: &mut Exchange,
     figures: &mut Figures,
-    line: Result<&str, Fault>,
+    line: &[u8],
 ) -> io::Result<()> {
-    figures.lines = figures.lines.saturating_add(1);
-    let outcome = match line {
-        Ok(line) if line.trim().is_empty() => return Ok(()),
-        Ok(line) => obey(writer, exchange, figures, line),
-        Err(fault) => Err(fault),
+    let outcome = match str::from_utf8(line) {
+        Ok(text) if text.trim_ascii().is_empty() => return Ok(()),
+        Ok(text) => obey(writer, exchange, figures, text),
+        Err(_) => Err(Fault::NotText),
     };
     report(writer, figures, outcome)
 }
 
-/// Obeys each line of the input in turn.
-fn serve<R: Read, W: Write>(
-    reader: &mut BufReader<R>,
+/// Obeys each line of standard input in turn. What was answered is written once no whole line is left in the buffer of the input.
+fn serve<W: Write>(
+    rt: &(impl Input + AllocGlobal),
     writer: &mut W,
     exchange: &mut Exchange,
     figures: &mut Figures,
-    line: &mut String,
 ) -> io::Result<()> {
-    loop {
+    let mut input = BufReader::new(rt.alloc(), rt.reader())?;
+    let mut line = Vec::new(rt.alloc());
+    for _ in 0..u64::MAX {
         line.clear();
-        match reader.read_line(line) {
-            Ok(0) => return Ok(()),
-            Ok(_) => answer(writer, exchange, figures, Ok(line.as_str()))?,
-            Err(error) if error.kind() == ErrorKind::InvalidData => {
-                answer(writer, exchange, figures, Err(Fault::NotText))?;
-            }
-            Err(error) => return Err(error),
+        if input.read_until(b'\n', &mut line)? == 0 {
+            break;
         }
-        flush_when_waiting(reader, writer)?;
+        figures.lines = figures.lines.saturating_add(1);
+        answer(writer, exchange, figures, line.as_slice())?;
+        if !input.buffer().contains(&b'\n') {
+            writer.flush()?;
+        }
     }
+    Ok(())
 }
 
 /// Serves standard input, and writes the totals as the last line.
 fn run(rt: &(impl Input + Print + AllocGlobal)) -> io::Result<()> {
-    let mut reader = BufReader::new(rt.alloc(), rt.reader())?;
     let mut writer = BufWriter::new(rt.alloc(), io::writer(rt))?;
     let mut exchange = Exchange::new(rt.alloc());
     let mut figures = Figures::new();
-    let mut line = String::new(rt.alloc());
-    let end = serve(
-        &mut reader,
-        &mut writer,
-        &mut exchange,
-        &mut figures,
-        &mut line,
-    );
+    let end = serve(rt, &mut writer, &mut exchange, &mut figures);
     write_totals(&mut writer, &exchange, &figures)?;
     writer.flush()?;
     end
