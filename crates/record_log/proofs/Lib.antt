@@ -1,9 +1,10 @@
+pub mod CallerLemmas
 mod Append
 mod Blocks
 mod Crash
 mod Frames
 mod Header
-mod Moments
 mod Past
 mod Reading
 mod Refusals
+mod Rewriting

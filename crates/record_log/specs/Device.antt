@@ -28,11 +28,16 @@ Follows step old new = (c : List ℕ) → new c → (d : List ℕ) × old d × s
 abbrev pub IsDurable : List ℕ → (List ℕ → Type 0) → Type 0
 IsDurable file may_leave = (c : List ℕ) → may_leave c → c ≡ file
 
+-- The file is as it was, and a crash now leaves what it might have left before.
+pub record Stays {D : Type 0} (seen : D → List ℕ) (may_leave : D → List ℕ → Type 0) (old new : D) : Type 0 where
+  pub same : seen new ≡ seen old
+  pub crash : (c : List ℕ) → may_leave new c → may_leave old c
+
 -- Time passes: a crash since t leaves what it might have left before, or what it may leave now.
-pub record Elapses (before now : ℕ) (past since : ℕ → List ℕ → Type 0) (may_leave : List ℕ → Type 0) : Type 0 where
-  pub later : before ≤ now
-  pub nothing_else : (t : ℕ) (c : List ℕ) → t ≤ before → since t c → past t c ⊎ may_leave c
-  pub keeps : (t : ℕ) (c : List ℕ) → t ≤ before → past t c → since t c
+pub record Elapses {D : Type 0} (moment : D → ℕ) (left_since : D → ℕ → List ℕ → Type 0) (may_leave : D → List ℕ → Type 0) (old new : D) : Type 0 where
+  pub later : moment old ≤ moment new
+  pub nothing_else : (t : ℕ) (c : List ℕ) → t ≤ moment old → left_since new t c → left_since old t c ⊎ may_leave new c
+  pub keeps : (t : ℕ) (c : List ℕ) → t ≤ moment old → left_since old t c → left_since new t c
 
 -- A crash at any moment from `old` to `new` leaves a file that has P.
 pub record LeavesOnly {D : Type 0} (moment : D → ℕ) (left_since : D → ℕ → List ℕ → Type 0) (old new : D) (P : List ℕ → Type 0) : Type 0 where
@@ -41,10 +46,15 @@ pub record LeavesOnly {D : Type 0} (moment : D → ℕ) (left_since : D → ℕ 
   -- the same seen from an earlier moment
   pub before : (t : ℕ) (c : List ℕ) → t ≤ moment old → left_since new t c → left_since old t c ⊎ P c
 
+-- The file is as it was, and a crash at any moment from `old` to `new` leaves what it might have left at `old`.
+pub record IsQuiet {D : Type 0} (seen : D → List ℕ) (may_leave : D → List ℕ → Type 0) (moment : D → ℕ) (left_since : D → ℕ → List ℕ → Type 0) (old new : D) : Type 0 where
+  pub stays : Stays seen may_leave old new
+  pub any_moment : LeavesOnly moment left_since old new (may_leave old)
+
 -- `Failed` has a cause: the device has failed since.
-pub record HasCause {T : Type 0} (before now : ℕ) (result : Result T DeviceError) : Type 0 where
-  pub later : before ≤ now
-  pub failed : IsErrOf result Failed → before < now
+pub record HasCause {D T : Type 0} (faults : D → ℕ) (old new : D) (result : Result T DeviceError) : Type 0 where
+  pub later : faults old ≤ faults new
+  pub failed : IsErrOf result Failed → faults old < faults new
 
 -- from what doesn't hold
 pub nothing : {A : Type 0} → IsTrue false → A

@@ -3,6 +3,7 @@ use Rattle.std.specs.Prelude.{◌≡◌, ◌≢◌, ◌⊎◌, ◌≤◌, ℕ, L
 use Rattle.std.specs.List.{AllByRecursion}
 use Rattle.std.specs.Int.{w32, to_be_bytes}
 use Rattle.record_log.specs.Checksum.{checksum}
+use Rattle.record_log.specs.declared.frame.TheConstants.{MAX_LEN}
 
 -- the first bytes of every log: "reclog", a line feed and the version
 abbrev pub header : List ℕ
@@ -19,7 +20,7 @@ blocks (bytes ∷ records) = 1 ∷ (frame bytes ++ blocks records)
 
 -- the bytes that a record may have
 abbrev pub Fits : List ℕ → Type 0
-Fits bytes = length bytes ≤ 65536
+Fits bytes = length bytes ≤ MAX_LEN
 
 -- No record begins here: the first gate is closed, or nothing is behind it.
 abbrev pub IsEnd : List ℕ → Type 0
@@ -45,3 +46,7 @@ Holds file records = ((length file ≤ 8) × (records ≡ [])) ⊎ ((take 8 file
 -- The file holds the records from before an append, or those and the new one.
 abbrev pub HoldsBeforeOrAfter : List (List ℕ) → List ℕ → List ℕ → Type 0
 HoldsBeforeOrAfter records bytes file = Holds file records ⊎ Holds file (records ++ bytes ∷ [])
+
+-- The file holds the old records or the new ones.
+abbrev pub HoldsEither : List (List ℕ) → List (List ℕ) → List ℕ → Type 0
+HoldsEither old new file = Holds file old ⊎ Holds file new

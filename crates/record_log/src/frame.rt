@@ -1,14 +1,17 @@
 //! A record as bytes: its length, its checksum and the bytes themselves.
 
-ghost use Rattle.std.specs.Prelude.{◌≡◌, ◌<◌, ◌≤◌, ◌^◌, [], ◌∷◌, ◌++◌, List, ℕ, length, IfOk, IfSome, IfNone};
+ghost use Rattle.std.specs.Prelude.{◌≡◌, ◌<◌, ◌≤◌, ◌^◌, [], ◌∷◌, ◌++◌, List, ℕ, length, IfOk, OnOk, IfSome, IfNone};
 ghost use Rattle.std.specs.Int.{w32, to_be_bytes};
 ghost use Rattle.record_log.specs.Checksum.{checksum};
 ghost use Rattle.record_log.specs.Format.{frame, Fits};
 
 use std::alloc::{AllocError, Global};
 
-/// The most bytes that a record may have.
-pub const MAX_LEN: usize = 65536;
+/// The most bytes that a record may have: 64 KiB, and 256 for numbers beside them.
+pub const MAX_LEN: usize = 65792;
+
+/// The first bytes of every log: a name, a line feed and the version.
+pub(crate) const HEADER: [u8; 8] = *b"reclog\n\x01";
 
 /// The gate in front of a record that counts.
 pub(crate) const OPEN: u8 = 1;
@@ -27,17 +30,37 @@ fn checksum_of(bytes: &[u8]) -> u32
     hash
 }
 
+/// Appends the frame of a record.
+fn push_frame(to: &mut Vec<u8>, bytes: &[u8]) -> Result<(), AllocError>
+    requires { Fits bytes.now }
+    ensures { OnOk result (to.new.items ≡ to.old.items ++ frame bytes.now) }
+{
+    to.extend_from_slice(&(bytes.len() as u32).to_be_bytes())?;
+    to.extend_from_slice(&checksum_of(bytes).to_be_bytes())?;
+    to.extend_from_slice(bytes)?;
+    Ok(())
+}
+
 /// Returns the frame of a record, and a closed gate behind it.
 pub(crate) fn framed(alloc: Global, bytes: &[u8]) -> Result<Vec<u8>, AllocError>
     requires { Fits bytes.now }
     ensures { IfOk result (λ framed. framed.items ≡ frame bytes.now ++ 0 ∷ []) }
 {
     let mut framed = Vec::new(alloc);
-    framed.extend_from_slice(&(bytes.len() as u32).to_be_bytes())?;
-    framed.extend_from_slice(&checksum_of(bytes).to_be_bytes())?;
-    framed.extend_from_slice(bytes)?;
+    push_frame(&mut framed, bytes)?;
     framed.push(CLOSED)?;
     Ok(framed)
+}
+
+/// Returns the frame of a record, and an open gate in front of it.
+pub(crate) fn block_of(alloc: Global, bytes: &[u8]) -> Result<Vec<u8>, AllocError>
+    requires { Fits bytes.now }
+    ensures { IfOk result (λ block. block.items ≡ 1 ∷ frame bytes.now) }
+{
+    let mut block = Vec::new(alloc);
+    block.push(OPEN)?;
+    push_frame(&mut block, bytes)?;
+    Ok(block)
 }
 
 fn number_at(bytes: &[u8]) -> Option<(u32, &[u8])>

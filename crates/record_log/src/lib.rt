@@ -9,6 +9,7 @@ pub mod laws;
 mod log;
 mod memory;
 mod recovery;
+mod rewrite;
 mod steps;
 
 pub use device::{Device, DeviceError};

@@ -1,19 +1,21 @@
 //! `Log`: an open log.
 
 ghost use Rattle.std.specs.Prelude.{◌≡◌, ◌⊎◌, ◌<◌, ◌≤◌, ◌^◌, [], ◌∷◌, ◌++◌, List, ℕ, IfOk, IfErr, OnOk, IsErrOf, IsTrue, length};
+ghost use Rattle.std.specs.List.{AllByRecursion};
 ghost use Rattle.record_log.specs.Device.{IsDurable, LeavesOnly};
-ghost use Rattle.record_log.specs.Format.{Fits, Holds, HoldsBeforeOrAfter};
+ghost use Rattle.record_log.specs.Format.{front, Fits, Holds, HoldsBeforeOrAfter, HoldsEither};
 ghost use Rattle.record_log.specs.Log.{contents, device_of, Keeps, IsSettled, IsDeviceError, IsRefused, HoldsTheSame};
 
 use crate::device::{Device, DeviceError};
 use crate::error::LogError;
 use crate::frame::{OPEN, framed};
 use crate::recovery::{Recovered, recover};
+use crate::rewrite::{take_place_and_sync, write_beside};
 use crate::steps::write_and_sync;
 use std::alloc::Global;
 
 /// The size from which a log takes no more records.
-const MAX_SIZE: usize = 1 << 62;
+pub(crate) const MAX_SIZE: usize = 1 << 62;
 
 /// A log of records on a device.
 #[derive(Drop)]
@@ -95,6 +97,30 @@ impl<D: Device> Log<D> {
         write_and_sync(&mut self.device, gate + 1, &behind)?;
         write_and_sync(&mut self.device, gate, &[OPEN])?;
         self.end = gate + behind.len();
+        Ok(())
+    }
+
+    /// Writes a log of these records beside the old one, and puts it in its place. Whatever records the log kept: after a crash at any moment
+    /// the file holds the old ones or these, and at `Ok` these.
+    ///
+    /// # Errors
+    ///
+    /// The file holds the old records or the new ones: open it again.
+    /// - `Device`: the device failed, or no memory was left.
+    /// - `Full`: the records take 2^62 bytes.
+    pub fn rewrite(&mut self, alloc: Global, records: &[Vec<u8>]) -> Result<(), LogError>
+        requires size { AllByRecursion Fits (contents records.now) }
+        requires settled { IsTrue D.is_modelled → IsSettled D.seen D.may_leave self.old }
+        ensures acknowledged { IsTrue D.is_modelled → OnOk result (Keeps D.seen D.may_leave self.new (contents records.now)) }
+        ensures any_moment { IsTrue D.is_modelled → (old : List (List ℕ)) → Keeps D.seen D.may_leave self.old old
+            → LeavesOnly D.moment D.left_since (device_of self.old) (device_of self.new) (HoldsEither old (contents records.now)) }
+        ensures failed { IsTrue D.is_modelled → IsErrOf result (LogError.Device DeviceError.Failed)
+            → D.faults (device_of self.old) < D.faults (device_of self.new) }
+        ensures full { IsErrOf result LogError.Full → 2 ^ 62 ≤ length (front (contents records.now)) }
+    {
+        let end = write_beside(alloc, &mut self.device, records)?;
+        take_place_and_sync(&mut self.device)?;
+        self.end = end;
         Ok(())
     }
 }

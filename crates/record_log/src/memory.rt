@@ -16,6 +16,7 @@ pub struct Memory {
     alloc: Global,
     bytes: Vec<u8>,
     past: Vec<Vec<u8>>,
+    beside: Vec<u8>,
 }
 
 impl Memory {
@@ -29,6 +30,7 @@ impl Memory {
             alloc,
             bytes,
             past: Vec::new(alloc),
+            beside: Vec::new(alloc),
         }
     }
 
@@ -64,6 +66,10 @@ impl Device for Memory {
 
     ghost may_leave = { λ m c. c ≡ m.bytes.items };
 
+    ghost beside = { λ m. m.beside.items };
+
+    ghost beside_may_leave = { λ m c. c ≡ m.beside.items };
+
     ghost moment = { λ m. length (past_of m) };
 
     ghost left_since = { WasThereSince };
@@ -94,5 +100,23 @@ impl Device for Memory {
 
     fn sync(&mut self) -> Result<(), DeviceError> {
         Ok(())
+    }
+
+    fn begin_beside(&mut self) -> Result<(), DeviceError> {
+        self.beside.clear();
+        Ok(())
+    }
+
+    fn append_beside(&mut self, bytes: &[u8]) -> Result<(), DeviceError> {
+        Ok(self.beside.extend_from_slice(bytes)?)
+    }
+
+    fn sync_beside(&mut self) -> Result<(), DeviceError> {
+        Ok(())
+    }
+
+    fn take_place(&mut self) -> Result<(), DeviceError> {
+        let next = self.beside.to_vec(self.alloc)?;
+        Ok(turn(self.alloc, &mut self.bytes, &mut self.past, next)?)
     }
 }

@@ -8,12 +8,9 @@ ghost use Rattle.record_log.specs.Log.{contents, IsReadTo, IsLaidOut, IsAtRest, 
 
 use crate::device::{Device, DeviceError};
 use crate::error::LogError;
-use crate::frame::{OPEN, split_frame};
+use crate::frame::{HEADER, OPEN, split_frame};
 use crate::steps::{read_durable, seal, write_and_sync};
 use std::alloc::Global;
-
-/// The first bytes of every log: a name, a line feed and the version.
-const HEADER: [u8; 8] = *b"reclog\n\x01";
 
 /// The records of a file, and where the last one ends.
 #[derive(Drop)]

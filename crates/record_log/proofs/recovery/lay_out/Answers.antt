@@ -3,7 +3,7 @@ use Rattle.std.proofs.lemmas.Result.{IfOk-weaker}
 use Rattle.record_log.specs.Format.{Holds}
 use Rattle.record_log.specs.Log.{contents, IsRefused}
 use Rattle.record_log.proofs.Header.{laid_out_holds, short_holds}
-use Rattle.record_log.proofs.Moments.{weaker}
+use Rattle.record_log.proofs.CallerLemmas.{weaker}
 use Rattle.record_log.proofs.recovery.lay_out.Goals as goal
 
 pub returns-then-bytes-le8-clause-any_moment : goal.returns-then-bytes-le8-clause-any_moment

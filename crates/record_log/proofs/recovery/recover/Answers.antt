@@ -4,7 +4,7 @@ use Rattle.record_log.specs.Device.{LeavesOnly}
 use Rattle.record_log.specs.Format.{Holds}
 use Rattle.record_log.specs.Log.{contents, IsLaidOut, IsPartlySealed, IsRefused, HoldsTheSame}
 use Rattle.record_log.proofs.Header.{sealed_holds, holds_one}
-use Rattle.record_log.proofs.Moments.{weaker, then}
+use Rattle.record_log.proofs.CallerLemmas.{weaker, then}
 use Rattle.record_log.proofs.recovery.recover.Goals as goal
 
 module _ {D : Type 0} (moment : D → ℕ) (left_since : D → ℕ → List ℕ → Type 0) (seen : D → List ℕ) where

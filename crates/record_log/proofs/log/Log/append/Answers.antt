@@ -2,7 +2,7 @@ use Rattle.std.proofs.Common.{◌∙◌, arith}
 use Rattle.record_log.specs.Format.{HoldsBeforeOrAfter}
 use Rattle.record_log.proofs.Append.{first_torn, staged, second_torn, opened, new_end}
 use Rattle.record_log.proofs.Blocks.{fits-push}
-use Rattle.record_log.proofs.Moments.{weaker, then}
+use Rattle.record_log.proofs.CallerLemmas.{weaker, then}
 use Rattle.record_log.proofs.log.Log.append.Goals as goal
 
 pub returns-in_err-write_and_sync-clause-any_moment : goal.returns-in_err-write_and_sync-clause-any_moment

@@ -1,4 +1,4 @@
--- Steps one after another, and a crash during any of them.
+-- For crates above: calls one after another, and a crash during any of them.
 use Rattle.std.proofs.Common.{inl, inr, ⊎_elim, ℕ, List, arith}
 use Rattle.record_log.specs.Device.{LeavesOnly}
 
@@ -10,7 +10,7 @@ module _ {D : Type 0} (moment : D → ℕ) (left_since : D → ℕ → List ℕ 
     before = λ t c le left. ⊎_elim (λ past. inl past) (λ p. inr (implies c p)) (leaves.before t c le left);
   }
 
-  -- two steps
+  -- two calls
   pub then : (old mid new : D) (P : List ℕ → Type 0) → LeavesOnly moment left_since old mid P → LeavesOnly moment left_since mid new P → LeavesOnly moment left_since old new P
   then old mid new P first second = record {
     later = omega (arith, first.later, second.later);
