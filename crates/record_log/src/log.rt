@@ -123,4 +123,23 @@ impl<D: Device> Log<D> {
         self.end = end;
         Ok(())
     }
+
+    /// Asks the device once more to put the file on the disk, for a device that delays its syncs. The log stays as it is, also on `Err`.
+    ///
+    /// # Errors
+    ///
+    /// `Device`: the device failed.
+    pub fn flush(&mut self) -> Result<(), LogError>
+        ensures file { IsTrue D.is_modelled → D.seen (device_of self.new) ≡ D.seen (device_of self.old) }
+        ensures keeps { IsTrue D.is_modelled → (records : List (List ℕ)) → Keeps D.seen D.may_leave self.old records
+            → Keeps D.seen D.may_leave self.new records }
+        ensures any_moment { IsTrue D.is_modelled → (records : List (List ℕ)) → Keeps D.seen D.may_leave self.old records
+            → LeavesOnly D.moment D.left_since (device_of self.old) (device_of self.new) (λ c. Holds c records) }
+        ensures failed { IsTrue D.is_modelled → IsErrOf result (LogError.Device DeviceError.Failed)
+            → D.faults (device_of self.old) < D.faults (device_of self.new) }
+        ensures full { IsErrOf result LogError.Full → ⊥ }
+    {
+        self.device.sync()?;
+        Ok(())
+    }
 }
