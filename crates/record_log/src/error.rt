@@ -17,8 +17,8 @@ pub enum LogError {
     /// The file is at the limit of 2^62 bytes.
     #[error("the log is full")]
     Full,
-    /// The file doesn't begin like a log.
-    #[error("the file is no log")]
+    /// The file doesn't begin like a log of this version.
+    #[error("the file is no log of this version")]
     NotALog,
     /// A record's bytes don't have its checksum, or are cut short.
     #[error("the log is corrupt")]

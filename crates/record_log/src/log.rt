@@ -130,6 +130,8 @@ impl<D: Device> Log<D> {
     ///
     /// `Device`: the device failed.
     pub fn flush(&mut self) -> Result<(), LogError>
+        ensures durable { IsTrue D.is_modelled → OnOk result
+            (IsDurable (D.seen (device_of self.new)) (D.may_leave (device_of self.new))) }
         ensures file { IsTrue D.is_modelled → D.seen (device_of self.new) ≡ D.seen (device_of self.old) }
         ensures keeps { IsTrue D.is_modelled → (records : List (List ℕ)) → Keeps D.seen D.may_leave self.old records
             → Keeps D.seen D.may_leave self.new records }
