@@ -12,6 +12,8 @@ pub enum Command<'a> {
     Move(u64, u64),
     Due(u64),
     Next,
+    List,
+    Compact,
     Help,
 }
 
@@ -28,8 +30,6 @@ pub enum Misread {
     NumberTooLarge,
     #[error("a name is missing")]
     NameMissing,
-    #[error("a name of more than 65527 bytes")]
-    NameTooLong,
     #[error("a word too many")]
     WordTooMany,
 }
@@ -58,6 +58,8 @@ fn read_named<'a>(
         "move" => move_to(words),
         "due" => Ok(Command::Due(number(words.next())?)),
         "next" => Ok(Command::Next),
+        "list" => Ok(Command::List),
+        "compact" => Ok(Command::Compact),
         "help" => Ok(Command::Help),
         _ => Err(Misread::UnknownCommand),
     }

@@ -3,13 +3,14 @@
 
 mod command;
 mod options;
+mod paced;
 mod serve;
 mod volatile;
 
 use agenda_store::{FileDevice, Store, StoreError};
 use options::Options;
+use paced::{Pace, Paced};
 use serve::{HELP, serve};
-use std::fs::OpenOptions;
 use std::io;
 use std::process::ExitCode;
 use volatile::Volatile;
@@ -17,55 +18,60 @@ use volatile::Volatile;
 /// The exit status on wrong usage.
 const WRONG_USAGE: u8 = 64;
 
+/// The exit status if reading or writing failed.
+const FAILURE: u8 = 1;
+
 /// The exit status if the file can't be opened as an agenda.
 const NO_AGENDA: u8 = 65;
 
-/// Says why a file can't be opened.
-fn refuse(rt: &HostRuntime, error: StoreError) -> io::Result<ExitCode> {
+/// Says what is wrong, and returns an exit status.
+fn refuse(rt: &HostRuntime, status: u8, error: StoreError) -> io::Result<ExitCode> {
     eprintln!(rt; "jobs: {error}")?;
-    Ok(ExitCode::from(NO_AGENDA))
+    Ok(ExitCode::from(status))
 }
 
 /// Serves standard input, over a file.
-fn keep(rt: &HostRuntime, path: &str) -> io::Result<ExitCode> {
-    let file = OpenOptions::new()
-        .read(true)
-        .write(true)
-        .create(true)
-        .open(rt, path)?;
-    match Store::open(rt.alloc(), FileDevice::new(file)) {
-        Ok(mut store) => {
-            serve(rt, &mut store)?;
-            Ok(ExitCode::SUCCESS)
-        }
-        Err((error, _)) => refuse(rt, error),
+fn keep(rt: &HostRuntime, path: &str, pace: Pace) -> io::Result<ExitCode> {
+    let device = Paced::new(FileDevice::open(rt, path)?, pace);
+    let mut store = match Store::open(rt.alloc(), device) {
+        Ok(store) => store,
+        Err((error, _)) => return refuse(rt, NO_AGENDA, error),
+    };
+    // What opening wrote isn't put off.
+    if let Err(error) = store.flush() {
+        return refuse(rt, NO_AGENDA, error);
     }
+    let served = serve(rt, &mut store, matches!(pace, Pace::Line));
+    if store.is_open() {
+        if let Err(error) = store.flush() {
+            return refuse(rt, FAILURE, error);
+        }
+    }
+    served?;
+    Ok(ExitCode::SUCCESS)
 }
 
 /// Serves standard input, in memory.
 fn remember(rt: &HostRuntime) -> io::Result<ExitCode> {
-    let device = Volatile {
-        bytes: Vec::new(rt.alloc()),
-    };
-    match Store::open(rt.alloc(), device) {
+    match Store::open(rt.alloc(), Volatile::new(rt.alloc())) {
         Ok(mut store) => {
-            serve(rt, &mut store)?;
+            serve(rt, &mut store, false)?;
             Ok(ExitCode::SUCCESS)
         }
-        Err((error, _)) => refuse(rt, error),
+        Err((error, _)) => refuse(rt, NO_AGENDA, error),
     }
 }
 
 fn main(rt: HostRuntime) -> io::Result<ExitCode> {
     match Options::read(&rt)? {
-        Options::Memory => remember(&rt),
-        Options::File(path) => keep(&rt, path.as_str()),
-        Options::Help => {
+        Ok(Options::Memory) => remember(&rt),
+        Ok(Options::File(path, pace)) => keep(&rt, path.as_str(), pace),
+        Ok(Options::Help) => {
             print!(rt; "{HELP}")?;
             Ok(ExitCode::SUCCESS)
         }
-        Options::Unknown(argument) => {
-            eprintln!(rt; "jobs: unknown argument {argument}; try jobs --help")?;
+        Err(misuse) => {
+            eprintln!(rt; "jobs: {misuse}; try jobs --help")?;
             Ok(ExitCode::from(WRONG_USAGE))
         }
     }

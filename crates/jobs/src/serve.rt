@@ -3,14 +3,14 @@
 ghost use Rattle.agenda_store.specs.Store.{IsSound};
 
 use crate::command::{Command, Misread};
-use agenda_store::{Device, JobId, MAX_BYTES, Store, StoreError};
+use agenda_store::{Device, JobId, Store, StoreError};
 use std::io;
 use std::io::{BufRead, BufReader, ErrorKind};
 use thiserror::Error;
 
 /// What `--help` prints.
 pub const HELP: &str = "\
-usage: jobs [--file PATH] < COMMANDS
+usage: jobs [--file PATH [--sync never|line|N]] < COMMANDS
 
 Keeps jobs by deadline. With --file they survive a crash. Reads one command per line and answers each:
 
@@ -19,7 +19,13 @@ Keeps jobs by deadline. With --file they survive a crash. Reads one command per 
   move NUMBER DEADLINE  gives a job another deadline
   due NOW               takes off all jobs whose deadline is at most NOW, a line for each
   next                  the deadline of the first job
+  list                  all jobs in order, a line for each
+  compact               writes the file anew, with the jobs that are left
   help                  prints this
+
+Each change is on the disk before its answer. With --sync changes are put on the disk later: after every N, at the end of each line, or only
+at the end (never). If the process is killed, no answered change is lost. A power failure may lose changes that weren't put on the disk, or,
+as the disk may write them in another order, leave a file that is refused as corrupt.
 
 A bad line is answered by `line N: REASON` and changes nothing. If the file fails, so is that line, which may take effect or not,
 and every later change is refused: start again.
@@ -51,11 +57,7 @@ fn schedule<D: Device>(
     requires { IsSound D.is_modelled D.seen D.may_leave store.old }
     ensures { IsSound D.is_modelled D.seen D.may_leave store.new }
 {
-    let bytes = name.as_bytes();
-    if bytes.len() > MAX_BYTES {
-        return Err(Fault::Misread(Misread::NameTooLong));
-    }
-    let id = store.schedule(deadline, bytes)?;
+    let id = store.schedule(deadline, name.as_bytes())?;
     println!(rt; "{}", id.0)?;
     Ok(())
 }
@@ -89,6 +91,12 @@ fn move_to<D: Device>(
     Ok(())
 }
 
+// Answers a job.
+fn print_job(rt: &impl Print, id: JobId, deadline: u64, bytes: &[u8]) -> io::Result<()> {
+    let name = str::from_utf8(bytes).unwrap_or("?");
+    println!(rt; "{} {deadline} {name}", id.0)
+}
+
 // Takes all jobs off that are due.
 fn pop_due<D: Device>(
     rt: &(impl Print + AllocGlobal),
@@ -102,9 +110,26 @@ fn pop_due<D: Device>(
         let Some((id, deadline, bytes)) = store.pop_due(now)? else {
             break;
         };
-        let name = str::from_utf8(&bytes).unwrap_or("?");
-        println!(rt; "{} {deadline} {name}", id.0)?;
+        print_job(rt, id, deadline, &bytes)?;
     }
+    Ok(())
+}
+
+// Answers all jobs.
+fn list<D: Device>(rt: &impl Print, store: &Store<D>) -> io::Result<()> {
+    for (id, deadline, bytes) in store.iter() {
+        print_job(rt, id, deadline, bytes)?;
+    }
+    Ok(())
+}
+
+// Writes the file anew.
+fn compact<D: Device>(rt: &impl Print, store: &mut Store<D>) -> Result<(), Fault>
+    requires { IsSound D.is_modelled D.seen D.may_leave store.old }
+    ensures { IsSound D.is_modelled D.seen D.may_leave store.new }
+{
+    store.compact()?;
+    println!(rt; "done")?;
     Ok(())
 }
 
@@ -126,6 +151,8 @@ fn obey<D: Device>(
             Some(deadline) => println!(rt; "{deadline}")?,
             None => println!(rt; "no job")?,
         },
+        Command::List => list(rt, store)?,
+        Command::Compact => compact(rt, store)?,
         Command::Help => print!(rt; "{HELP}")?,
     }
     Ok(())
@@ -148,17 +175,37 @@ fn take<D: Device>(
     }
 }
 
-/// Obeys each line of standard input in turn. A line that can't be obeyed is reported by its number.
+// Does what a line says, and if asked to, puts what it changed on the disk.
+fn take_and_flush<D: Device>(
+    rt: &(impl Print + AllocGlobal),
+    store: &mut Store<D>,
+    line: io::Result<String>,
+    is_flushed: bool,
+) -> Result<(), Fault>
+    requires { IsSound D.is_modelled D.seen D.may_leave store.old }
+    ensures { IsSound D.is_modelled D.seen D.may_leave store.new }
+{
+    take(rt, store, line)?;
+    if is_flushed && store.is_open() {
+        store.flush()?;
+    }
+    Ok(())
+}
+
+/// Obeys each line of standard input in turn. A line that can't be obeyed is reported by its number. If `is_flushed`, what a line changed is
+/// put on the disk before the next is read.
 pub fn serve<D: Device>(
     rt: &(impl Input + Print + AllocGlobal),
     store: &mut Store<D>,
+    is_flushed: bool,
 ) -> io::Result<()>
     requires { IsSound D.is_modelled D.seen D.may_leave store.old }
+    ensures { IsSound D.is_modelled D.seen D.may_leave store.new }
 {
     let mut lines: u64 = 0;
     for line in BufReader::new(rt.alloc(), rt.reader())?.lines(rt.alloc()) {
         lines = lines.saturating_add(1);
-        match take(rt, store, line) {
+        match take_and_flush(rt, store, line, is_flushed) {
             Ok(()) => (),
             Err(Fault::Device(error)) => return Err(error),
             Err(fault) => println!(rt; "line {lines}: {fault}")?,

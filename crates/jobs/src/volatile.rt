@@ -5,11 +5,23 @@ ghost use Rattle.record_log.specs.Device.{nothing};
 
 use agenda_store::{Device, DeviceError};
 use std::alloc::Global;
+use std::mem::swap;
 
 /// A file in memory that ends with the program. Its contract promises nothing.
 #[derive(Drop)]
 pub struct Volatile {
-    pub bytes: Vec<u8>,
+    bytes: Vec<u8>,
+    beside: Vec<u8>,
+}
+
+impl Volatile {
+    /// Makes an empty file.
+    pub fn new(alloc: Global) -> Volatile {
+        Volatile {
+            bytes: Vec::new(alloc),
+            beside: Vec::new(alloc),
+        }
+    }
 }
 
 impl Device for Volatile {
@@ -18,6 +30,10 @@ impl Device for Volatile {
     ghost seen = { λ _. [] };
 
     ghost may_leave = { λ _ _. ⊥ };
+
+    ghost beside = { λ _. [] };
+
+    ghost beside_may_leave = { λ _ _. ⊥ };
 
     ghost moment = { λ _. 0 };
 
@@ -45,6 +61,24 @@ impl Device for Volatile {
     }
 
     fn sync(&mut self) -> Result<(), DeviceError> {
+        Ok(())
+    }
+
+    fn begin_beside(&mut self) -> Result<(), DeviceError> {
+        self.beside.clear();
+        Ok(())
+    }
+
+    fn append_beside(&mut self, bytes: &[u8]) -> Result<(), DeviceError> {
+        Ok(self.beside.extend_from_slice(bytes)?)
+    }
+
+    fn sync_beside(&mut self) -> Result<(), DeviceError> {
+        Ok(())
+    }
+
+    fn take_place(&mut self) -> Result<(), DeviceError> {
+        swap(&mut self.bytes, &mut self.beside);
         Ok(())
     }
 }

@@ -1,8 +1,8 @@
-//! A day of calls, and a crash at each step of it.
+//! A day of calls with compactions among them, and a crash at each step of it.
 
 ghost use Rattle.agenda_store.specs.Store.{IsSound};
 
-use crate::torn::Torn;
+use crate::torn::{NO_CRASH, Torn};
 use agenda_store::{Device, JobId, Store, StoreError};
 use std::alloc::Global;
 
@@ -11,24 +11,18 @@ const HELD: &[u8] = &[
     6, 101, 3, 7, 102, 0, 2, 103, 0, 4, 103, 3, 1, 104, 3, 5, 104, 0,
 ];
 
-/// Enough steps for a day.
-const NO_CRASH: usize = 1 << 20;
+/// How many calls a day has.
+const CALLS: usize = 200;
 
-// Empties a store: number, deadline and length of each job, all below 256, in the order in which they leave.
-fn contents<D: Device>(store: &mut Store<D>, found: &mut Vec<u8>) -> Result<(), StoreError>
-    requires { IsSound D.is_modelled D.seen D.may_leave store.old }
-{
-    for _ in 0..64 {
-        match store.pop_due(255)? {
-            Some((id, deadline, bytes)) => {
-                found.push((id.0 % 256) as u8)?;
-                found.push((deadline % 256) as u8)?;
-                found.push((bytes.len() % 256) as u8)?;
-            }
-            None => return Ok(()),
-        }
+// Number, deadline and length of each job, all below 256, in the order in which they leave.
+fn contents<D: Device>(alloc: Global, store: &Store<D>) -> Option<Vec<u8>> {
+    let mut found = Vec::new(alloc);
+    for (id, deadline, bytes) in store.iter() {
+        found.push((id.0 % 256) as u8).ok()?;
+        found.push((deadline % 256) as u8).ok()?;
+        found.push((bytes.len() % 256) as u8).ok()?;
     }
-    Ok(())
+    Some(found)
 }
 
 // One call of the day.
@@ -50,17 +44,20 @@ fn call<D: Device>(store: &mut Store<D>, number: u64) -> Result<(), StoreError>
             store.cancel(JobId(number / 3 + 1))?;
         }
     }
+    if number % 31 == 30 {
+        store.compact()?;
+    }
     Ok(())
 }
 
 // The first calls of the day, as far as the disk goes. How many returned `Ok`.
-fn day<D: Device>(store: &mut Store<D>, calls: u64) -> u64
+fn day<D: Device>(store: &mut Store<D>, calls: usize) -> usize
     requires { IsSound D.is_modelled D.seen D.may_leave store.old }
     ensures { IsSound D.is_modelled D.seen D.may_leave store.new }
 {
-    let mut done = 0u64;
+    let mut done = 0usize;
     for number in 0..calls {
-        if call(store, number).is_err() {
+        if call(store, number as u64).is_err() {
             break;
         }
         done = done.saturating_add(1);
@@ -71,80 +68,129 @@ fn day<D: Device>(store: &mut Store<D>, calls: u64) -> u64
 // What an open file holds.
 fn held(alloc: Global, bytes: &[u8]) -> Option<Vec<u8>> {
     let disk = Torn::new(alloc, bytes, NO_CRASH).ok()?;
-    let mut store = Store::open(alloc, disk).ok()?;
-    let mut found = Vec::new(alloc);
-    contents(&mut store, &mut found).ok()?;
-    Some(found)
+    let store = Store::open(alloc, disk).ok()?;
+    contents(alloc, &store)
 }
 
 // What the store holds after so many calls with no crash.
-fn expected(alloc: Global, calls: u64) -> Option<Vec<u8>> {
+fn expected(alloc: Global, calls: usize) -> Option<Vec<u8>> {
     let disk = Torn::new(alloc, b"", NO_CRASH).ok()?;
     let mut store = Store::open(alloc, disk).ok()?;
     if day(&mut store, calls) != calls {
         return None;
     }
-    let mut found = Vec::new(alloc);
-    contents(&mut store, &mut found).ok()?;
-    Some(found)
+    contents(alloc, &store)
 }
 
-// The disk after a day that stops after so many steps, and how many calls returned.
-fn crash(alloc: Global, steps: usize, calls: u64) -> Option<(Torn, u64)> {
-    let disk = Torn::new(alloc, b"", steps).ok()?;
+// What the store holds after each number of calls.
+fn whole_day(alloc: Global) -> Option<Vec<Vec<u8>>> {
+    let mut days = Vec::new(alloc);
+    for calls in 0..=CALLS {
+        days.push(expected(alloc, calls)?).ok()?;
+    }
+    Some(days)
+}
+
+// The disk after a day on it, and how many calls returned.
+fn day_on(alloc: Global, disk: Torn) -> (Torn, usize) {
     match Store::open(alloc, disk) {
         Ok(mut store) => {
-            let done = day(&mut store, calls);
-            Some((store.into_device(), done))
+            let done = day(&mut store, CALLS);
+            (store.into_device(), done)
         }
-        Err((_, disk)) => Some((disk, 0)),
+        Err((_, disk)) => (disk, 0),
     }
 }
 
-// Whether a file holds the agenda after so many calls, or after one more.
-fn is_before_or_after(alloc: Global, bytes: &[u8], done: u64) -> bool {
-    let (Some(found), Some(before), Some(after)) = (
-        held(alloc, bytes),
-        expected(alloc, done),
-        expected(alloc, done.saturating_add(1)),
-    ) else {
-        return false;
-    };
-    found.as_slice() == before.as_slice() || found.as_slice() == after.as_slice()
+// The disk after a day that stops after so many steps, and how many calls returned.
+fn crash(alloc: Global, steps: usize) -> Option<(Torn, usize)> {
+    let disk = Torn::new(alloc, b"", steps).ok()?;
+    Some(day_on(alloc, disk))
+}
+
+// Whether all that a crash may leave of a disk holds the agenda after so many calls, or after one more.
+fn is_before_or_after(alloc: Global, disk: &Torn, days: &[Vec<u8>], done: usize) -> bool {
+    for file in [&disk.bytes, &disk.synced, &disk.named] {
+        let Some(found) = held(alloc, file) else {
+            return false;
+        };
+        let is_before = days.get(done) == Some(&found);
+        let is_after = days.get(done.saturating_add(1)) == Some(&found);
+        if !is_before && !is_after {
+            return false;
+        }
+    }
+    true
+}
+
+// Whether a day that stops after so many steps leaves the agenda before or after, and whether it stops before its end.
+fn stops(alloc: Global, days: &[Vec<u8>], steps: usize) -> Option<bool> {
+    let (disk, done) = crash(alloc, steps)?;
+    is_before_or_after(alloc, &disk, days, done).then_some(done < CALLS)
 }
 
 #[test]
 fn each_crash_leaves_the_agenda_before_or_after(rt: HostRuntime) {
-    for steps in 0..700usize {
-        let (disk, done) = crash(rt.alloc(), steps, 21).expect(&rt, "memory");
-        assert!(rt; is_before_or_after(rt.alloc(), &disk.bytes, done));
-        assert!(rt; is_before_or_after(rt.alloc(), &disk.synced, done));
+    let days = whole_day(rt.alloc()).expect(&rt, "a day");
+    for steps in 0..NO_CRASH {
+        if !stops(rt.alloc(), &days, steps).expect(&rt, "before or after") {
+            return;
+        }
     }
 }
 
-// The disk after an opening that stops after so many steps.
-fn reopened(alloc: Global, bytes: &[u8], steps: usize) -> Option<Torn> {
-    let disk = Torn::new(alloc, bytes, steps).ok()?;
-    match Store::open(alloc, disk) {
-        Ok(store) => Some(store.into_device()),
-        Err((_, disk)) => Some(disk),
-    }
+// Whether an opening that stops after so many steps leaves what an earlier crash left.
+fn reopening_leaves_it(alloc: Global, days: &[Vec<u8>], first: usize, second: usize) -> bool {
+    let Some((disk, done)) = crash(alloc, first) else {
+        return false;
+    };
+    let Ok(again) = Torn::new(alloc, &disk.named, second) else {
+        return false;
+    };
+    let again = match Store::open(alloc, again) {
+        Ok(store) => store.into_device(),
+        Err((_, disk)) => disk,
+    };
+    is_before_or_after(alloc, &again, days, done)
 }
 
 #[test]
 fn each_crash_of_an_opening_leaves_the_same(rt: HostRuntime) {
-    for round in 0..980usize {
-        let (first, done) = crash(rt.alloc(), round / 14 * 10, 21).expect(&rt, "memory");
-        let again = reopened(rt.alloc(), &first.bytes, round % 14).expect(&rt, "memory");
-        assert!(rt; is_before_or_after(rt.alloc(), &again.bytes, done));
-        assert!(rt; is_before_or_after(rt.alloc(), &again.synced, done));
+    let days = whole_day(rt.alloc()).expect(&rt, "a day");
+    for round in 0..1400usize {
+        assert!(rt; reopening_leaves_it(rt.alloc(), &days, round / 14 * 10, round % 14));
+    }
+}
+
+// The disk after a day in which a call of the disk fails, how many calls returned, and whether the store is closed until it is opened again.
+fn failure(alloc: Global, calls: usize) -> Option<(Torn, usize, bool)> {
+    let mut disk = Torn::new(alloc, b"", NO_CRASH).ok()?;
+    disk.calls = calls;
+    match Store::open(alloc, disk) {
+        Ok(mut store) => {
+            let done = day(&mut store, CALLS);
+            let is_closed = call(&mut store, 0) == Err(StoreError::Closed);
+            Some((store.into_device(), done, is_closed))
+        }
+        Err((_, disk)) => Some((disk, 0, true)),
+    }
+}
+
+#[test]
+fn each_call_of_the_disk_may_fail(rt: HostRuntime) {
+    let days = whole_day(rt.alloc()).expect(&rt, "a day");
+    for calls in 0..NO_CRASH {
+        let (disk, done, is_closed) = failure(rt.alloc(), calls).expect(&rt, "memory");
+        assert!(rt; is_before_or_after(rt.alloc(), &disk, &days, done));
+        if done == CALLS {
+            return;
+        }
+        assert!(rt; is_closed);
     }
 }
 
 #[test]
 fn a_day_without_a_crash(rt: HostRuntime) {
-    let (disk, done) = crash(rt.alloc(), NO_CRASH, 9).expect(&rt, "memory");
-    assert!(rt; done == 9);
-    let found = held(rt.alloc(), &disk.synced).expect(&rt, "the jobs");
+    let found = expected(rt.alloc(), 9).expect(&rt, "the jobs");
     assert!(rt; found.as_slice() == HELD);
 }

@@ -6,4 +6,6 @@ mod crashes;
 #[cfg(test)]
 mod logs;
 #[cfg(test)]
+mod rewriting;
+#[cfg(test)]
 mod torn;

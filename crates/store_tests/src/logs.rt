@@ -1,10 +1,8 @@
 //! Logs that are read again, and files that are none.
 
-use crate::torn::Torn;
+use crate::torn::{NO_CRASH, Torn};
 use record_log::{Log, LogError};
 use std::alloc::Global;
-
-const NO_CRASH: usize = 1 << 20;
 
 /// A log with the records "hi" and "", as the format says.
 const FILE: &[u8] =
