@@ -1,4 +1,4 @@
-//! A day of calls with compactions among them, and a crash at each step of it.
+//! A day of calls with compactions among them, and a crash at each step of each.
 
 ghost use Rattle.agenda_store.specs.Store.{IsSound};
 
@@ -14,6 +14,13 @@ const HELD: &[u8] = &[
 /// How many calls a day has.
 const CALLS: usize = 200;
 
+/// The file and the jobs before each call of a day, and after the last.
+#[derive(Drop)]
+struct Day {
+    files: Vec<Vec<u8>>,
+    jobs: Vec<Vec<u8>>,
+}
+
 // Number, deadline and length of each job, all below 256, in the order in which they leave.
 fn contents<D: Device>(alloc: Global, store: &Store<D>) -> Option<Vec<u8>> {
     let mut found = Vec::new(alloc);
@@ -25,39 +32,40 @@ fn contents<D: Device>(alloc: Global, store: &Store<D>) -> Option<Vec<u8>> {
     Some(found)
 }
 
-// One call of the day.
-fn call<D: Device>(store: &mut Store<D>, number: u64) -> Result<(), StoreError>
+// One call of the day. From the tenth on every third job leaves, and now and then the file is written anew.
+fn call<D: Device>(store: &mut Store<D>, number: usize) -> Result<(), StoreError>
     requires { IsSound D.is_modelled D.seen D.may_leave store.old }
     ensures { IsSound D.is_modelled D.seen D.may_leave store.new }
 {
-    match number % 7 {
+    let n = number as u64;
+    match n % 7 {
+        _ if n % 31 == 30 => store.compact()?,
+        _ if n % 3 == 2 && n > 8 => {
+            store.pop_due(255)?;
+        }
         0 | 2 | 4 => {
-            store.schedule(100 + number % 17 * 5 % 17, b"tea")?;
+            store.schedule(100 + n % 17 * 5 % 17, b"tea")?;
         }
         1 | 5 => {
-            store.schedule(100 + number % 11 * 3 % 11, b"")?;
+            store.schedule(100 + n % 11 * 3 % 11, b"")?;
         }
         3 => {
-            store.move_to(JobId(number / 2), 104)?;
+            store.move_to(JobId(n / 2), 104)?;
         }
         _ => {
-            store.cancel(JobId(number / 3 + 1))?;
+            store.cancel(JobId(n / 3 + 1))?;
         }
-    }
-    if number % 31 == 30 {
-        store.compact()?;
     }
     Ok(())
 }
 
 // The first calls of the day, as far as the disk goes. How many returned `Ok`.
-fn day<D: Device>(store: &mut Store<D>, calls: usize) -> usize
+fn calls_made<D: Device>(store: &mut Store<D>, calls: usize) -> usize
     requires { IsSound D.is_modelled D.seen D.may_leave store.old }
-    ensures { IsSound D.is_modelled D.seen D.may_leave store.new }
 {
     let mut done = 0usize;
     for number in 0..calls {
-        if call(store, number as u64).is_err() {
+        if call(store, number).is_err() {
             break;
         }
         done = done.saturating_add(1);
@@ -65,132 +73,168 @@ fn day<D: Device>(store: &mut Store<D>, calls: usize) -> usize
     done
 }
 
-// What an open file holds.
+// The file and the jobs after so many calls, from an empty file on.
+fn after(alloc: Global, calls: usize) -> Option<(Vec<u8>, Vec<u8>)> {
+    let mut store = Store::open(alloc, Torn::new(alloc, b"", NO_CRASH).ok()?).ok()?;
+    if calls_made(&mut store, calls) != calls {
+        return None;
+    }
+    let jobs = contents(alloc, &store)?;
+    Some((store.into_device().synced, jobs))
+}
+
+// A day without a crash.
+fn whole_day(alloc: Global) -> Option<Day> {
+    let mut day = Day {
+        files: Vec::new(alloc),
+        jobs: Vec::new(alloc),
+    };
+    for calls in 0..=CALLS {
+        let (file, jobs) = after(alloc, calls)?;
+        day.files.push(file).ok()?;
+        day.jobs.push(jobs).ok()?;
+    }
+    Some(day)
+}
+
+// What a file holds.
 fn held(alloc: Global, bytes: &[u8]) -> Option<Vec<u8>> {
     let disk = Torn::new(alloc, bytes, NO_CRASH).ok()?;
     let store = Store::open(alloc, disk).ok()?;
     contents(alloc, &store)
 }
 
-// What the store holds after so many calls with no crash.
-fn expected(alloc: Global, calls: usize) -> Option<Vec<u8>> {
-    let disk = Torn::new(alloc, b"", NO_CRASH).ok()?;
-    let mut store = Store::open(alloc, disk).ok()?;
-    if day(&mut store, calls) != calls {
-        return None;
+impl Day {
+    // Whether a file holds the jobs from before a call.
+    fn is_before(&self, alloc: Global, number: usize, file: &Vec<u8>) -> bool {
+        self.files.get(number) == Some(file) || self.jobs.get(number) == held(alloc, file).as_ref()
     }
-    contents(alloc, &store)
+
+    // Whether all that a crash may leave of a disk holds the jobs from before a call or from after it.
+    fn has(&self, alloc: Global, number: usize, disk: &Torn) -> bool {
+        for file in [&disk.bytes, &disk.synced, &disk.named] {
+            let next = number.saturating_add(1);
+            if !self.is_before(alloc, number, file) && !self.is_before(alloc, next, file) {
+                return false;
+            }
+        }
+        true
+    }
+
+    // A disk with the file from before a call.
+    fn disk(&self, alloc: Global, number: usize) -> Option<Torn> {
+        Torn::new(alloc, self.files.get(number)?, NO_CRASH).ok()
+    }
 }
 
-// What the store holds after each number of calls.
-fn whole_day(alloc: Global) -> Option<Vec<Vec<u8>>> {
-    let mut days = Vec::new(alloc);
-    for calls in 0..=CALLS {
-        days.push(expected(alloc, calls)?).ok()?;
-    }
-    Some(days)
-}
-
-// The disk after a day on it, and how many calls returned.
-fn day_on(alloc: Global, disk: Torn) -> (Torn, usize) {
+// Opens a store and makes a call, as far as the disk goes. Whether it returned `Ok`, and whether the store is closed.
+fn called(alloc: Global, disk: Torn, number: usize) -> (Torn, bool, bool) {
     match Store::open(alloc, disk) {
         Ok(mut store) => {
-            let done = day(&mut store, CALLS);
-            (store.into_device(), done)
+            let is_done = call(&mut store, number).is_ok();
+            let is_closed = !store.is_open();
+            (store.into_device(), is_done, is_closed)
         }
-        Err((_, disk)) => (disk, 0),
+        Err((_, disk)) => (disk, false, true),
     }
 }
 
-// The disk after a day that stops after so many steps, and how many calls returned.
-fn crash(alloc: Global, steps: usize) -> Option<(Torn, usize)> {
-    let disk = Torn::new(alloc, b"", steps).ok()?;
-    Some(day_on(alloc, disk))
+// Whether a call returned, on a disk that stops after so many steps; `None` if it didn't leave the jobs from before or after, or was done
+// and left those from before.
+fn crash(alloc: Global, day: &Day, number: usize, steps: usize) -> Option<bool> {
+    let mut disk = day.disk(alloc, number)?;
+    disk.steps = steps;
+    let (disk, is_done, _) = called(alloc, disk, number);
+    let is_right = if is_done {
+        day.has(alloc, number.saturating_add(1), &disk)
+            && day.is_before(alloc, number.saturating_add(1), &disk.synced)
+    } else {
+        day.has(alloc, number, &disk)
+    };
+    is_right.then_some(is_done)
 }
 
-// Whether all that a crash may leave of a disk holds the agenda after so many calls, or after one more.
-fn is_before_or_after(alloc: Global, disk: &Torn, days: &[Vec<u8>], done: usize) -> bool {
-    for file in [&disk.bytes, &disk.synced, &disk.named] {
-        let Some(found) = held(alloc, file) else {
-            return false;
-        };
-        let is_before = days.get(done) == Some(&found);
-        let is_after = days.get(done.saturating_add(1)) == Some(&found);
-        if !is_before && !is_after {
-            return false;
+// Whether each crash of a call leaves what it should.
+fn each_crash(alloc: Global, day: &Day, number: usize) -> bool {
+    for steps in 0..NO_CRASH {
+        match crash(alloc, day, number, steps) {
+            Some(true) => return true,
+            Some(false) => (),
+            None => return false,
         }
     }
-    true
-}
-
-// Whether a day that stops after so many steps leaves the agenda before or after, and whether it stops before its end.
-fn stops(alloc: Global, days: &[Vec<u8>], steps: usize) -> Option<bool> {
-    let (disk, done) = crash(alloc, steps)?;
-    is_before_or_after(alloc, &disk, days, done).then_some(done < CALLS)
+    false
 }
 
 #[test]
 fn each_crash_leaves_the_agenda_before_or_after(rt: HostRuntime) {
-    let days = whole_day(rt.alloc()).expect(&rt, "a day");
-    for steps in 0..NO_CRASH {
-        if !stops(rt.alloc(), &days, steps).expect(&rt, "before or after") {
-            return;
-        }
+    let day = whole_day(rt.alloc()).expect(&rt, "a day");
+    for number in 0..CALLS {
+        assert!(rt; each_crash(rt.alloc(), &day, number), "call {number}");
     }
 }
 
-// Whether an opening that stops after so many steps leaves what an earlier crash left.
-fn reopening_leaves_it(alloc: Global, days: &[Vec<u8>], first: usize, second: usize) -> bool {
-    let Some((disk, done)) = crash(alloc, first) else {
-        return false;
-    };
-    let Ok(again) = Torn::new(alloc, &disk.named, second) else {
-        return false;
-    };
-    let again = match Store::open(alloc, again) {
+// Whether an opening that stops after so many steps leaves what a crash of a call left.
+fn second_crash(
+    alloc: Global,
+    day: &Day,
+    number: usize,
+    first: usize,
+    second: usize,
+) -> Option<bool> {
+    let mut disk = day.disk(alloc, number)?;
+    disk.steps = first;
+    let (disk, _, _) = called(alloc, disk, number);
+    let mut again = Torn::new(alloc, &disk.bytes, second).ok()?;
+    again = match Store::open(alloc, again) {
         Ok(store) => store.into_device(),
         Err((_, disk)) => disk,
     };
-    is_before_or_after(alloc, &again, days, done)
+    Some(day.has(alloc, number, &again))
 }
 
 #[test]
 fn each_crash_of_an_opening_leaves_the_same(rt: HostRuntime) {
-    let days = whole_day(rt.alloc()).expect(&rt, "a day");
-    for round in 0..1400usize {
-        assert!(rt; reopening_leaves_it(rt.alloc(), &days, round / 14 * 10, round % 14));
+    let day = whole_day(rt.alloc()).expect(&rt, "a day");
+    for number in 0..CALLS {
+        for second in 0..12usize {
+            let first = number * 7 % 50;
+            assert!(rt; second_crash(rt.alloc(), &day, number, first, second) == Some(true));
+        }
     }
 }
 
-// The disk after a day in which a call of the disk fails, how many calls returned, and whether the store is closed until it is opened again.
-fn failure(alloc: Global, calls: usize) -> Option<(Torn, usize, bool)> {
-    let mut disk = Torn::new(alloc, b"", NO_CRASH).ok()?;
+// Whether a call returned, on a disk of which one call fails; `None` if it left the wrong jobs, or the store open after a failure.
+fn failure(alloc: Global, day: &Day, number: usize, calls: usize) -> Option<bool> {
+    let mut disk = day.disk(alloc, number)?;
     disk.calls = calls;
-    match Store::open(alloc, disk) {
-        Ok(mut store) => {
-            let done = day(&mut store, CALLS);
-            let is_closed = call(&mut store, 0) == Err(StoreError::Closed);
-            Some((store.into_device(), done, is_closed))
+    let (disk, is_done, is_closed) = called(alloc, disk, number);
+    (day.has(alloc, number, &disk) && is_closed != is_done).then_some(is_done)
+}
+
+// Whether each failure of the disk during a call is reported, and leaves what it should.
+fn each_failure(alloc: Global, day: &Day, number: usize) -> bool {
+    for calls in 0..NO_CRASH {
+        match failure(alloc, day, number, calls) {
+            Some(true) => return true,
+            Some(false) => (),
+            None => return false,
         }
-        Err((_, disk)) => Some((disk, 0, true)),
     }
+    false
 }
 
 #[test]
 fn each_call_of_the_disk_may_fail(rt: HostRuntime) {
-    let days = whole_day(rt.alloc()).expect(&rt, "a day");
-    for calls in 0..NO_CRASH {
-        let (disk, done, is_closed) = failure(rt.alloc(), calls).expect(&rt, "memory");
-        assert!(rt; is_before_or_after(rt.alloc(), &disk, &days, done));
-        if done == CALLS {
-            return;
-        }
-        assert!(rt; is_closed);
+    let day = whole_day(rt.alloc()).expect(&rt, "a day");
+    for number in 0..CALLS {
+        assert!(rt; each_failure(rt.alloc(), &day, number), "call {number}");
     }
 }
 
 #[test]
 fn a_day_without_a_crash(rt: HostRuntime) {
-    let found = expected(rt.alloc(), 9).expect(&rt, "the jobs");
-    assert!(rt; found.as_slice() == HELD);
+    let (file, jobs) = after(rt.alloc(), 9).expect(&rt, "the jobs");
+    assert!(rt; jobs.as_slice() == HELD);
+    assert!(rt; held(rt.alloc(), &file) == Some(jobs));
 }

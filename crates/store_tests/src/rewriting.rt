@@ -11,11 +11,14 @@ use std::alloc::Global;
 
 /// The records of the old log, those of the first new one, and those of the second.
 const OLD: &[&[u8]] = &[b"hi", b"", b"tea"];
+
 const FIRST: &[&[u8]] = &[b"tea", b""];
+
 const SECOND: &[&[u8]] = &[b"bread", b"\x01\x01", b"", b"milk"];
 
 /// At least as many steps and as many calls as a log of these records takes from its opening to the end of its rewriting.
 const STEPS: usize = 80;
+
 const CALLS: usize = 14;
 
 // The records of a list.
@@ -102,7 +105,10 @@ fn crash_leaves_either(alloc: Global, steps: usize) -> bool {
 #[test]
 fn each_crash_of_a_rewriting_leaves_the_old_or_the_new(rt: HostRuntime) {
     for steps in 0..STEPS {
-        assert!(rt; crash_leaves_either(rt.alloc(), steps), "a crash at step {steps}");
+        assert!(rt;
+            crash_leaves_either(rt.alloc(), steps),
+            "a crash at step {steps}"
+        );
     }
     assert!(rt; matches!(first_disk(rt.alloc(), STEPS, NO_CRASH), Some((_, Ok(())))));
 }
@@ -154,7 +160,10 @@ fn failure_leaves_either(alloc: Global, calls: usize) -> bool {
 #[test]
 fn each_call_of_the_device_may_fail(rt: HostRuntime) {
     for calls in 0..CALLS {
-        assert!(rt; failure_leaves_either(rt.alloc(), calls), "call {calls} failed");
+        assert!(rt;
+            failure_leaves_either(rt.alloc(), calls),
+            "call {calls} failed"
+        );
     }
     assert!(rt; matches!(first_disk(rt.alloc(), NO_CRASH, CALLS), Some((_, Ok(())))));
 }
