@@ -7,10 +7,11 @@ mod paced;
 mod serve;
 mod volatile;
 
-use agenda_store::{FileDevice, Store, StoreError};
+use agenda_store::{FileDevice, Store};
 use options::Options;
 use paced::{Pace, Paced};
 use serve::{HELP, serve};
+use std::fmt::Display;
 use std::io;
 use std::process::ExitCode;
 use volatile::Volatile;
@@ -25,15 +26,18 @@ const FAILURE: u8 = 1;
 const NO_AGENDA: u8 = 65;
 
 /// Says what is wrong, and returns an exit status.
-fn refuse(rt: &HostRuntime, status: u8, error: StoreError) -> io::Result<ExitCode> {
+fn refuse(rt: &HostRuntime, status: u8, error: impl Display + Drop) -> io::Result<ExitCode> {
     eprintln!(rt; "jobs: {error}")?;
     Ok(ExitCode::from(status))
 }
 
 /// Serves standard input, over a file.
 fn keep(rt: &HostRuntime, path: &str, pace: Pace) -> io::Result<ExitCode> {
-    let device = Paced::new(FileDevice::open(rt, path)?, pace);
-    let mut store = match Store::open(rt.alloc(), device) {
+    let file = match FileDevice::open(rt, path) {
+        Ok(file) => file,
+        Err(error) => return refuse(rt, FAILURE, error),
+    };
+    let mut store = match Store::open(rt.alloc(), Paced::new(file, pace)) {
         Ok(store) => store,
         Err((error, _)) => return refuse(rt, NO_AGENDA, error),
     };
