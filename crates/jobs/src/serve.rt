@@ -192,8 +192,8 @@ fn take_and_flush<D: Device>(
     Ok(())
 }
 
-/// Obeys each line of standard input in turn. A line that can't be obeyed is reported by its number. If `is_flushed`, what a line changed is
-/// put on the disk before the next is read.
+/// Obeys each line of standard input in turn. A line that can't be obeyed is reported by its number. If `is_flushed`, what a line changed
+/// is put on the disk before the next is read.
 pub fn serve<D: Device>(
     rt: &(impl Input + Print + AllocGlobal),
     store: &mut Store<D>,
