@@ -1,11 +1,10 @@
 -- The entries of an agenda by their numbers.
 use Rattle.std.proofs.Common.{◌≡◌, ◌≢◌, ◌⊎◌, inl, inr, ℕ, ◌<◌, ◌≤◌, Bool, true, false, cond, eqb, List, [], ◌∷◌, ◌++◌, Option, Some, None, refl, sym, ◌∙◌, ap, subst, arith}
-use Rattle.std.specs.List.{AllByRecursion}
 use Rattle.std.proofs.lemmas.Bool.{cases_eq}
 use Rattle.std.proofs.lemmas.Bool.Decides.{nat_tests}
 use Rattle.agenda.specs.Agenda.{Scheduled, is_named_by, job_of, IsDistinct}
 use Rattle.agenda.specs.Agenda as list
-use Rattle.agenda_store.specs.Planner.{Entry, ticket_of, IsApart}
+use Rattle.agenda_store.specs.Planner.{Entry, Each, ticket_of, IsApart}
 
 abbrev pub Entries : Type 0
 Entries = List (Scheduled Entry)
@@ -50,22 +49,17 @@ apart_remove (y ∷ a) b x apart =
           ((none, rest.0), cons_none x.job.0 y (a ++ b) (λ e. other (sym e)) rest.1)
     ]
 
-pub below_insert : (P : Scheduled Entry → Type 0) (a b : Entries) (x : Scheduled Entry) → P x → AllByRecursion P (a ++ b) → AllByRecursion P (a ++ x ∷ b)
-below_insert P [] b x p all = (p, all)
-below_insert P (y ∷ a) b x p all = (all.0, below_insert P a b x p all.1)
+pub each_insert : (P : Entry → Type 0) (a b : Entries) (x : Scheduled Entry) → P x.job → Each P (a ++ b) → Each P (a ++ x ∷ b)
+each_insert P [] b x p all = (p, all)
+each_insert P (y ∷ a) b x p all = (all.0, each_insert P a b x p all.1)
 
-pub below_remove : (P : Scheduled Entry → Type 0) (a b : Entries) (x : Scheduled Entry) → AllByRecursion P (a ++ x ∷ b) → AllByRecursion P (a ++ b) × P x
-below_remove P [] b x all = (all.1, all.0)
-below_remove P (y ∷ a) b x all = let rest = below_remove P a b x all.1 in ((all.0, rest.0), rest.1)
+pub each_remove : (P : Entry → Type 0) (a b : Entries) (x : Scheduled Entry) → Each P (a ++ x ∷ b) → Each P (a ++ b) × P x.job
+each_remove P [] b x all = (all.1, all.0)
+each_remove P (y ∷ a) b x all = let rest = each_remove P a b x all.1 in ((all.0, rest.0), rest.1)
 
-pub below_more : (n m : ℕ) (xs : Entries) → n ≤ m → AllByRecursion (λ x. x.job.0 < n) xs → AllByRecursion (λ x. x.job.0 < m) xs
+pub below_more : (n m : ℕ) (xs : Entries) → n ≤ m → Each (λ job. job.0 < n) xs → Each (λ job. job.0 < m) xs
 below_more n m [] le all = tt
 below_more n m (x ∷ xs) le all = let first = all.0 in (omega (arith, first), below_more n m xs le all.1)
-
--- the next number names no job
-pub fresh : (n : ℕ) (xs : Entries) → AllByRecursion (λ x. x.job.0 < n) xs → ticket_of n xs ≡ None
-fresh n [] below = refl
-fresh n (x ∷ xs) below = let first = below.0 in cons_none n x xs (omega (arith, first)) (fresh n xs below.1)
 
 -- a ticket names the entry that has it
 named : (t : ℕ × ℕ) (x : Scheduled Entry) → x.ticket ≡ t → is_named_by t x ≡ true

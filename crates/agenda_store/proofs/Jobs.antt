@@ -1,11 +1,13 @@
 -- The entries of an agenda as jobs.
-use Rattle.std.proofs.Common.{◌≡◌, ℕ, ◌<◌, ◌≤◌, [], ◌∷◌, ◌++◌, map, Some, None, refl, arith}
-use Rattle.std.specs.List.{All}
+use Rattle.std.proofs.Common.{◌≡◌, inl, inr, ℕ, ◌<◌, ◌≤◌, [], ◌∷◌, ◌++◌, map, Some, None, refl, arith}
+use Rattle.std.specs.List.{All, AllByRecursion}
+use Rattle.std.proofs.lemmas.Bool.{cases_eq}
 use Rattle.std.proofs.lemmas.Bool.Decides.{nat_tests}
-use Rattle.std.proofs.lemmas.List.Elements.{All-head, All-tail}
+use Rattle.std.proofs.lemmas.List.Elements.{All-head, All-tail, recursion_from_All}
 use Rattle.agenda.specs.Agenda.{Scheduled}
-use Rattle.agenda_store.specs.Plan.{put, job_at, without}
-use Rattle.agenda_store.specs.Planner.{Entry, ticket_of, job_in}
+use Rattle.agenda.specs.Agenda as list
+use Rattle.agenda_store.specs.Plan.{Job, put, job_at, without, IsInOrder, HasDistinctNumbers}
+use Rattle.agenda_store.specs.Planner.{Entry, Each, ticket_of, job_in, IsApart}
 use Rattle.agenda_store.proofs.Entries.{Entries, none_cons}
 
 put_first : (x : Scheduled Entry) (b : Entries) → All (λ y. x.deadline < y.deadline) b → put (job_in x) (map job_in b) ≡ job_in x ∷ map job_in b
@@ -40,3 +42,37 @@ no_job id (y ∷ xs) none =
     let parts = none_cons id y xs none in
     let rest = no_job id xs parts.1 in
     (grind (arith, nat_tests, parts.0, rest.0), grind (arith, nat_tests, parts.0, rest.1))
+
+-- A number that names no job has no ticket.
+pub no_ticket : (id : ℕ) (xs : Entries) → job_at id (map job_in xs) ≡ None → ticket_of id xs ≡ None
+no_ticket id [] none = refl
+no_ticket id (y ∷ xs) none = elim (cases_eq y.job.0 id) [
+  | inl same ↦ absurd (grind (arith, nat_tests, none))
+  | inr other ↦ let rest = no_ticket id xs (grind (arith, nat_tests, none)) in grind (arith, nat_tests, rest)
+]
+
+pub in_order : (xs : Entries) → list.IsInOrder xs → IsInOrder (map job_in xs)
+in_order [] order = tt
+in_order (x ∷ xs) order = (all_later xs (recursion_from_All (λ y. x.deadline ≤ y.deadline) xs order.0), in_order xs order.1)
+  where
+    all_later : (ys : Entries) → AllByRecursion (λ y. x.deadline ≤ y.deadline) ys → AllByRecursion (λ job. x.deadline ≤ job.deadline) (map job_in ys)
+    all_later [] all = tt
+    all_later (y ∷ ys) all = (all.0, all_later ys all.1)
+
+pub distinct : (xs : Entries) → IsApart xs → HasDistinctNumbers (map job_in xs)
+distinct [] apart = tt
+distinct (x ∷ xs) apart = ((no_job x.job.0 xs apart.0).0, distinct xs apart.1)
+
+-- What the entries have, the jobs have.
+pub each_job : (P : Job → Type 0) (Q : Entry → Type 0) → ((x : Scheduled Entry) → Q x.job → P (job_in x)) → (xs : Entries) → Each Q xs
+    → AllByRecursion P (map job_in xs)
+each_job P Q implies [] all = tt
+each_job P Q implies (x ∷ xs) all = (implies x all.0, each_job P Q implies xs all.1)
+
+-- The next number names no job.
+pub fresh : (n : ℕ) (xs : Entries) → Each (λ job. job.0 < n) xs → job_at n (map job_in xs) ≡ None
+fresh n [] below = refl
+fresh n (x ∷ xs) below =
+    let first = below.0 in
+    let rest = fresh n xs below.1 in
+    grind (arith, nat_tests, first, rest)

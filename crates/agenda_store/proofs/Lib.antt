@@ -5,4 +5,5 @@ mod Kept
 mod Links
 mod Replays
 mod Runs
+mod Snapshots
 mod Spellings

@@ -1,6 +1,5 @@
 -- What a call leaves of the tickets, and of the jobs.
-use Rattle.std.proofs.Common.{◌≡◌, ℕ, ◌+◌, ◌<◌, cond, eqb, List, ◌∷◌, ◌++◌, map, Option, Some, None, Vec, sym, ◌∙◌, ap, subst, inl, inr, arith}
-use Rattle.std.specs.List.{AllByRecursion}
+use Rattle.std.proofs.Common.{◌≡◌, ℕ, ◌<◌, ◌≤◌, cond, eqb, List, ◌++◌, length, map, Option, Some, None, Vec, sym, ◌∙◌, ap, subst, inl, inr, arith}
 use Rattle.std.proofs.lemmas.Bool.{cases_eq}
 use Rattle.std.proofs.lemmas.Bool.Decides.{nat_tests}
 use Rattle.std.specs.declared.alloc.Global.{Global}
@@ -8,140 +7,25 @@ use Rattle.agenda.specs.Agenda.{Scheduled, Agenda, job_of, IsDistinct, Schedules
 use Rattle.std.specs.Ordering.{is_eq, nat_cmp}
 use Rattle.agenda.specs.Agenda as list
 use Rattle.agenda_store.specs.Plan.{Job, Plan, put, put_at, job_at, without}
-use Rattle.agenda_store.specs.Planner.{Entry, ticket_of, job_in, IsApart, IsLinkedBy}
-use Rattle.agenda_store.proofs.Entries.{Entries, ticket_insert, apart_insert, apart_remove, below_insert, below_remove, below_more, fresh, entry_at, IsAt}
-use Rattle.agenda_store.proofs.Jobs.{put_between, without_entry, job_at_entry, no_job}
+use Rattle.agenda_store.specs.Planner.{Entry, Each, ticket_of, ticket_at, job_in, IsApart, IsLinkedBy, IsLinked}
+use Rattle.agenda_store.specs.declared.planner.Planner.{Planner}
+use Rattle.agenda_store.specs.declared.store.TheConstants.{MAX_BYTES}
+use Rattle.agenda_store.proofs.Entries.{Entries, ticket_insert, apart_insert, apart_remove, each_insert, each_remove, below_more, entry_at, IsAt}
+use Rattle.agenda_store.proofs.Jobs.{put_between, without_entry, job_at_entry, no_job, no_ticket}
 
 abbrev pub Tickets : Type 0
 Tickets = ℕ → Option (ℕ × ℕ)
 
-abbrev Below : ℕ → Scheduled Entry → Type 0
-Below next x = x.job.0 < next
-
 abbrev some_job : ℕ × Entry → Option (ℕ × Entry)
 some_job y = Some y
 
--- The entry of a number that has a ticket.
-pub record IsFound (id : ℕ) (t : ℕ × ℕ) (xs : Entries) : Type 0 where
-  pub entry : Scheduled Entry
-  pub job : job_of xs t ≡ Some (entry.deadline, entry.job)
-  pub at : job_at id (map job_in xs) ≡ Some (job_in entry)
+-- the number is below this one
+abbrev Below : ℕ → Entry → Type 0
+Below next entry = entry.0 < next
 
-module _ (f : Tickets) (next : ℕ) (old : Entries) (linked : IsLinkedBy f next old) where
-  pub absent : (id : ℕ) → f id ≡ None → (job_at id (map job_in old) ≡ None) × (without id (map job_in old) ≡ map job_in old)
-  absent id none = no_job id old (sym (linked.tickets id) ∙ none)
-
-  at : (id : ℕ) (t : ℕ × ℕ) → IsDistinct old → f id ≡ Some t → IsAt id t old
-  at id t distinct some = entry_at id t old distinct (sym (linked.tickets id) ∙ some)
-
-  pub found : (id : ℕ) (t : ℕ × ℕ) → IsDistinct old → f id ≡ Some t → IsFound id t old
-  found id t distinct some =
-      let here = at id t distinct some in
-      record { entry = here.entry; job = here.job; at = ap (λ (l : Entries). job_at id (map job_in l)) here.split ∙ job_at_entry id here.before here.after here.entry here.none_before here.id_is }
-
-  pub without_is : (id : ℕ) (t : ℕ × ℕ) → IsDistinct old → f id ≡ Some t → without id (map job_in old) ≡ map job_in (list.without old t)
-  without_is id t distinct some =
-      let here = at id t distinct some in
-      ap (λ (l : Entries). without id (map job_in l)) here.split ∙ without_entry id here.before here.after here.entry here.none_before here.id_is ∙ ap (λ (l : Entries). map job_in l) (sym here.others)
-
-  -- the others without the entry, and what the number finds
-  pub rest : (id : ℕ) (t : ℕ × ℕ) → IsDistinct old → f id ≡ Some t → (n : ℕ) → ticket_of n old ≡ cond (eqb id n) (Some t) (ticket_of n (list.without old t))
-  rest id t distinct some n =
-      let here = at id t distinct some in
-      let parts = apart_remove here.before here.after here.entry (subst IsApart here.split linked.apart) in
-      ap (λ (l : Entries). ticket_of n l) here.split ∙ ticket_insert n here.before here.after here.entry parts.1 ∙ ap (λ (k : ℕ). cond (eqb k n) (Some here.entry.ticket) (ticket_of n (here.before ++ here.after))) here.id_is
-      ∙ ap (λ (u : ℕ × ℕ). cond (eqb id n) (Some u) (ticket_of n (here.before ++ here.after))) here.ticket_is ∙ ap (λ (l : Entries). cond (eqb id n) (Some t) (ticket_of n l)) (sym here.others)
-
-  pub rest_apart : (id : ℕ) (t : ℕ × ℕ) → IsDistinct old → f id ≡ Some t → IsApart (list.without old t) × (ticket_of id (list.without old t) ≡ None)
-  rest_apart id t distinct some =
-      let here = at id t distinct some in
-      let parts = apart_remove here.before here.after here.entry (subst IsApart here.split linked.apart) in
-      let none : ticket_of id (here.before ++ here.after) ≡ None = subst (λ (k : ℕ). ticket_of k (here.before ++ here.after) ≡ None) here.id_is parts.1 in
-      (subst IsApart (sym here.others) parts.0, subst (λ (l : Entries). ticket_of id l ≡ None) (sym here.others) none)
-
-  pub rest_below : (id : ℕ) (t : ℕ × ℕ) → IsDistinct old → f id ≡ Some t → AllByRecursion (Below next) (list.without old t) × (id < next)
-  rest_below id t distinct some =
-      let here = at id t distinct some in
-      let all : AllByRecursion (Below next) (here.before ++ here.entry ∷ here.after) = subst (λ (l : Entries). AllByRecursion (Below next) l) here.split linked.below in
-      let parts = below_remove (Below next) here.before here.after here.entry all in
-      (subst (λ (l : Entries). AllByRecursion (Below next) l) (sym here.others) parts.0, subst (λ (k : ℕ). k < next) here.id_is parts.1)
-
-  -- After a job left, the others are linked.
-  pub removed : (id : ℕ) (t : ℕ × ℕ) (g : Tickets) (new : Entries) → IsDistinct old → f id ≡ Some t → new ≡ list.without old t → ((n : ℕ) → g n ≡ cond (eqb id n) None (f n)) → IsLinkedBy g next new
-  removed id t g new distinct some is gone = record {
-    tickets = λ n. gone n ∙ subst (λ (l : Entries). cond (eqb id n) None (f n) ≡ ticket_of n l) (sym is) (now n);
-    apart = subst IsApart (sym is) (rest_apart id t distinct some).0;
-    below = subst (λ (l : Entries). AllByRecursion (Below next) l) (sym is) (rest_below id t distinct some).0;
-  }
-    where
-      now : (n : ℕ) → cond (eqb id n) None (f n) ≡ ticket_of n (list.without old t)
-      now n = elim (cases_eq id n) [
-        | inl same ↦ let none = subst (λ (k : ℕ). ticket_of k (list.without old t) ≡ None) same (rest_apart id t distinct some).1 in grind (arith, nat_tests, none)
-        | inr other ↦ grind (arith, nat_tests, rest id t distinct some n, linked.tickets n)
-      ]
-
-  -- After a job came, all are linked.
-  pub inserted : (t : ℕ × ℕ) (deadline : ℕ) (v : Vec ℕ Global) (g : Tickets) (a b : Agenda Entry) → a.jobs ≡ old → Schedules a t deadline (next, v) b → ((n : ℕ) → g n ≡ cond (eqb next n) (Some t) (f n)) → IsLinkedBy g (next + 1) b.jobs
-  inserted t deadline v g a b is puts comes =
-      let x : Scheduled Entry = record { ticket = t; deadline = deadline; job = (next, v) } in
-      let split : old ≡ puts.earlier ++ puts.later = sym is ∙ puts.before in
-      let none : ticket_of next (puts.earlier ++ puts.later) ≡ None = subst (λ (l : Entries). ticket_of next l ≡ None) split (fresh next old linked.below) in
-      record {
-        tickets = λ n. comes n ∙ ap (λ (o : Option (ℕ × ℕ)). cond (eqb next n) (Some t) o) (linked.tickets n ∙ ap (λ (l : Entries). ticket_of n l) split) ∙ sym (ticket_insert n puts.earlier puts.later x none) ∙ ap (λ (l : Entries). ticket_of n l) (sym puts.after);
-        apart = subst IsApart (sym puts.after) (apart_insert puts.earlier puts.later x (subst IsApart split linked.apart) none);
-        below = subst (λ (l : Entries). AllByRecursion (Below (next + 1)) l) (sym puts.after)
-            (below_insert (Below (next + 1)) puts.earlier puts.later x (omega arith) (subst (λ (l : Entries). AllByRecursion (Below (next + 1)) l) split (below_more next (next + 1) old (omega arith) linked.below)));
-      }
-
-  -- A job that gets another deadline keeps its ticket.
-  pub relocated : (id : ℕ) (t : ℕ × ℕ) (deadline : ℕ) (a b : Agenda Entry) → a.jobs ≡ old → IsDistinct old → f id ≡ Some t → MovesDeadline a t deadline b → IsLinkedBy f next b.jobs
-  relocated id t deadline a b is distinct some moves =
-      let here = at id t distinct some in
-      let split : list.without old t ≡ moves.earlier ++ moves.later = ap (λ (l : Entries). list.without l t) (sym is) ∙ moves.others in
-      let same : moves.left ≡ (here.entry.deadline, here.entry.job) = left_is here in
-      let x : Scheduled Entry = record { ticket = t; deadline = deadline; job = moves.left.1 } in
-      let id_is : moves.left.1.0 ≡ id = ap (λ (p : ℕ × Entry). p.1.0) same ∙ here.id_is in
-      let apart = rest_apart id t distinct some in
-      let none : ticket_of x.job.0 (moves.earlier ++ moves.later) ≡ None = subst (λ (k : ℕ). ticket_of k (moves.earlier ++ moves.later) ≡ None) (sym id_is) (subst (λ (l : Entries). ticket_of id l ≡ None) split apart.1) in
-      let below = rest_below id t distinct some in
-      record {
-        tickets = λ n. linked.tickets n ∙ rest id t distinct some n ∙ ap (λ (l : Entries). cond (eqb id n) (Some t) (ticket_of n l)) split ∙ ap (λ (k : ℕ). cond (eqb k n) (Some t) (ticket_of n (moves.earlier ++ moves.later))) (sym id_is) ∙ sym (ticket_insert n moves.earlier moves.later x none) ∙ ap (λ (l : Entries). ticket_of n l) (sym moves.after);
-        apart = subst IsApart (sym moves.after) (apart_insert moves.earlier moves.later x (subst IsApart split apart.0) none);
-        below = subst (λ (l : Entries). AllByRecursion (Below next) l) (sym moves.after)
-            (below_insert (Below next) moves.earlier moves.later x (subst (λ (k : ℕ). k < next) (sym id_is) below.1) (subst (λ (l : Entries). AllByRecursion (Below next) l) split below.0));
-      }
-    where
-      left_is : (here : IsAt id t old) → moves.left ≡ (here.entry.deadline, here.entry.job)
-      left_is here =
-          let e : some_job moves.left ≡ some_job (here.entry.deadline, here.entry.job) = sym moves.named ∙ ap (λ (l : Entries). job_of l t) is ∙ here.job in
-          cc
-
--- the jobs after one came
-pub put_is : (t : ℕ × ℕ) (deadline id : ℕ) (v : Vec ℕ Global) (a b : Agenda Entry) → Schedules a t deadline (id, v) b → map job_in b.jobs ≡ put (record { id = id; deadline = deadline; bytes = v.items }) (map job_in a.jobs)
-put_is t deadline id v a b puts =
-    let x : Scheduled Entry = record { ticket = t; deadline = deadline; job = (id, v) } in
-    ap (λ (l : Entries). map job_in l) puts.after ∙ sym (put_between puts.earlier puts.later x puts.no_later_before puts.later_behind) ∙ ap (λ (l : Entries). put (job_in x) (map job_in l)) (sym puts.before)
-
--- the jobs after one was moved
-pub move_is : (f : Tickets) (next id : ℕ) (t : ℕ × ℕ) (deadline : ℕ) (a b : Agenda Entry) → IsLinkedBy f next a.jobs → IsDistinct a.jobs → f id ≡ Some t → MovesDeadline a t deadline b → map job_in b.jobs ≡ put_at deadline (job_at id (map job_in a.jobs)) (without id (map job_in a.jobs))
-move_is f next id t deadline a b linked distinct some moves =
-    let here = found f next a.jobs linked id t distinct some in
-    let x : Scheduled Entry = record { ticket = t; deadline = deadline; job = moves.left.1 } in
-    let e : some_job moves.left ≡ some_job (here.entry.deadline, here.entry.job) = sym moves.named ∙ here.job in
-    let same : moves.left ≡ (here.entry.deadline, here.entry.job) = cc in
-    let job : job_in x ≡ record { id = here.entry.job.0; deadline = deadline; bytes = here.entry.job.1.items } = ap (λ (p : ℕ × Entry). job_in (record { ticket = t; deadline = deadline; job = p.1 })) same in
-    ap (λ (l : Entries). map job_in l) moves.after ∙ sym (put_between moves.earlier moves.later x moves.no_later_before moves.later_behind)
-    ∙ ap (λ (l : Entries). put (job_in x) (map job_in l)) (sym moves.others)
-    ∙ ap (λ (l : List Job). put (job_in x) l) (sym (without_is f next a.jobs linked id t distinct some))
-    ∙ ap (λ (j : Job). put j (without id (map job_in a.jobs))) job
-    ∙ ap (λ (o : Option Job). put_at deadline o (without id (map job_in a.jobs))) (sym here.at)
-
--- whether two numbers compare alike
-pub alike : (a b : ℕ) → is_eq (nat_cmp a b) ≡ eqb a b
-alike a b = elim (cases_eq a b) [
-  | inl same ↦ grind (arith, nat_tests, same)
-  | inr other ↦ grind (arith, nat_tests, other)
-]
+-- The job isn't too long.
+abbrev Short : Entry → Type 0
+Short entry = length entry.1.items ≤ MAX_BYTES
 
 -- a plan with these jobs
 abbrev pub with_jobs : ℕ → List Job → Plan
@@ -150,3 +34,171 @@ with_jobs next jobs = record { jobs = jobs; next = next }
 -- the deadline and the bytes of an entry
 abbrev pub told_entry : ℕ × Entry → ℕ × List ℕ
 told_entry x = (x.0, x.1.1.items)
+
+-- whether two numbers compare alike
+pub alike : (a b : ℕ) → is_eq (nat_cmp a b) ≡ eqb a b
+alike a b = elim (cases_eq a b) [
+  | inl same ↦ grind (arith, nat_tests, same)
+  | inr other ↦ grind (arith, nat_tests, other)
+]
+
+-- The entry of a number that has a ticket.
+pub record IsFound (id : ℕ) (t : ℕ × ℕ) (xs : Entries) : Type 0 where
+  pub entry : Scheduled Entry
+  pub job : job_of xs t ≡ Some (entry.deadline, entry.job)
+  pub at : job_at id (map job_in xs) ≡ Some (job_in entry)
+
+-- Numbers that go on from a later one name no job.
+pub linked_on : (f : Tickets) (next later : ℕ) (xs : Entries) → next ≤ later → IsLinkedBy f next xs → IsLinkedBy f later xs
+linked_on f next later xs le linked = record {
+  tickets = linked.tickets;
+  apart = linked.apart;
+  below = below_more next later xs le linked.below;
+  short = linked.short;
+  from_one = omega (arith, le, linked.from_one);
+}
+
+module _ (p : Planner) (linked : IsLinked p) where
+  -- A number without a ticket names no job.
+  pub absent : (id : ℕ) → ticket_at p id ≡ None
+      → (job_at id (map job_in p.agenda.jobs) ≡ None) × (without id (map job_in p.agenda.jobs) ≡ map job_in p.agenda.jobs)
+  absent id none = no_job id p.agenda.jobs (sym (linked.tickets id) ∙ none)
+
+  -- After a job came, all are linked.
+  pub inserted : (id : ℕ) (t : ℕ × ℕ) (deadline : ℕ) (v : Vec ℕ Global) (g : Tickets) (b : Agenda Entry)
+      → (id < p.next) × (job_at id (map job_in p.agenda.jobs) ≡ None) → length v.items ≤ MAX_BYTES → Schedules p.agenda t deadline (id, v) b
+      → ((n : ℕ) → g n ≡ cond (eqb id n) (Some t) (ticket_at p n)) → IsLinkedBy g p.next b.jobs
+  inserted id t deadline v g b new short puts comes =
+      let old = p.agenda.jobs in
+      let earlier = puts.earlier in
+      let later = puts.later in
+      let x : Scheduled Entry = record { ticket = t; deadline = deadline; job = (id, v) } in
+      let split : old ≡ earlier ++ later = puts.before in
+      let none = subst (λ (l : Entries). ticket_of id l ≡ None) split (no_ticket id old new.1) in
+      record {
+        tickets = λ n. comes n ∙ ap (λ (o : Option (ℕ × ℕ)). cond (eqb id n) (Some t) o) (linked.tickets n ∙ ap (ticket_of n) split)
+            ∙ sym (ticket_insert n earlier later x none) ∙ ap (ticket_of n) (sym puts.after);
+        apart = subst IsApart (sym puts.after) (apart_insert earlier later x (subst IsApart split linked.apart) none);
+        below = subst (Each (Below p.next)) (sym puts.after)
+            (each_insert (Below p.next) earlier later x new.0 (subst (Each (Below p.next)) split linked.below));
+        short = subst (Each Short) (sym puts.after) (each_insert Short earlier later x short (subst (Each Short) split linked.short));
+        from_one = linked.from_one;
+      }
+
+  module _ (id : ℕ) (t : ℕ × ℕ) (distinct : IsDistinct p.agenda.jobs) (some : ticket_at p id ≡ Some t) where
+    here : IsAt id t p.agenda.jobs
+    here = entry_at id t p.agenda.jobs distinct (sym (linked.tickets id) ∙ some)
+
+    pub found : IsFound id t p.agenda.jobs
+    found = record {
+      entry = here.entry;
+      job = here.job;
+      at = ap (λ (l : Entries). job_at id (map job_in l)) here.split ∙ job_at_entry id here.before here.after here.entry here.none_before here.id_is;
+    }
+
+    pub without_is : without id (map job_in p.agenda.jobs) ≡ map job_in (list.without p.agenda.jobs t)
+    without_is = ap (λ (l : Entries). without id (map job_in l)) here.split
+        ∙ without_entry id here.before here.after here.entry here.none_before here.id_is ∙ ap (λ (l : Entries). map job_in l) (sym here.others)
+
+    -- No number names two of the others, and this one names none of them.
+    rest_apart : IsApart (list.without p.agenda.jobs t) × (ticket_of id (list.without p.agenda.jobs t) ≡ None)
+    rest_apart =
+        let parts = apart_remove here.before here.after here.entry (subst IsApart here.split linked.apart) in
+        let none = subst (λ (k : ℕ). ticket_of k (here.before ++ here.after) ≡ None) here.id_is parts.1 in
+        (subst IsApart (sym here.others) parts.0, subst (λ (l : Entries). ticket_of id l ≡ None) (sym here.others) none)
+
+    -- what each number finds among the others, and with the entry
+    rest : (n : ℕ) → ticket_of n p.agenda.jobs ≡ cond (eqb id n) (Some t) (ticket_of n (list.without p.agenda.jobs t))
+    rest n =
+        let others = here.before ++ here.after in
+        let none = subst (λ (l : Entries). ticket_of id l ≡ None) here.others rest_apart.1 in
+        let entry_none = subst (λ (k : ℕ). ticket_of k others ≡ None) (sym here.id_is) none in
+        ap (ticket_of n) here.split ∙ ticket_insert n here.before here.after here.entry entry_none
+        ∙ ap (λ (k : ℕ). cond (eqb k n) (Some here.entry.ticket) (ticket_of n others)) here.id_is
+        ∙ ap (λ (u : ℕ × ℕ). cond (eqb id n) (Some u) (ticket_of n others)) here.ticket_is
+        ∙ ap (λ (l : Entries). cond (eqb id n) (Some t) (ticket_of n l)) (sym here.others)
+
+    -- What each entry has, the others have, and this one.
+    rest_each : (P : Entry → Type 0) → Each P p.agenda.jobs → Each P (list.without p.agenda.jobs t) × P here.entry.job
+    rest_each P all =
+        let parts = each_remove P here.before here.after here.entry (subst (Each P) here.split all) in
+        (subst (Each P) (sym here.others) parts.0, parts.1)
+
+    -- After a job left, the others are linked.
+    pub removed : (g : Tickets) (new : Entries) → new ≡ list.without p.agenda.jobs t
+        → ((n : ℕ) → g n ≡ cond (eqb id n) None (ticket_at p n)) → IsLinkedBy g p.next new
+    removed g new is gone = record {
+      tickets = λ n. gone n ∙ now n ∙ ap (ticket_of n) (sym is);
+      apart = subst IsApart (sym is) rest_apart.0;
+      below = subst (Each (Below p.next)) (sym is) (rest_each (Below p.next) linked.below).0;
+      short = subst (Each Short) (sym is) (rest_each Short linked.short).0;
+      from_one = linked.from_one;
+    }
+      where
+        now : (n : ℕ) → cond (eqb id n) None (ticket_at p n) ≡ ticket_of n (list.without p.agenda.jobs t)
+        now n = elim (cases_eq id n) [
+          | inl same ↦
+              let none = subst (λ (k : ℕ). ticket_of k (list.without p.agenda.jobs t) ≡ None) same rest_apart.1 in
+              grind (arith, nat_tests, none)
+          | inr other ↦ grind (arith, nat_tests, rest n, linked.tickets n)
+        ]
+
+    module _ (deadline : ℕ) (b : Agenda Entry) (moves : MovesDeadline p.agenda t deadline b) where
+      moved_entry : Scheduled Entry
+      moved_entry = record { ticket = t; deadline = deadline; job = moves.left.1 }
+
+      left_is : moves.left ≡ (here.entry.deadline, here.entry.job)
+      left_is = let e : some_job moves.left ≡ some_job (here.entry.deadline, here.entry.job) = sym moves.named ∙ here.job in cc
+
+      job_is : moves.left.1 ≡ here.entry.job
+      job_is = ap (λ (x : ℕ × Entry). x.1) left_is
+
+      each_moved : (P : Entry → Type 0) → Each P p.agenda.jobs → Each P b.jobs
+      unfolding moved_entry
+      each_moved P all =
+          let parts = rest_each P all in
+          let others = subst (Each P) moves.others parts.0 in
+          subst (Each P) (sym moves.after) (each_insert P moves.earlier moves.later moved_entry (subst P (sym job_is) parts.1) others)
+
+      -- A job that gets another deadline keeps its ticket.
+      pub relocated : IsLinkedBy (ticket_at p) p.next b.jobs
+      unfolding moved_entry
+      relocated =
+          let earlier = moves.earlier in
+          let later = moves.later in
+          let id_is : moves.left.1.0 ≡ id = ap (λ (x : Entry). x.0) job_is ∙ here.id_is in
+          let rest_none = subst (λ (l : Entries). ticket_of id l ≡ None) moves.others rest_apart.1 in
+          let none = subst (λ (k : ℕ). ticket_of k (earlier ++ later) ≡ None) (sym id_is) rest_none in
+          record {
+            tickets = λ n. linked.tickets n ∙ rest n ∙ ap (λ (l : Entries). cond (eqb id n) (Some t) (ticket_of n l)) moves.others
+                ∙ ap (λ (k : ℕ). cond (eqb k n) (Some t) (ticket_of n (earlier ++ later))) (sym id_is)
+                ∙ sym (ticket_insert n earlier later moved_entry none) ∙ ap (ticket_of n) (sym moves.after);
+            apart = subst IsApart (sym moves.after) (apart_insert earlier later moved_entry (subst IsApart moves.others rest_apart.0) none);
+            below = each_moved (Below p.next) linked.below;
+            short = each_moved Short linked.short;
+            from_one = linked.from_one;
+          }
+
+      -- the jobs after one was moved
+      pub move_is : map job_in b.jobs ≡ put_at deadline (job_at id (map job_in p.agenda.jobs)) (without id (map job_in p.agenda.jobs))
+      unfolding moved_entry found
+      move_is =
+          let others = without id (map job_in p.agenda.jobs) in
+          let entry : Entry = here.entry.job in
+          let job : job_in moved_entry ≡ record { id = entry.0; deadline = deadline; bytes = entry.1.items } =
+          ap (λ (x : Entry). job_in (record { ticket = t; deadline = deadline; job = x })) job_is in
+          ap (λ (l : Entries). map job_in l) moves.after
+          ∙ sym (put_between moves.earlier moves.later moved_entry moves.no_later_before moves.later_behind)
+          ∙ ap (λ (l : Entries). put (job_in moved_entry) (map job_in l)) (sym moves.others)
+          ∙ ap (λ (l : List Job). put (job_in moved_entry) l) (sym without_is)
+          ∙ ap (λ (j : Job). put j others) job
+          ∙ ap (λ (o : Option Job). put_at deadline o others) (sym found.at)
+
+-- the jobs after one came
+pub put_is : (t : ℕ × ℕ) (deadline id : ℕ) (v : Vec ℕ Global) (a b : Agenda Entry) → Schedules a t deadline (id, v) b
+    → map job_in b.jobs ≡ put (record { id = id; deadline = deadline; bytes = v.items }) (map job_in a.jobs)
+put_is t deadline id v a b puts =
+    let x : Scheduled Entry = record { ticket = t; deadline = deadline; job = (id, v) } in
+    ap (λ (l : Entries). map job_in l) puts.after
+    ∙ sym (put_between puts.earlier puts.later x puts.no_later_before puts.later_behind)
+    ∙ ap (λ (l : Entries). put (job_in x) (map job_in l)) (sym puts.before)

@@ -1,34 +1,37 @@
 -- Requests one after another, and a crash during any of them.
-use Rattle.std.proofs.Common.{◌≡◌, inr, ⊎_elim, ℕ, ◌+◌, ◌<◌, List, [], ◌∷◌, ◌++◌, length, get_or, take, refl, sym, ap, subst, ◌∙◌, arith}
+use Rattle.std.proofs.Common.{◌≡◌, ⊎_elim, ℕ, ◌+◌, ◌<◌, List, [], ◌∷◌, ◌++◌, length, get_or, take, refl, sym, ap, subst, ◌∙◌, arith}
 use Rattle.std.proofs.lemmas.List.{take_more}
 use Rattle.record_log.specs.Device.{LeavesOnly}
 use Rattle.agenda_store.specs.Plan.{Plan}
 use Rattle.agenda_store.specs.Replay.{StandsFor, StandsForEither}
 use Rattle.agenda_store.specs.Requests.{answered, answered_all, StandsAfterSome}
 use Rattle.agenda_store.specs.declared.requests.Request.{Request}
-use Rattle.agenda_store.proofs.Kept.{weaker}
+use Rattle.record_log.proofs.CallerLemmas.{then, weaker}
 
-answered-push : (requests : List Request) (request : Request) (plan : Plan) → answered_all (requests ++ request ∷ []) plan ≡ answered request (answered_all requests plan)
+answered-push : (requests : List Request) (request : Request) (plan : Plan)
+    → answered_all (requests ++ request ∷ []) plan ≡ answered request (answered_all requests plan)
 answered-push [] request plan = refl
 answered-push (first ∷ requests) request plan = answered-push requests request (answered first plan)
 
 -- one request more
-pub more : (requests : List Request) (i : ℕ) (request : Request) (plan : Plan) → i < length requests → request ≡ get_or requests i request → answered_all (take (i + 1) requests) plan ≡ answered request (answered_all (take i requests) plan)
+pub more : (requests : List Request) (i : ℕ) (request : Request) (plan : Plan) → i < length requests → request ≡ get_or requests i request
+    → answered_all (take (i + 1) requests) plan ≡ answered request (answered_all (take i requests) plan)
 more requests i request plan lt is =
-    ap (λ rs. answered_all rs plan) (take_more requests i request lt ∙ ap (λ r. take i requests ++ r ∷ []) (sym is)) ∙ answered-push (take i requests) request plan
+    let longer = take_more requests i request lt ∙ ap (λ r. take i requests ++ r ∷ []) (sym is) in
+    ap (λ rs. answered_all rs plan) longer ∙ answered-push (take i requests) request plan
 
-module _ {D : Type 0} (moment : D → ℕ) (left_since : D → ℕ → List ℕ → Type 0) where
-  -- one request, and what a crash leaves so far
-  pub goes_on : (old mid new : D) (requests : List Request) (i : ℕ) (request : Request) (plan now : Plan) → i < length requests → request ≡ get_or requests i request → now ≡ answered_all (take i requests) plan
-      → LeavesOnly moment left_since old mid (StandsAfterSome requests plan) → LeavesOnly moment left_since mid new (StandsForEither now (answered request now)) → LeavesOnly moment left_since old new (StandsAfterSome requests plan)
-  goes_on old mid new requests i request plan now lt is now_is first second =
-      let next = weaker moment left_since mid new (StandsForEither now (answered request now)) (StandsAfterSome requests plan) second
-      (λ c either. ⊎_elim
-      (λ before. record { count = i; within = omega arith; stands = subst (λ (p : Plan). StandsFor c p) now_is before })
-      (λ after. record { count = i + 1; within = omega arith; stands = subst (λ (p : Plan). StandsFor c p) (ap (λ (p : Plan). answered request p) now_is ∙ sym (more requests i request plan lt is)) after })
-      either) in
-      record {
-        later = omega (arith, first.later, next.later);
-        each = λ c left. ⊎_elim (first.each c) (λ p. p) (next.before (moment old) c first.later left);
-        before = λ t c le left. ⊎_elim (first.before t c le) (λ p. inr p) (next.before t c (omega (arith, le, first.later)) left);
-      }
+module _ {D : Type 0} (moment : D → ℕ) (left_since : D → ℕ → List ℕ → Type 0) (old mid new : D) where
+  module _ (requests : List Request) (i : ℕ) (request : Request) (plan now : Plan) (lt : i < length requests) where
+    -- one request, and what a crash leaves so far
+    pub goes_on : request ≡ get_or requests i request → now ≡ answered_all (take i requests) plan
+        → LeavesOnly moment left_since old mid (StandsAfterSome requests plan)
+        → LeavesOnly moment left_since mid new (StandsForEither now (answered request now))
+        → LeavesOnly moment left_since old new (StandsAfterSome requests plan)
+    goes_on is now_is first second =
+        let after_is = ap (λ (p : Plan). answered request p) now_is ∙ sym (more requests i request plan lt is) in
+        let next = weaker moment left_since mid new (StandsForEither now (answered request now)) (StandsAfterSome requests plan) second
+        (λ c either. ⊎_elim
+        (λ before. record { count = i; within = omega arith; stands = subst (λ (p : Plan). StandsFor c p) now_is before })
+        (λ after. record { count = i + 1; within = omega arith; stands = subst (λ (p : Plan). StandsFor c p) after_is after })
+        either) in
+        then moment left_since old mid new (StandsAfterSome requests plan) first next

@@ -1,38 +1,82 @@
 -- A change is spelled in one way, and a file stands for one plan.
-use Rattle.std.proofs.Common.{◌≡◌, ℕ, ◌<◌, ◌^◌, List, [], ◌∷◌, ◌++◌, map, get_or, take, drop, refl, sym, ap, ◌∙◌, arith}
+use Rattle.std.proofs.Common.{◌≡◌, ℕ, ◌<◌, ◌^◌, ◌==◌, if◌then◌else◌, List, [], ◌∷◌, ◌++◌, map, get_or, take, drop, refl, sym, ap, subst, ◌∙◌}
 use Rattle.std.specs.List.{AllByRecursion}
 use Rattle.std.specs.Int.{w64, to_be_bytes, from_be_bytes}
 use Rattle.std.proofs.lemmas.Nat.{from_be_bytes-to_be_bytes_8}
 use Rattle.record_log.specs.Log.{OneReading}
-use Rattle.agenda_store.specs.Plan.{empty}
-use Rattle.agenda_store.specs.Change.{Change, schedules, cancels, moves, spelling, after, IsWritten}
-use Rattle.agenda_store.specs.Replay.{OnePlan}
+use Rattle.agenda_store.specs.Plan.{Plan, empty}
+use Rattle.agenda_store.specs.Change.{Change, schedules, cancels, moves, counts, keeps, spelling, after, changed, Admits, AdmitsAll, IsWritten}
+use Rattle.agenda_store.specs.Replay.{IsReplayed, Replays, OnePlan}
 
-number_is : (m n : ℕ) (x y : List ℕ) → m < 2 ^ 64 → n < 2 ^ 64 → to_be_bytes w64 m ++ x ≡ to_be_bytes w64 n ++ y → (m ≡ n) × (x ≡ y)
-number_is m n x y p q e =
-    let tails : x ≡ y = ap (λ (l : List ℕ). drop 8 l) e in
-    let heads : to_be_bytes w64 m ≡ to_be_bytes w64 n = ap (λ (l : List ℕ). take 8 l) e in
-    (sym (from_be_bytes-to_be_bytes_8 m p) ∙ ap (λ (l : List ℕ). from_be_bytes w64 l) heads ∙ from_be_bytes-to_be_bytes_8 n q, tails)
+-- the number in the first eight bytes, and in those behind them
+abbrev first : List ℕ → ℕ
+first bytes = from_be_bytes w64 (take 8 bytes)
 
-apart : {A : Type 0} (m n : ℕ) (x y : List ℕ) → m < n → m ∷ x ≡ n ∷ y → A
-apart m n x y lt e = let heads : m ≡ n = ap (λ (l : List ℕ). get_or l 0 0) e in absurd (omega arith)
+abbrev second : List ℕ → ℕ
+second bytes = first (drop 8 bytes)
 
-rest_of : (m : ℕ) (x y : List ℕ) → m ∷ x ≡ m ∷ y → x ≡ y
-rest_of m x y e = ap (λ (l : List ℕ). drop 1 l) e
+-- the change that these bytes spell behind this first one
+abbrev of_kind : ℕ → List ℕ → Change
+of_kind kind bytes =
+    if kind == 1 then schedules (first bytes) (drop 8 bytes)
+    else if kind == 2 then cancels (first bytes)
+    else if kind == 3 then moves (first bytes) (second bytes)
+    else if kind == 4 then counts (first bytes)
+    else keeps (first bytes) (second bytes) (drop 16 bytes)
+
+change_of : List ℕ → Change
+change_of bytes = of_kind (get_or bytes 0 0) (drop 1 bytes)
+
+number_is : (n : ℕ) → n < 2 ^ 64 → from_be_bytes w64 (to_be_bytes w64 n) ≡ n
+number_is n lt = from_be_bytes-to_be_bytes_8 n lt
+
+read_back : (a : Change) → IsWritten a → change_of (spelling a) ≡ a
+unfolding change_of
+read_back (schedules deadline bytes) written = ap (λ n. schedules n bytes) (number_is deadline written.0)
+read_back (cancels id) written = ap (λ n. cancels n) (number_is id written)
+read_back (moves id deadline) written = (λ i. moves (number_is id written.0 i) (number_is deadline written.1 i))
+read_back (counts next) written = ap (λ n. counts n) (number_is next written)
+read_back (keeps id deadline bytes) written = (λ i. keeps (number_is id written.0 i) (number_is deadline written.1 i) bytes)
 
 spelled_alike : (a b : Change) → IsWritten a → IsWritten b → spelling a ≡ spelling b → a ≡ b
-spelled_alike (schedules d x) (schedules e y) p q same = let parts = number_is d e x y p q (rest_of 1 _ _ same) in (λ i. schedules (parts.0 i) (parts.1 i))
-spelled_alike (schedules d x) (cancels n) p q same = apart 1 2 _ _ (omega arith) same
-spelled_alike (schedules d x) (moves n e) p q same = apart 1 3 _ _ (omega arith) same
-spelled_alike (cancels m) (schedules e y) p q same = apart 1 2 _ _ (omega arith) (sym same)
-spelled_alike (cancels m) (cancels n) p q same = let parts = number_is m n [] [] p q (ap (λ (l : List ℕ). l ++ []) (rest_of 2 _ _ same)) in (λ i. cancels (parts.0 i))
-spelled_alike (cancels m) (moves n e) p q same = apart 2 3 _ _ (omega arith) same
-spelled_alike (moves m d) (schedules e y) p q same = apart 1 3 _ _ (omega arith) (sym same)
-spelled_alike (moves m d) (cancels n) p q same = apart 2 3 _ _ (omega arith) (sym same)
-spelled_alike (moves m d) (moves n e) p q same =
-    let first = number_is m n (to_be_bytes w64 d) (to_be_bytes w64 e) p.0 q.0 (rest_of 3 _ _ same) in
-    let second = number_is d e [] [] p.1 q.1 (ap (λ (l : List ℕ). l ++ []) first.1) in
-    (λ i. moves (first.0 i) (second.0 i))
+spelled_alike a b p q same = sym (read_back a p) ∙ ap change_of same ∙ read_back b q
+
+-- The record of a change that the plan after these others admits.
+record IsNext (plan : Plan) (bytes : List ℕ) : Type 0 where
+  change : Change
+  written : IsWritten change
+  spelled : bytes ≡ spelling change
+  admitted : Admits plan change
+
+next_is : (plan : Plan) (done changes : List Change) (bytes : List ℕ) (rest : List (List ℕ)) → AllByRecursion IsWritten done
+    → AllByRecursion IsWritten changes → AdmitsAll plan changes → map spelling done ++ bytes ∷ rest ≡ map spelling changes
+    → IsNext (after done plan) bytes
+next_is plan [] [] bytes rest before written admitted is = let e = is in absurd (cc)
+next_is plan [] (c ∷ changes) bytes rest before written admitted is =
+    record { change = c; written = written.0; spelled = ap (λ (ls : List (List ℕ)). get_or ls 0 []) is; admitted = admitted.0 }
+next_is plan (d ∷ done) [] bytes rest before written admitted is = let e = is in absurd (cc)
+next_is plan (d ∷ done) (c ∷ changes) bytes rest before written admitted is =
+    let first : spelling d ≡ spelling c = ap (λ (ls : List (List ℕ)). get_or ls 0 []) is in
+    let others : map spelling done ++ bytes ∷ rest ≡ map spelling changes = ap (λ (ls : List (List ℕ)). drop 1 ls) is in
+    let same = sym (spelled_alike d c before.0 written.0 first) in
+    next_is (changed d plan) done changes bytes rest before.1 written.1 (subst (λ (x : Change). AdmitsAll (changed x plan) changes) same admitted.1) others
+
+-- The record behind these is replayed too.
+pub next_replays : (records rest : List (List ℕ)) (bytes : List ℕ) (old plan : Plan) → IsReplayed records old
+    → IsReplayed (records ++ bytes ∷ rest) plan → (new : Plan) × Replays bytes old new
+next_replays records rest bytes old plan before all =
+    let is : map spelling before.changes ++ bytes ∷ rest ≡ map spelling all.changes =
+    ap (λ (rs : List (List ℕ)). rs ++ bytes ∷ rest) (sym before.spelled) ∙ all.spelled in
+    let next = next_is empty before.changes all.changes bytes rest before.written all.written all.admitted is in (
+      changed next.change old,
+      record {
+        change = next.change;
+        written = next.written;
+        admitted = subst (λ (p : Plan). Admits p next.change) (sym before.plan_is) next.admitted;
+        spelled = next.spelled;
+        plan_is = refl;
+      },
+    )
 
 all_alike : (xs ys : List Change) → AllByRecursion IsWritten xs → AllByRecursion IsWritten ys → map spelling xs ≡ map spelling ys → xs ≡ ys
 all_alike [] [] p q same = refl
@@ -46,5 +90,6 @@ all_alike (a ∷ xs) (b ∷ ys) p q same =
 pub one_plan : OneReading → OnePlan
 one_plan one file p q a b =
     let records : a.records ≡ b.records = one file a.records b.records a.holds b.holds in
-    let changes : a.replayed.changes ≡ b.replayed.changes = all_alike a.replayed.changes b.replayed.changes a.replayed.written b.replayed.written (sym a.replayed.spelled ∙ records ∙ b.replayed.spelled) in
+    let spelled = sym a.replayed.spelled ∙ records ∙ b.replayed.spelled in
+    let changes = all_alike a.replayed.changes b.replayed.changes a.replayed.written b.replayed.written spelled in
     a.replayed.plan_is ∙ ap (λ (cs : List Change). after cs empty) changes ∙ sym b.replayed.plan_is

@@ -1,5 +1,7 @@
 -- A list of jobs by deadline, and what changes it.
-use Rattle.std.specs.Prelude.{ℕ, ◌+◌, ◌==◌, leb, if◌then◌else◌, List, [], ◌∷◌, Option, Some, None}
+use Rattle.std.specs.Prelude.{◌≡◌, ℕ, ◌+◌, ◌<◌, ◌≤◌, ◌==◌, leb, if◌then◌else◌, List, [], ◌∷◌, length, Option, Some, None}
+use Rattle.std.specs.List.{AllByRecursion}
+use Rattle.agenda_store.specs.declared.store.TheConstants.{MAX_BYTES}
 
 -- a job: its number, its deadline and its bytes
 pub record Job : Type 0 where
@@ -51,6 +53,14 @@ cancelled id plan = record { jobs = without id plan.jobs; next = plan.next }
 abbrev pub moved : ℕ → ℕ → Plan → Plan
 moved id deadline plan = record { jobs = put_at deadline (job_at id plan.jobs) (without id plan.jobs); next = plan.next }
 
+-- the plan whose numbers go on from this one
+abbrev pub counted : ℕ → Plan → Plan
+counted next plan = record { jobs = plan.jobs; next = next }
+
+-- the plan with a job that comes back under its number, behind those that aren't due later
+abbrev pub kept : Job → Plan → Plan
+kept job plan = record { jobs = put job plan.jobs; next = plan.next }
+
 -- the first job, if its deadline is at most now
 abbrev pub first_due : ℕ → List Job → Option Job
 first_due now [] = None
@@ -73,3 +83,21 @@ cancelled_if (Some job) plan = cancelled job.id plan
 -- the plan without its first job, if that is due
 abbrev pub without_due : ℕ → Plan → Plan
 without_due now plan = cancelled_if (first_due now plan.jobs) plan
+
+-- No job is due before one in front of it.
+abbrev pub IsInOrder : List Job → Type 0
+IsInOrder [] = Unit {0}
+IsInOrder (first ∷ jobs) = AllByRecursion (λ job. first.deadline ≤ job.deadline) jobs × IsInOrder jobs
+
+-- No number names two jobs.
+abbrev pub HasDistinctNumbers : List Job → Type 0
+HasDistinctNumbers [] = Unit {0}
+HasDistinctNumbers (first ∷ jobs) = (job_at first.id jobs ≡ None) × HasDistinctNumbers jobs
+
+-- What holds of the plan of each store.
+pub record IsLawful (plan : Plan) : Type 0 where
+  pub in_order : IsInOrder plan.jobs
+  pub distinct : HasDistinctNumbers plan.jobs
+  pub below : AllByRecursion (λ job. job.id < plan.next) plan.jobs
+  pub short : AllByRecursion (λ job. length job.bytes ≤ MAX_BYTES) plan.jobs
+  pub from_one : 1 ≤ plan.next

@@ -1,5 +1,5 @@
 -- How a plan lies in memory.
-use Rattle.std.specs.Prelude.{◌≡◌, ◌<◌, ℕ, ◌==◌, if◌then◌else◌, List, [], ◌∷◌, map, Option, Some, None, Vec}
+use Rattle.std.specs.Prelude.{◌≡◌, ◌<◌, ◌≤◌, ℕ, ◌==◌, if◌then◌else◌, List, [], ◌∷◌, length, map, Option, Some, None, Vec}
 use Rattle.std.specs.List.{AllByRecursion}
 use Rattle.std.specs.BTreeMap as tree
 use Rattle.std.specs.Ordering.{nat_cmp}
@@ -7,6 +7,7 @@ use Rattle.std.specs.declared.alloc.Global.{Global}
 use Rattle.agenda.specs.Agenda.{Scheduled}
 use Rattle.agenda_store.specs.Plan.{Job, Plan}
 use Rattle.agenda_store.specs.declared.planner.Planner.{Planner}
+use Rattle.agenda_store.specs.declared.store.TheConstants.{MAX_BYTES}
 
 -- what the agenda keeps for a job: its number and its bytes
 abbrev pub Entry : Type 0
@@ -29,15 +30,25 @@ abbrev pub IsApart : List (Scheduled Entry) → Type 0
 IsApart [] = Unit {0}
 IsApart (x ∷ xs) = (ticket_of x.job.0 xs ≡ None) × IsApart xs
 
--- Each number finds the ticket of its job, and the next number is above all.
+-- Each of the entries keeps what has this property.
+abbrev pub Each : (Entry → Type 0) → List (Scheduled Entry) → Type 0
+Each P entries = AllByRecursion (λ x. P x.job) entries
+
+-- Each number finds the ticket of its job, the next number is above all, and no job is too long.
 pub record IsLinkedBy (ticket_at : ℕ → Option (ℕ × ℕ)) (next : ℕ) (entries : List (Scheduled Entry)) : Type 0 where
   pub tickets : (id : ℕ) → ticket_at id ≡ ticket_of id entries
   pub apart : IsApart entries
-  pub below : AllByRecursion (λ x. x.job.0 < next) entries
+  pub below : Each (λ job. job.0 < next) entries
+  pub short : Each (λ job. length job.1.items ≤ MAX_BYTES) entries
+  pub from_one : 1 ≤ next
+
+-- the ticket under a number
+abbrev pub ticket_at : Planner → ℕ → Option (ℕ × ℕ)
+ticket_at planner id = tree.get nat_cmp planner.tickets id
 
 -- The map of a planner has the tickets.
 abbrev pub IsLinked : Planner → Type 0
-IsLinked planner = IsLinkedBy (tree.get nat_cmp planner.tickets) planner.next planner.agenda.jobs
+IsLinked planner = IsLinkedBy (ticket_at planner) planner.next planner.agenda.jobs
 
 -- a deadline and the bytes of a vector
 abbrev pub taken : ℕ × Vec ℕ Global → ℕ × List ℕ

@@ -1,9 +1,11 @@
 -- A store, and the plan that its file stands for.
 use Rattle.std.specs.Prelude.{ℕ, Bool, IsTrue, List, Vec}
+use Rattle.std.specs.Borrow.{Bor}
+use Rattle.record_log.specs.Device.{LeavesOnly}
 use Rattle.record_log.specs.Log.{Keeps, device_of}
 use Rattle.agenda_store.specs.Plan.{Plan, Job}
 use Rattle.agenda_store.specs.Planner.{plan_of, IsLinked}
-use Rattle.agenda_store.specs.Replay.{IsReplayed}
+use Rattle.agenda_store.specs.Replay.{IsReplayed, StandsFor, StandsForEither}
 use Rattle.agenda_store.specs.declared.store.JobId.{JobId}
 use Rattle.agenda_store.specs.declared.store.Store.{Store}
 use Rattle.std.specs.declared.alloc.Global.{Global}
@@ -11,6 +13,10 @@ use Rattle.std.specs.declared.alloc.Global.{Global}
 -- a job that was taken off: its number, its deadline and the bytes of a vector
 abbrev pub popped : JobId × ℕ × Vec ℕ Global → Job
 popped x = record { id = x.0.0; deadline = x.1; bytes = x.2.items }
+
+-- a job as it is shown: its number, its deadline and a reference to its bytes
+abbrev pub shown : JobId × ℕ × Bor (List ℕ) → Job
+shown x = record { id = x.0.0; deadline = x.1; bytes = x.2.now }
 
 module _ {D : Type 0} where
   -- the plan of a store
@@ -21,7 +27,7 @@ module _ {D : Type 0} where
   abbrev pub disk_of : Store D → D
   disk_of store = device_of store.log
 
-  -- No call has failed.
+  -- No failed call has closed it.
   abbrev pub IsOpen : Store D → Type 0
   IsOpen store = IsTrue store.is_open
 
@@ -35,3 +41,13 @@ module _ {D : Type 0} where
   pub record IsSound (is_modelled : Bool) (seen : D → List ℕ) (may_leave : D → List ℕ → Type 0) (store : Store D) : Type 0 where
     pub linked : IsOpen store → IsLinked store.planner
     pub consistent : IsTrue is_modelled → IsOpen store → IsConsistent seen may_leave store
+
+  module _ (is_modelled : Bool) (moment : D → ℕ) (left_since : D → ℕ → List ℕ → Type 0) (old new : Store D) where
+    -- While a store on a modelled device is open, a crash at any moment of a call leaves a file that stands for the old plan.
+    abbrev pub LeavesPlan : Type 0
+    LeavesPlan = IsTrue is_modelled → IsOpen old → LeavesOnly moment left_since (disk_of old) (disk_of new) (λ c. StandsFor c (plan_in old))
+
+    -- It leaves a file that stands for the old plan or for this one.
+    abbrev pub LeavesEither : Plan → Type 0
+    LeavesEither plan = IsTrue is_modelled → IsOpen old
+        → LeavesOnly moment left_since (disk_of old) (disk_of new) (StandsForEither (plan_in old) plan)

@@ -16,6 +16,9 @@ pub enum StoreError {
     /// No memory was left.
     #[error("out of memory")]
     OutOfMemory,
+    /// The bytes of a job are more than [`MAX_BYTES`](crate::MAX_BYTES).
+    #[error("a job has more than 65536 bytes")]
+    TooLong,
     /// There are 4,294,967,294 jobs, or no more numbers.
     #[error("the agenda is full")]
     Full,

@@ -1,10 +1,12 @@
 //! `Planner`: jobs in memory, each under a number of its own.
 
-ghost use Rattle.std.specs.Prelude.{◌≡◌, ◌<◌, ◌^◌, IfOk, OnOk, length};
-ghost use Rattle.std.specs.Prelude.{is_some};
+ghost use Rattle.std.specs.Prelude.{◌≡◌, ◌⊎◌, ◌<◌, ◌≤◌, ◌^◌, IfOk, IfErr, OnOk, IsErrOf, length, is_some};
 ghost use Rattle.std.specs.Option.{option_map};
-ghost use Rattle.agenda_store.specs.Plan.{empty, scheduled, cancelled, moved, first_deadline, first_due, job_at, told};
+ghost use Rattle.agenda_store.specs.Change.{counts, keeps, Admits};
+ghost use Rattle.agenda_store.specs.Plan.{empty, scheduled, cancelled, moved, counted, kept};
+ghost use Rattle.agenda_store.specs.Plan.{first_deadline, first_due, job_at, told, IsLawful};
 ghost use Rattle.agenda_store.specs.Planner.{plan_of, taken, IsLinked};
+ghost use Rattle.agenda_store.specs.declared.store.TheConstants.{MAX_BYTES};
 
 use crate::error::StoreError;
 use agenda::{Agenda, ReallocationError, Ticket};
@@ -31,9 +33,10 @@ impl Planner {
         }
     }
 
-    /// Returns how many jobs there are.
+    /// Returns the number of jobs.
     pub(crate) fn len(&self) -> usize
-        ensures { result ≡ length (plan_of self.now).jobs }
+        ensures value { result ≡ length (plan_of self.now).jobs }
+        ensures lawful { IsLinked self.now → IsLawful (plan_of self.now) }
     {
         self.agenda.len()
     }
@@ -71,23 +74,79 @@ impl Planner {
     ///
     /// The planner is of no more use.
     pub(crate) fn schedule(&mut self, deadline: u64, bytes: Vec<u8>) -> Result<u64, StoreError>
-        requires { IsLinked self.old }
+        requires linked { IsLinked self.old }
+        requires size { length bytes.items ≤ MAX_BYTES }
         ensures linked { OnOk result (IsLinked self.new) }
         ensures id { IfOk result (λ id. id ≡ (plan_of self.old).next) }
         ensures plan { OnOk result (plan_of self.new ≡ scheduled deadline bytes.items (plan_of self.old)) }
+        ensures err { IfErr result (λ e. (e ≡ StoreError.Full) ⊎ (e ≡ StoreError.OutOfMemory)) }
     {
         let id = self.next;
         let Some(next) = id.checked_add(1) else {
             return Err(StoreError::Full);
         };
+        self.next = next;
+        self.put(id, deadline, bytes)?;
+        Ok(id)
+    }
+
+    // Puts a job under a number that was given and names no job.
+    fn put(&mut self, id: u64, deadline: u64, bytes: Vec<u8>) -> Result<(), StoreError>
+        requires linked { IsLinked self.old }
+        requires size { length bytes.items ≤ MAX_BYTES }
+        requires admitted { Admits (plan_of self.old) (keeps id deadline bytes.items) }
+        ensures linked { OnOk result (IsLinked self.new) }
+        ensures plan { OnOk result (plan_of self.new
+            ≡ kept (record { id = id; deadline = deadline; bytes = bytes.items }) (plan_of self.old)) }
+        ensures err { IfErr result (λ e. (e ≡ StoreError.Full) ⊎ (e ≡ StoreError.OutOfMemory)) }
+    {
         let ticket = match self.agenda.schedule(deadline, (id, bytes)) {
             Ok(ticket) => ticket,
             Err((_, ReallocationError::BeyondMaxCapacity)) => return Err(StoreError::Full),
             Err((_, ReallocationError::AllocError)) => return Err(StoreError::OutOfMemory),
         };
         self.tickets.insert(id, ticket)?;
+        Ok(())
+    }
+
+    /// Lets numbers go on from `next`.
+    ///
+    /// # Errors
+    ///
+    /// `NotAnAgenda`: numbers would go back. Nothing changed.
+    pub(crate) fn count_from(&mut self, next: u64) -> Result<(), StoreError>
+        requires { IsLinked self.old }
+        ensures linked { IsLinked self.new }
+        ensures admitted { OnOk result (Admits (plan_of self.old) (counts next)) }
+        ensures plan { OnOk result (plan_of self.new ≡ counted next (plan_of self.old)) }
+        ensures err { IfErr result (λ e. (e ≡ StoreError.NotAnAgenda) × (next < (plan_of self.old).next)) }
+    {
+        if next < self.next {
+            return Err(StoreError::NotAnAgenda);
+        }
         self.next = next;
-        Ok(id)
+        Ok(())
+    }
+
+    /// Puts a job back under its number, behind those that aren't due later.
+    ///
+    /// # Errors
+    ///
+    /// The planner is of no more use. `NotAnAgenda`: the number was not given, or names a job.
+    pub(crate) fn keep(&mut self, id: u64, deadline: u64, bytes: Vec<u8>) -> Result<(), StoreError>
+        requires linked { IsLinked self.old }
+        requires size { length bytes.items ≤ MAX_BYTES }
+        ensures linked { OnOk result (IsLinked self.new) }
+        ensures admitted { OnOk result (Admits (plan_of self.old) (keeps id deadline bytes.items)) }
+        ensures plan { OnOk result (plan_of self.new
+            ≡ kept (record { id = id; deadline = deadline; bytes = bytes.items }) (plan_of self.old)) }
+        ensures refused { IsErrOf result StoreError.NotAnAgenda
+            → Admits (plan_of self.old) (keeps id deadline bytes.items) → ⊥ }
+    {
+        if id >= self.next || self.has(id) {
+            return Err(StoreError::NotAnAgenda);
+        }
+        self.put(id, deadline, bytes)
     }
 
     /// Removes the job of a number, and returns its deadline and its bytes.

@@ -1,11 +1,9 @@
 //! `Request`: what a caller asks of a store, as a value.
 
 ghost use Rattle.std.specs.Prelude.{◌≡◌, IsTrue, OnOk};
-ghost use Rattle.std.specs.List.{All};
 ghost use Rattle.record_log.specs.Device.{LeavesOnly};
-ghost use Rattle.agenda_store.specs.Replay.{StandsForEither};
-ghost use Rattle.agenda_store.specs.Requests.{answered, answered_all, HasRoom, StandsAfterSome};
-ghost use Rattle.agenda_store.specs.Store.{plan_in, disk_of, IsOpen, IsSound};
+ghost use Rattle.agenda_store.specs.Requests.{answered, answered_all, StandsAfterSome};
+ghost use Rattle.agenda_store.specs.Store.{plan_in, disk_of, LeavesEither, IsOpen, IsSound};
 
 use crate::error::StoreError;
 use crate::store::{JobId, Store};
@@ -22,18 +20,19 @@ pub enum Request {
     Move(JobId, u64),
     /// The first job is to be taken off if it is due.
     PopDue(u64),
+    /// The file is to be written anew from the jobs.
+    Compact,
 }
 
 impl<D: Device> Store<D> {
     // Does what a request asks for.
     fn answer(&mut self, request: &Request) -> Result<(), StoreError>
-        requires size { HasRoom request.now }
-        requires sound { IsSound D.is_modelled D.seen D.may_leave self.old }
+        requires { IsSound D.is_modelled D.seen D.may_leave self.old }
         ensures sound { IsSound D.is_modelled D.seen D.may_leave self.new }
         ensures open { OnOk result (IsOpen self.new) }
         ensures plan { OnOk result (plan_in self.new ≡ answered request.now (plan_in self.old)) }
-        ensures any_moment { IsTrue D.is_modelled → IsOpen self.old → LeavesOnly D.moment D.left_since (disk_of self.old) (disk_of self.new)
-            (StandsForEither (plan_in self.old) (answered request.now (plan_in self.old))) }
+        ensures any_moment { LeavesEither D.is_modelled D.moment D.left_since self.old self.new
+            (answered request.now (plan_in self.old)) }
     {
         match request {
             Request::Schedule(deadline, bytes) => {
@@ -48,6 +47,9 @@ impl<D: Device> Store<D> {
             Request::PopDue(now) => {
                 self.pop_due(*now)?;
             }
+            Request::Compact => {
+                self.compact()?;
+            }
         }
         Ok(())
     }
@@ -59,12 +61,12 @@ impl<D: Device> Store<D> {
     ///
     /// Those of the request that failed, as of its call. The later ones aren't tried.
     pub fn run(&mut self, requests: &[Request]) -> Result<(), StoreError>
-        requires size { All HasRoom requests.now }
         requires sound { IsSound D.is_modelled D.seen D.may_leave self.old }
         requires open { IsOpen self.old }
         ensures sound { IsSound D.is_modelled D.seen D.may_leave self.new }
         ensures plan { OnOk result (plan_in self.new ≡ answered_all requests.now (plan_in self.old)) }
-        ensures any_moment { IsTrue D.is_modelled → LeavesOnly D.moment D.left_since (disk_of self.old) (disk_of self.new)
+        ensures any_moment { IsTrue D.is_modelled
+            → LeavesOnly D.moment D.left_since (disk_of self.old) (disk_of self.new)
             (StandsAfterSome requests.now (plan_in self.old)) }
     {
         for request in requests {

@@ -1,21 +1,28 @@
 //! `Store`: an agenda on a log.
 
-ghost use Rattle.std.specs.Prelude.{◌≡◌, ◌≤◌, ◌↔◌, false, is_some, IfOk, IfErr, OnOk, OnErr, IsErrOf, IsTrue, length};
+ghost use Rattle.std.specs.Prelude.{◌≡◌, ◌<◌, ◌↔◌, false, is_some, length, map};
+ghost use Rattle.std.specs.Prelude.{IfOk, IfErr, OnOk, OnErr, IsErrOf, IsTrue};
 ghost use Rattle.std.specs.Option.{option_map};
 ghost use Rattle.record_log.specs.Device.{IsDurable, LeavesOnly};
-ghost use Rattle.agenda_store.specs.Plan.{Plan, scheduled, cancelled, moved, without_due, job_at, first_due, first_deadline, told};
+ghost use Rattle.record_log.specs.Format.{Holds};
+ghost use Rattle.agenda_store.specs.Change.{spelling, snapshot};
+ghost use Rattle.agenda_store.specs.Plan.{Plan, scheduled, cancelled, moved, without_due};
+ghost use Rattle.agenda_store.specs.Plan.{job_at, first_due, first_deadline, told, IsLawful};
 ghost use Rattle.agenda_store.specs.Planner.{taken};
-ghost use Rattle.agenda_store.specs.Replay.{StandsFor, StandsForEither};
-ghost use Rattle.agenda_store.specs.Store.{plan_in, disk_of, popped, IsOpen, IsSound};
+ghost use Rattle.agenda_store.specs.Replay.{StandsFor};
+ghost use Rattle.agenda_store.specs.Store.{plan_in, disk_of, popped, LeavesEither, LeavesPlan, IsOpen, IsSound};
+ghost use Rattle.agenda_store.specs.declared.store.TheConstants.{MAX_BYTES};
 
-use crate::change::{Change, replay, spell};
+use crate::change::{Change, replay, snapshot_of, spell};
 use crate::error::StoreError;
+use crate::iter::Iter;
 use crate::planner::Planner;
+use record_log::laws::one_reading;
 use record_log::{Device, Log};
 use std::alloc::Global;
 
 /// The most bytes that a job may have.
-pub const MAX_BYTES: usize = 65527;
+pub const MAX_BYTES: usize = 65536;
 
 /// The number of a job. Numbers count up from 1, and none is given again.
 #[derive(Clone, Copy, Debug, PartialEq, Eq, PartialOrd, Ord)]
@@ -23,10 +30,11 @@ pub struct JobId(pub u64);
 
 /// An agenda that survives a crash.
 ///
-/// Each call that changes it puts one record into a log, and returns once the record is on the disk. Whatever moment a crash comes at,
-/// opening the file gives the agenda after all calls that returned `Ok`, and perhaps the change of the one call in flight besides.
+/// Each call that changes it appends one record to a log, and returns once the record is on the disk. After a crash at any moment, opening
+/// the file restores every change whose call returned `Ok`. The change of a call that was interrupted is there as a whole or not at all.
 ///
-/// A call that fails closes the store, unless it says otherwise: open the file again. Until then each call answers `Closed`.
+/// A call that fails closes the store, unless its `# Errors` says otherwise. Every call that returns a `Result` then fails with `Closed`
+/// until the file is opened again. The log grows with each change; [`compact`](Self::compact) writes it anew from the jobs.
 #[derive(Drop)]
 pub struct Store<D: Device> {
     alloc: Global,
@@ -43,17 +51,23 @@ impl<D: Device> Store<D> {
     /// The device comes back, and its file stands for the same agenda.
     /// - `Log`: the device failed, or the file is no log, or corrupt.
     /// - `OutOfMemory`, `Full`: the jobs don't fit.
-    /// - `NotAnAgenda`: a record is none of an agenda.
+    /// - `NotAnAgenda`: the file is a log, but stands for no agenda.
     pub fn open(alloc: Global, device: D) -> Result<Store<D>, (StoreError, D)>
         requires { IsTrue D.is_modelled → IsDurable (D.seen device) (D.may_leave device) }
         ensures sound { IfOk result (IsSound D.is_modelled D.seen D.may_leave) }
         ensures open { IfOk result IsOpen }
         ensures plan { IsTrue D.is_modelled → IfOk result (λ store. StandsFor (D.seen device) (plan_in store)) }
+        ensures refused { IsTrue D.is_modelled → IfErr result (λ e. e.0 ≡ StoreError.NotAnAgenda
+            → (plan : Plan) → StandsFor (D.seen device) plan → ⊥) }
         ensures any_moment { IsTrue D.is_modelled → IfOk result (λ store.
-            (plan : Plan) → StandsFor (D.seen device) plan → LeavesOnly D.moment D.left_since device (disk_of store) (λ c. StandsFor c plan)) }
+            (plan : Plan) → StandsFor (D.seen device) plan
+            → LeavesOnly D.moment D.left_since device (disk_of store) (λ c. StandsFor c plan)) }
         ensures any_moment_err { IsTrue D.is_modelled → IfErr result (λ e.
-            (plan : Plan) → StandsFor (D.seen device) plan → LeavesOnly D.moment D.left_since device e.1 (λ c. StandsFor c plan)) }
+            (plan : Plan) → StandsFor (D.seen device) plan
+            → LeavesOnly D.moment D.left_since device e.1 (λ c. StandsFor c plan)) }
     {
+        // For the prover: a file holds one list of records.
+        one_reading();
         match Log::open(alloc, device) {
             Ok((log, records)) => match replay(alloc, &records) {
                 Ok(planner) => Ok(Store {
@@ -68,7 +82,7 @@ impl<D: Device> Store<D> {
         }
     }
 
-    /// Returns whether no call has failed since the store was opened.
+    /// Returns whether the store is open: no failed call has closed it.
     pub fn is_open(&self) -> bool
         ensures { IsTrue result ↔ IsOpen self.now }
     {
@@ -89,9 +103,11 @@ impl<D: Device> Store<D> {
         self.log.into_device()
     }
 
-    /// Returns how many jobs there are.
+    /// Returns the number of jobs.
     pub fn len(&self) -> usize
-        ensures { result ≡ length (plan_in self.now).jobs }
+        ensures value { result ≡ length (plan_in self.now).jobs }
+        ensures lawful { IsSound D.is_modelled D.seen D.may_leave self.now
+            → IsOpen self.now → IsLawful (plan_in self.now) }
     {
         self.planner.len()
     }
@@ -103,26 +119,40 @@ impl<D: Device> Store<D> {
         self.planner.next_deadline()
     }
 
+    /// Returns an iterator over the jobs, in the order in which they leave. Each step is O(1).
+    pub fn iter(&self) -> Iter<'_>
+        ensures { result ≡ (plan_in self.now).jobs }
+    {
+        Iter {
+            entries: self.planner.agenda.iter(),
+        }
+    }
+
     /// Schedules a job, behind those that aren't due later, and returns its number. In O(log n), and amortized O(1) for growing.
     ///
     /// # Errors
     ///
+    /// - `TooLong`: there are more than [`MAX_BYTES`] bytes. Nothing changed, and the store is still open.
     /// - `OutOfMemory`, if the store is still open: nothing changed.
-    /// - else the store is closed, and its file stands for the agenda with the job or without.
+    /// - Otherwise the store is closed, and its file stands for the agenda with the job or without.
     pub fn schedule(&mut self, deadline: u64, bytes: &[u8]) -> Result<JobId, StoreError>
-        requires size { length bytes.now ≤ 65527 }
-        requires sound { IsSound D.is_modelled D.seen D.may_leave self.old }
+        requires { IsSound D.is_modelled D.seen D.may_leave self.old }
         ensures sound { IsSound D.is_modelled D.seen D.may_leave self.new }
         ensures open { OnOk result (IsOpen self.new) }
-        ensures closed { self.old.is_open ≡ false → IsErrOf result StoreError.Closed }
+        ensures closed { IsErrOf result StoreError.Closed ↔ (self.old.is_open ≡ false) }
+        ensures too_long { IsErrOf result StoreError.TooLong ↔ (IsOpen self.old × (MAX_BYTES < length bytes.now)) }
+        ensures unchanged { IsErrOf result StoreError.TooLong → self.new ≡ self.old }
         ensures id { IfOk result (λ id. id.0 ≡ (plan_in self.old).next) }
         ensures plan { OnOk result (plan_in self.new ≡ scheduled deadline bytes.now (plan_in self.old)) }
         ensures err { OnErr result (IsOpen self.new → plan_in self.new ≡ plan_in self.old) }
-        ensures any_moment { IsTrue D.is_modelled → IsOpen self.old → LeavesOnly D.moment D.left_since (disk_of self.old) (disk_of self.new)
-            (StandsForEither (plan_in self.old) (scheduled deadline bytes.now (plan_in self.old))) }
+        ensures any_moment { LeavesEither D.is_modelled D.moment D.left_since self.old self.new
+            (scheduled deadline bytes.now (plan_in self.old)) }
     {
         if !self.is_open {
             return Err(StoreError::Closed);
+        }
+        if bytes.len() > MAX_BYTES {
+            return Err(StoreError::TooLong);
         }
         let job = Vec::from_slice(self.alloc, bytes)?;
         let spelled = spell(self.alloc, Change::Schedule(deadline, bytes))?;
@@ -142,12 +172,13 @@ impl<D: Device> Store<D> {
         requires { IsSound D.is_modelled D.seen D.may_leave self.old }
         ensures sound { IsSound D.is_modelled D.seen D.may_leave self.new }
         ensures open { OnOk result (IsOpen self.new) }
-        ensures closed { self.old.is_open ≡ false → IsErrOf result StoreError.Closed }
-        ensures value { IfOk result (λ job. option_map taken job ≡ option_map told (job_at id.0 (plan_in self.old).jobs)) }
+        ensures closed { IsErrOf result StoreError.Closed ↔ (self.old.is_open ≡ false) }
+        ensures value { IfOk result (λ job.
+            option_map taken job ≡ option_map told (job_at id.0 (plan_in self.old).jobs)) }
         ensures plan { OnOk result (plan_in self.new ≡ cancelled id.0 (plan_in self.old)) }
         ensures err { OnErr result (IsOpen self.new → plan_in self.new ≡ plan_in self.old) }
-        ensures any_moment { IsTrue D.is_modelled → IsOpen self.old → LeavesOnly D.moment D.left_since (disk_of self.old) (disk_of self.new)
-            (StandsForEither (plan_in self.old) (cancelled id.0 (plan_in self.old))) }
+        ensures any_moment { LeavesEither D.is_modelled D.moment D.left_since self.old self.new
+            (cancelled id.0 (plan_in self.old)) }
     {
         if !self.is_open {
             return Err(StoreError::Closed);
@@ -173,12 +204,12 @@ impl<D: Device> Store<D> {
         requires { IsSound D.is_modelled D.seen D.may_leave self.old }
         ensures sound { IsSound D.is_modelled D.seen D.may_leave self.new }
         ensures open { OnOk result (IsOpen self.new) }
-        ensures closed { self.old.is_open ≡ false → IsErrOf result StoreError.Closed }
+        ensures closed { IsErrOf result StoreError.Closed ↔ (self.old.is_open ≡ false) }
         ensures value { IfOk result (λ found. found ≡ is_some (job_at id.0 (plan_in self.old).jobs)) }
         ensures plan { OnOk result (plan_in self.new ≡ moved id.0 deadline (plan_in self.old)) }
         ensures err { OnErr result (IsOpen self.new → plan_in self.new ≡ plan_in self.old) }
-        ensures any_moment { IsTrue D.is_modelled → IsOpen self.old → LeavesOnly D.moment D.left_since (disk_of self.old) (disk_of self.new)
-            (StandsForEither (plan_in self.old) (moved id.0 deadline (plan_in self.old))) }
+        ensures any_moment { LeavesEither D.is_modelled D.moment D.left_since self.old self.new
+            (moved id.0 deadline (plan_in self.old)) }
     {
         if !self.is_open {
             return Err(StoreError::Closed);
@@ -203,12 +234,12 @@ impl<D: Device> Store<D> {
         requires { IsSound D.is_modelled D.seen D.may_leave self.old }
         ensures sound { IsSound D.is_modelled D.seen D.may_leave self.new }
         ensures open { OnOk result (IsOpen self.new) }
-        ensures closed { self.old.is_open ≡ false → IsErrOf result StoreError.Closed }
+        ensures closed { IsErrOf result StoreError.Closed ↔ (self.old.is_open ≡ false) }
         ensures value { IfOk result (λ job. option_map popped job ≡ first_due now (plan_in self.old).jobs) }
         ensures plan { OnOk result (plan_in self.new ≡ without_due now (plan_in self.old)) }
         ensures err { OnErr result (IsOpen self.new → plan_in self.new ≡ plan_in self.old) }
-        ensures any_moment { IsTrue D.is_modelled → IsOpen self.old → LeavesOnly D.moment D.left_since (disk_of self.old) (disk_of self.new)
-            (StandsForEither (plan_in self.old) (without_due now (plan_in self.old))) }
+        ensures any_moment { LeavesEither D.is_modelled D.moment D.left_since self.old self.new
+            (without_due now (plan_in self.old)) }
     {
         if !self.is_open {
             return Err(StoreError::Closed);
@@ -230,11 +261,67 @@ impl<D: Device> Store<D> {
     pub fn get(&self, id: JobId) -> Result<Option<(u64, &[u8])>, StoreError>
         requires { IsSound D.is_modelled D.seen D.may_leave self.now }
         ensures closed { IsErrOf result StoreError.Closed ↔ (self.now.is_open ≡ false) }
-        ensures value { IfOk result (λ job. option_map (λ x. (x.0, x.1.now)) job ≡ option_map told (job_at id.0 (plan_in self.now).jobs)) }
+        ensures value { IfOk result (λ job.
+            option_map (λ x. (x.0, x.1.now)) job ≡ option_map told (job_at id.0 (plan_in self.now).jobs)) }
     {
         if !self.is_open {
             return Err(StoreError::Closed);
         }
         Ok(self.planner.get(id.0))
+    }
+
+    /// Writes the file anew: it then holds the next number and one record for each job. The agenda stays. In O(n).
+    ///
+    /// It takes memory for all records at once.
+    ///
+    /// # Errors
+    ///
+    /// - `OutOfMemory`: nothing changed, and the store is still open.
+    /// - Otherwise the store is closed, and its file stands for the agenda.
+    pub fn compact(&mut self) -> Result<(), StoreError>
+        requires { IsSound D.is_modelled D.seen D.may_leave self.old }
+        ensures sound { IsSound D.is_modelled D.seen D.may_leave self.new }
+        ensures open { OnOk result (IsOpen self.new) }
+        ensures closed { IsErrOf result StoreError.Closed ↔ (self.old.is_open ≡ false) }
+        ensures memory { IsErrOf result StoreError.OutOfMemory → IsOpen self.new × (self.new ≡ self.old) }
+        ensures plan { plan_in self.new ≡ plan_in self.old }
+        ensures compact { IsTrue D.is_modelled → OnOk result
+            (Holds (D.seen (disk_of self.new)) (map spelling (snapshot (plan_in self.old)))) }
+        ensures any_moment { LeavesPlan D.is_modelled D.moment D.left_since self.old self.new }
+    {
+        if !self.is_open {
+            return Err(StoreError::Closed);
+        }
+        let records = snapshot_of(self.alloc, &self.planner)?;
+        self.is_open = false;
+        self.log.rewrite(self.alloc, &records)?;
+        self.is_open = true;
+        Ok(())
+    }
+
+    /// Asks the device to sync once more, for a device that delays its syncs. The agenda stays, and so does the file.
+    ///
+    /// # Errors
+    ///
+    /// The store is closed, and its file stands for the agenda.
+    pub fn flush(&mut self) -> Result<(), StoreError>
+        ensures sound { IsSound D.is_modelled D.seen D.may_leave self.old
+            → IsSound D.is_modelled D.seen D.may_leave self.new }
+        ensures open { OnOk result (IsOpen self.new) }
+        ensures closed { IsErrOf result StoreError.Closed ↔ (self.old.is_open ≡ false) }
+        ensures plan { plan_in self.new ≡ plan_in self.old }
+        ensures file { IsTrue D.is_modelled → D.seen (disk_of self.new) ≡ D.seen (disk_of self.old) }
+        ensures durable { IsTrue D.is_modelled → OnOk result
+            (IsDurable (D.seen (disk_of self.new)) (D.may_leave (disk_of self.new))) }
+        ensures any_moment { IsSound D.is_modelled D.seen D.may_leave self.old
+            → LeavesPlan D.is_modelled D.moment D.left_since self.old self.new }
+    {
+        if !self.is_open {
+            return Err(StoreError::Closed);
+        }
+        self.is_open = false;
+        self.log.flush()?;
+        self.is_open = true;
+        Ok(())
     }
 }

@@ -1,7 +1,5 @@
 use Rattle.std.proofs.Common.{◌∙◌, sym, ap, Option, Some, ℕ, List}
 use Rattle.std.specs.Option.{option_map}
-use Rattle.std.specs.BTreeMap as tree
-use Rattle.std.specs.Ordering.{nat_cmp}
 use Rattle.agenda_store.specs.Plan.{Job, told}
 use Rattle.agenda_store.proofs.Links.{absent, found, told_entry}
 use Rattle.agenda_store.proofs.planner.Planner.get.Goals as goal
@@ -11,23 +9,19 @@ some_told x = Some x
 
 pub returns-in_err-ticket : goal.returns-in_err-ticket
 returns-in_err-ticket c =
-    let h = c.in_err-ticket.ensures in
-    let old = c.args.self.now in
-    let none = absent (tree.get nat_cmp old.tickets) old.next old.agenda.jobs c.requires c.args.id (sym h.value) in
+    let none = absent c.args.self.now c.requires c.args.id (sym c.in_err-ticket.ensures.value) in
     ap (λ o. option_map (λ x. (x.0, x.1.now)) o) c.from_residual.ensures ∙ sym (ap (λ (o : Option Job). option_map told o) none.0)
 
 pub returns-in_err-deadline : goal.returns-in_err-deadline
 returns-in_err-deadline c =
-    let h = c.in_err-deadline.ensures in
-    let k = c.in_ok-ticket.ensures in
-    let old = c.args.self.now in
-    let here = found (tree.get nat_cmp old.tickets) old.next old.agenda.jobs c.requires c.args.id c.in_ok-ticket.field-0.now c.len.ensures.sound.distinct (sym k.value) in
-    let e = h ∙ here.job in absurd (cc)
+    let ticket = c.in_ok-ticket.field-0.now in
+    let here = found c.args.self.now c.requires c.args.id ticket c.len.ensures.sound.distinct (sym c.in_ok-ticket.ensures.value) in
+    let e = c.in_err-deadline.ensures ∙ here.job in absurd (cc)
 
 pub returns : goal.returns
 returns c =
-    let h = c.in_ok-deadline.ensures in
-    let k = c.in_ok-ticket.ensures in
-    let old = c.args.self.now in
-    let here = found (tree.get nat_cmp old.tickets) old.next old.agenda.jobs c.requires c.args.id c.in_ok-ticket.field-0.now c.len.ensures.sound.distinct (sym k.value) in
-    ap (λ (bytes : List ℕ). some_told (c.in_ok-deadline.deadline, bytes)) c.deref.ensures.value ∙ ap (λ o. option_map told_entry o) (h ∙ here.job) ∙ sym (ap (λ (o : Option Job). option_map told o) here.at)
+    let ticket = c.in_ok-ticket.field-0.now in
+    let here = found c.args.self.now c.requires c.args.id ticket c.len.ensures.sound.distinct (sym c.in_ok-ticket.ensures.value) in
+    ap (λ (bytes : List ℕ). some_told (c.in_ok-deadline.deadline, bytes)) c.deref.ensures.value
+    ∙ ap (λ o. option_map told_entry o) (c.in_ok-deadline.ensures ∙ here.job)
+    ∙ sym (ap (λ (o : Option Job). option_map told o) here.at)

@@ -1,29 +1,47 @@
-use Rattle.std.proofs.Common.{◌∙◌, sym, subst, [], ◌∷◌, ◌++◌}
+use Rattle.std.proofs.Common.{IsTrue, ◌∙◌, sym, [], ◌∷◌, ◌++◌}
+use Rattle.record_log.specs.Device.{LeavesOnly}
 use Rattle.agenda_store.specs.Change.{moves}
-use Rattle.agenda_store.specs.Plan.{Plan}
-use Rattle.agenda_store.specs.Replay.{IsReplayed}
-use Rattle.agenda_store.specs.Store.{plan_in}
+use Rattle.agenda_store.specs.Plan.{moved}
+use Rattle.agenda_store.specs.Replay.{Replays, StandsForEither}
+use Rattle.agenda_store.specs.Store.{plan_in, disk_of, IsOpen}
 use Rattle.agenda_store.proofs.Absent.{moved_none}
-use Rattle.agenda_store.proofs.Kept.{appended, replay_more}
+use Rattle.agenda_store.proofs.Kept.{appended}
+use Rattle.agenda_store.proofs.Replays.{replaying, replayed_more}
+use Rattle.agenda_store.proofs.store.Store.move_to.Given.{Over}
 use Rattle.agenda_store.proofs.store.Store.move_to.Goals as goal
+use Rattle.agenda_store.proofs.store.Store.move_to.Goals.{After-append}
+
+-- The record is that of the change.
+replays : (g : Over) (c : After-append g)
+    → Replays c.deref.result.now (plan_in c.args.self.now) (moved c.args.id.0 c.args.deadline (plan_in c.args.self.now))
+replays g c =
+    let spelled = c.deref.ensures.value ∙ c.in_ok-record.ensures in
+    let change = moves c.args.id.0 c.args.deadline in
+    replaying change c.deref.result.now (plan_in c.args.self.now) spelled (c.has.ensures.range, c.ranges.deadline.fits) tt
+
+-- what a crash leaves during the call
+moments : (g : Over) (c : After-append g) → IsTrue g.D.Device.is_modelled → IsOpen c.args.self.now
+    → LeavesOnly g.D.Device.moment g.D.Device.left_since (disk_of c.args.self.now) c.append.new.self.device
+    (StandsForEither (plan_in c.args.self.now) (moved c.args.id.0 c.args.deadline (plan_in c.args.self.now)))
+moments g c true open-before =
+    let kept = c.requires.consistent true open-before in
+    let plan = plan_in c.args.self.now in
+    appended g.D.Device.moment g.D.Device.left_since (disk_of c.args.self.now) c.append.new.self.device kept.records c.deref.result.now
+    plan (moved c.args.id.0 c.args.deadline plan) kept.replayed (replays g c) (c.append.ensures.any_moment true kept.records kept.keeps)
 
 pub returns-then-not-has-clause-plan : goal.returns-then-not-has-clause-plan
-returns-then-not-has-clause-plan g c = moved_none c.args.id.0 c.args.deadline (plan_in c.args.self.now) (sym c.has.ensures.value ∙ c.if-not-has.true)
+returns-then-not-has-clause-plan g c =
+    moved_none c.args.id.0 c.args.deadline (plan_in c.args.self.now) (sym c.has.ensures.value ∙ c.if-not-has.true)
 
 pub returns-in_err-append-clause-any_moment : goal.returns-in_err-append-clause-any_moment
-returns-in_err-append-clause-any_moment g c = λ true open-before.
-    let kept = c.requires.consistent true open-before in
-    appended g.D.Device.moment g.D.Device.left_since c.args.self.now.log.device c.append.new.self.device kept.records (plan_in c.args.self.now) (moves c.args.id.0 c.args.deadline) c.deref.result.now
-    (c.deref.ensures.value ∙ c.in_ok-record.ensures) kept.replayed (c.has.ensures.range, c.ranges.deadline.fits) (c.append.ensures.any_moment true kept.records kept.keeps)
+returns-in_err-append-clause-any_moment g c = moments g (goal.at.returns-in_err-append-clause-any_moment g c).After-append
 
 pub returns-clause-any_moment : goal.returns-clause-any_moment
-returns-clause-any_moment g c = λ true open-before.
-    let kept = c.requires.consistent true open-before in
-    appended g.D.Device.moment g.D.Device.left_since c.args.self.now.log.device c.append.new.self.device kept.records (plan_in c.args.self.now) (moves c.args.id.0 c.args.deadline) c.deref.result.now
-    (c.deref.ensures.value ∙ c.in_ok-record.ensures) kept.replayed (c.has.ensures.range, c.ranges.deadline.fits) (c.append.ensures.any_moment true kept.records kept.keeps)
+returns-clause-any_moment g c = moments g (goal.at.returns-clause-any_moment g c).After-append
 
 pub returns-clause-sound : goal.returns-clause-sound
 returns-clause-sound g c =
+    let plan = plan_in c.args.self.now in
     record {
       linked = λ _. c.move_to-found.ensures.linked;
       consistent = λ true _.
@@ -31,7 +49,7 @@ returns-clause-sound g c =
           record {
             records = kept.records ++ c.deref.result.now ∷ [];
             keeps = c.in_ok-append.ensures.acknowledged true kept.records kept.keeps;
-            replayed = subst (λ (p : Plan). IsReplayed (kept.records ++ c.deref.result.now ∷ []) p) (sym c.move_to-found.ensures.plan)
-                (replay_more kept.records (plan_in c.args.self.now) (moves c.args.id.0 c.args.deadline) c.deref.result.now (c.deref.ensures.value ∙ c.in_ok-record.ensures) kept.replayed (c.has.ensures.range, c.ranges.deadline.fits));
+            replayed = replayed_more kept.records c.deref.result.now plan (moved c.args.id.0 c.args.deadline plan) _ kept.replayed
+                (replays g (goal.at.returns-clause-sound g c).After-append) c.move_to-found.ensures.plan;
           };
     }

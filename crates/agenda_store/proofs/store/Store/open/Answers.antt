@@ -1,6 +1,7 @@
-use Rattle.std.proofs.Common.{sym, subst}
+use Rattle.std.proofs.Common.{List, ℕ, sym, ap, subst, ◌∙◌}
 use Rattle.record_log.specs.Device.{LeavesOnly}
-use Rattle.agenda_store.specs.Replay.{StandsFor}
+use Rattle.record_log.specs.Log.{contents}
+use Rattle.agenda_store.specs.Replay.{IsReplayed, StandsFor}
 use Rattle.agenda_store.proofs.Kept.{the_same}
 use Rattle.agenda_store.proofs.store.Store.open.Goals as goal
 
@@ -19,3 +20,10 @@ pub returns-clause-any_moment_err : goal.returns-clause-any_moment_err
 returns-clause-any_moment_err g c = λ true plan stands.
     let failed = c.in-Err.ensures in
     the_same g.D.Device.moment g.D.Device.left_since c.args.device c.in-Err.device (g.D.Device.seen c.args.device) plan stands (failed.any_moment_err true)
+
+pub returns-in-Ok-clause-refused : goal.returns-in-Ok-clause-refused
+returns-in-Ok-clause-refused g c = λ true is plan stands.
+    let held = c.in-Ok.ensures.records true in
+    let records = c.one_reading.ensures (g.D.Device.seen c.args.device) stands.records (contents c.in-Ok.records.items) stands.holds held in
+    let replayed = subst (λ (rs : List (List ℕ)). IsReplayed rs plan) (records ∙ sym (ap contents c.deref.ensures.value)) stands.replayed in
+    c.in-Err-replay.ensures.refused (cc (is)) plan replayed

@@ -11,17 +11,23 @@ loop-request-preserved g c =
     let item = c.request-item.result in
     let requests = c.args.requests.now in
     let i = c.loop-request.request-index in
+    let old = c.args.self.now in
+    let mid = c.loop-request.self in
+    let lt = c.loop-request-test.true in
     let done = c.in_ok-answer.ensures in
     record {
       sound = done.sound;
       is_open = done.open;
-      plan = done.plan ∙ ap (λ (p : Plan). answered item p) before.plan ∙ sym (more requests i item (plan_in c.args.self.now) c.loop-request-test.true c.request-item.is);
-      moments = λ true. goes_on g.D.Device.moment g.D.Device.left_since (disk_of c.args.self.now) (disk_of c.loop-request.self) (disk_of c.answer.new.self) requests i item (plan_in c.args.self.now) (plan_in c.loop-request.self)
-          c.loop-request-test.true c.request-item.is before.plan (before.moments true) (done.any_moment true before.is_open);
+      plan = done.plan ∙ ap (λ (p : Plan). answered item p) before.plan ∙ sym (more requests i item (plan_in old) lt c.request-item.is);
+      moments = λ true. goes_on g.D.Device.moment g.D.Device.left_since (disk_of old) (disk_of mid) (disk_of c.answer.new.self) requests i item
+          (plan_in old) (plan_in mid) lt c.request-item.is before.plan (before.moments true) (done.any_moment true before.is_open);
     }
 
 pub returns-in_err-answer-clause-any_moment : goal.returns-in_err-answer-clause-any_moment
 returns-in_err-answer-clause-any_moment g c = λ true.
     let before = c.loop-request.invariant in
-    goes_on g.D.Device.moment g.D.Device.left_since (disk_of c.args.self.now) (disk_of c.loop-request.self) (disk_of c.answer.new.self) c.args.requests.now c.loop-request.request-index c.request-item.result (plan_in c.args.self.now) (plan_in c.loop-request.self)
-    c.loop-request-test.true c.request-item.is before.plan (before.moments true) (c.answer.ensures.any_moment true before.is_open)
+    let old = c.args.self.now in
+    let mid = c.loop-request.self in
+    goes_on g.D.Device.moment g.D.Device.left_since (disk_of old) (disk_of mid) (disk_of c.answer.new.self) c.args.requests.now
+    c.loop-request.request-index c.request-item.result (plan_in old) (plan_in mid) c.loop-request-test.true c.request-item.is before.plan
+    (before.moments true) (c.answer.ensures.any_moment true before.is_open)

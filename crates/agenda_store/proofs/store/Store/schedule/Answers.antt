@@ -1,34 +1,52 @@
-use Rattle.std.proofs.Common.{◌∙◌, sym, ap, subst, List, ℕ, [], ◌∷◌, ◌++◌}
+use Rattle.std.proofs.Common.{IsTrue, ◌∙◌, ap, List, ℕ, [], ◌∷◌, ◌++◌, arith}
+use Rattle.record_log.specs.Device.{LeavesOnly}
 use Rattle.agenda_store.specs.Change.{schedules}
-use Rattle.agenda_store.specs.Plan.{Plan, scheduled}
-use Rattle.agenda_store.specs.Replay.{IsReplayed}
-use Rattle.agenda_store.specs.Store.{plan_in}
-use Rattle.agenda_store.proofs.Kept.{appended, replay_more}
+use Rattle.agenda_store.specs.Plan.{scheduled}
+use Rattle.agenda_store.specs.Replay.{Replays, StandsForEither}
+use Rattle.agenda_store.specs.Store.{plan_in, disk_of, IsOpen}
+use Rattle.agenda_store.proofs.Kept.{appended}
+use Rattle.agenda_store.proofs.Replays.{replaying, replayed_more}
+use Rattle.agenda_store.proofs.store.Store.schedule.Given.{Over}
 use Rattle.agenda_store.proofs.store.Store.schedule.Goals as goal
+use Rattle.agenda_store.proofs.store.Store.schedule.Goals.{After-append}
+
+-- The record is that of the change.
+replays : (g : Over) (c : After-append g)
+    → Replays c.deref.result.now (plan_in c.args.self.now) (scheduled c.args.deadline c.args.bytes.now (plan_in c.args.self.now))
+replays g c =
+    let spelled = c.deref.ensures.value ∙ c.in_ok-spelled.ensures in
+    let change = schedules c.args.deadline c.args.bytes.now in
+    replaying change c.deref.result.now (plan_in c.args.self.now) spelled (c.ranges.deadline.fits, omega arith) tt
+
+-- what a crash leaves during the call
+moments : (g : Over) (c : After-append g) → IsTrue g.D.Device.is_modelled → IsOpen c.args.self.now
+    → LeavesOnly g.D.Device.moment g.D.Device.left_since (disk_of c.args.self.now) c.append.new.self.device
+    (StandsForEither (plan_in c.args.self.now) (scheduled c.args.deadline c.args.bytes.now (plan_in c.args.self.now)))
+moments g c true open-before =
+    let kept = c.requires.consistent true open-before in
+    let plan = plan_in c.args.self.now in
+    appended g.D.Device.moment g.D.Device.left_since (disk_of c.args.self.now) c.append.new.self.device kept.records c.deref.result.now
+    plan (scheduled c.args.deadline c.args.bytes.now plan) kept.replayed (replays g c) (c.append.ensures.any_moment true kept.records kept.keeps)
 
 pub returns-in_err-append-clause-any_moment : goal.returns-in_err-append-clause-any_moment
-returns-in_err-append-clause-any_moment g c = λ true open-before.
-    let kept = c.requires.sound.consistent true open-before in
-    appended g.D.Device.moment g.D.Device.left_since c.args.self.now.log.device c.append.new.self.device kept.records (plan_in c.args.self.now) (schedules c.args.deadline c.args.bytes.now) c.deref.result.now
-    (c.deref.ensures.value ∙ c.in_ok-spelled.ensures) kept.replayed c.ranges.deadline.fits (c.append.ensures.any_moment true kept.records kept.keeps)
+returns-in_err-append-clause-any_moment g c = moments g (goal.at.returns-in_err-append-clause-any_moment g c).After-append
 
 pub returns-clause-any_moment : goal.returns-clause-any_moment
-returns-clause-any_moment g c = λ true open-before.
-    let kept = c.requires.sound.consistent true open-before in
-    appended g.D.Device.moment g.D.Device.left_since c.args.self.now.log.device c.append.new.self.device kept.records (plan_in c.args.self.now) (schedules c.args.deadline c.args.bytes.now) c.deref.result.now
-    (c.deref.ensures.value ∙ c.in_ok-spelled.ensures) kept.replayed c.ranges.deadline.fits (c.append.ensures.any_moment true kept.records kept.keeps)
+returns-clause-any_moment g c = moments g (goal.at.returns-clause-any_moment g c).After-append
 
 pub returns-clause-sound : goal.returns-clause-sound
 returns-clause-sound g c =
+    let plan = plan_in c.args.self.now in
     let planned = c.in_ok-id.ensures in
+    let plan_is = planned.plan ∙ ap (λ (job : List ℕ). scheduled c.args.deadline job plan) c.in_ok-job.ensures.items in
     record {
       linked = λ _. planned.linked;
       consistent = λ true _.
-          let kept = c.requires.sound.consistent true c.if-not-self.false in
+          let kept = c.requires.consistent true c.if-not-self.false in
           record {
             records = kept.records ++ c.deref.result.now ∷ [];
             keeps = c.in_ok-append.ensures.acknowledged true kept.records kept.keeps;
-            replayed = subst (λ (p : Plan). IsReplayed (kept.records ++ c.deref.result.now ∷ []) p) (sym (planned.plan ∙ ap (λ (bytes : List ℕ). scheduled c.args.deadline bytes (plan_in c.args.self.now)) c.in_ok-job.ensures.items))
-                (replay_more kept.records (plan_in c.args.self.now) (schedules c.args.deadline c.args.bytes.now) c.deref.result.now (c.deref.ensures.value ∙ c.in_ok-spelled.ensures) kept.replayed c.ranges.deadline.fits);
+            replayed = replayed_more kept.records c.deref.result.now plan (scheduled c.args.deadline c.args.bytes.now plan) _ kept.replayed
+                (replays g (goal.at.returns-clause-sound g c).After-append) plan_is;
           };
     }
