@@ -1,6 +1,8 @@
 -- The texts of a picture: keys cut to what fits, and characters as XML has them.
-use Rattle.std.specs.Prelude.{ℕ, Bool, not, ◌-◌, ◌==◌, ◌||◌, ◌&&◌, nat_lt, nat_le, if◌then◌else◌, List, [], ◌∷◌, ◌++◌, length, codes, encode_utf8, take, flat_map}
+use Rattle.std.specs.Prelude.{◌≡◌, ⊤, Option, Some, None, ℕ, Bool, not, ◌-◌, ◌==◌, ◌||◌, ◌&&◌, nat_lt, nat_le, if◌then◌else◌, List, [], ◌∷◌, ◌++◌, length, codes, encode_utf8, take, flat_map}
 use Rattle.std.specs.Str.{chars}
+use Rattle.chain_base.specs.Chain.{Entry}
+use Rattle.tree_picture.specs.declared.picture.TheConstants.{KEY_CHARS}
 
 -- the bytes of `…`
 abbrev pub ellipsis : List ℕ
@@ -25,3 +27,15 @@ entity_of c =
 -- a text as XML text
 abbrev pub escaped : List ℕ → List ℕ
 escaped text = flat_map entity_of (chars text)
+
+-- a key whose text is known is shown by it, shortened
+abbrev pub Shows : Option (List ℕ) → List ℕ → Type 0
+Shows None shown = ⊤
+Shows (Some text) shown = shown ≡ shortened_text KEY_CHARS text
+
+-- each entry's key is shown, in order; `output` is the text of a key, if it is known
+abbrev pub ShowEach : {T K : Type 0} → (K → Option (List ℕ)) → (T → K) → List (Entry T) → List (List ℕ) → Type 0
+ShowEach output key [] [] = ⊤
+ShowEach output key (e ∷ es) (shown ∷ rest) = Shows (output (key e.item)) shown × ShowEach output key es rest
+ShowEach output key [] (shown ∷ rest) = ⊥
+ShowEach output key (e ∷ es) [] = ⊥

@@ -34,7 +34,7 @@ pub struct Place {
     /// The number of entries before it.
     pub column: u16,
     /// The number of nodes above it.
-    pub depth: u8,
+    pub depth: u16,
     /// The rank.
     pub rank: u8,
     /// The kind.

@@ -63,7 +63,7 @@ fn put_labels<P, A: Allocator>(
     row: &mut [char],
     nodes: &[Node<P, A>],
     labels: &[String<A>],
-    depth: u8,
+    depth: u16,
     width: usize,
 ) {
     for (node, label) in nodes.iter().zip(labels) {
@@ -97,14 +97,14 @@ fn put_branch(row: &mut [char], child: usize, parent: usize) {
 fn put_branches<P, A: Allocator>(
     row: &mut [char],
     nodes: &[Node<P, A>],
-    depth: u8,
+    depth: u16,
     width: usize,
 ) {
     let middle = width / 2;
     for node in nodes {
         let place = &node.place;
         if let Some(parent) = place.parent
-            && u16::from(place.depth) == u16::from(depth) + 1
+            && place.depth == depth.saturating_add(1)
         {
             let child_at = (place.column as usize).saturating_mul(width).saturating_add(middle);
             let parent_at = (parent as usize).saturating_mul(width).saturating_add(middle);
@@ -150,7 +150,6 @@ pub fn text_of<P, A: Allocator + Copy>(
     let mut row = vec![in alloc; ' '; nodes.len().saturating_mul(width)]?;
     let mut text = String::new(alloc);
     for depth in 0..picture.levels {
-        let depth = u8::try_from(depth).unwrap_or(u8::MAX);
         clear(&mut row);
         put_labels(&mut row, nodes, &labels, depth, width);
         push_row(&mut text, &row)?;
