@@ -85,9 +85,10 @@ columns-from from depth above (node l i k r) =
     (All-weaker (InColumns (at + 1) (size_of r)) whole (λ p h. (omega (arith, h.0), omega (arith, h.1))) _ (columns-from (at + 1) (depth + 1) (Some at) r))
 
 pub sides : SidesLaw
-sides l r from depth above =
-    (All-weaker (InColumns from (size_of l)) _ (λ p h. h.1) _ (columns-from from depth above l),
-     All-weaker (InColumns (from + size_of l + 1) (size_of r)) (λ p. from + size_of l < p.column) (λ p h. omega (arith, h.0)) _ (columns-from (from + size_of l + 1) depth above r))
+sides l r from depth above = (
+  All-weaker (InColumns from (size_of l)) _ (λ p h. h.1) _ (columns-from from depth above l),
+  All-weaker (InColumns (from + size_of l + 1) (size_of r)) (λ p. from + size_of l < p.column) (λ p h. omega (arith, h.0)) _ (columns-from (from + size_of l + 1) depth above r),
+)
 
 depths-from : (from depth : ℕ) (above : Option ℕ) (s : Shape) → All (IsAbove (depth + height s)) (laid from depth above s)
 depths-from from depth above missing = All-nil _
@@ -143,7 +144,7 @@ levels-within whole front back from depth above (node l i k r) cut starts below 
     (levels-within whole front (place ∷ (greater ++ back)) from (depth + 1) (Some at) l (cut ∙ cut_before front lesser place greater back) starts under)
     below
     (levels-within whole ((front ++ lesser) ++ place ∷ []) back (at + 1) (depth + 1) (Some at) r (cut ∙ cut_after front lesser place greater back)
-      (simp length-append (omega (arith, starts, many))) under)
+    (simp length-append (omega (arith, starts, many))) under)
 
 pub levels : LevelsLaw
 levels s = levels-within (layout s) [] [] 0 0 None s (sym (append-nil _)) refl refl
@@ -164,11 +165,11 @@ shown-within whole front back from depth above over (node l i k r) cut starts li
     let shown : ShowsIn whole over (node l i k r) place = rw here (inl (refl, refl), inl (refl, link)) in
     All-around (ShowsIn whole over (node l i k r)) (laid from (depth + 1) (Some at) l) place (laid (at + 1) (depth + 1) (Some at) r)
     (All-weaker (ShowsIn whole (Some i) l) (ShowsIn whole over (node l i k r)) (λ p. in-lesser p (slice_get whole p.column)) _
-      (shown-within whole front (i ∷ (walk r ++ back)) from (depth + 1) (Some at) (Some i) l (cut ∙ cut_before front (walk l) i (walk r) back) starts here))
+    (shown-within whole front (i ∷ (walk r ++ back)) from (depth + 1) (Some at) (Some i) l (cut ∙ cut_before front (walk l) i (walk r) back) starts here))
     shown
     (All-weaker (ShowsIn whole (Some i) r) (ShowsIn whole over (node l i k r)) (λ p. in-greater p (slice_get whole p.column)) _
-      (shown-within whole ((front ++ walk l) ++ i ∷ []) back (at + 1) (depth + 1) (Some at) (Some i) r (cut ∙ cut_after front (walk l) i (walk r) back)
-        (simp length-append (omega (arith, starts, many))) here))
+    (shown-within whole ((front ++ walk l) ++ i ∷ []) back (at + 1) (depth + 1) (Some at) (Some i) r (cut ∙ cut_after front (walk l) i (walk r) back)
+    (simp length-append (omega (arith, starts, many))) here))
   where
     in-lesser : (p : Place) (o : Option ℕ) → IsSomeAnd o (λ j. HasRank l j p.rank × HasParentUnder (Some i) l j (option_and_then (slice_get whole) p.parent))
         → IsSomeAnd o (λ j. HasRank (node l i k r) j p.rank × HasParentUnder over (node l i k r) j (option_and_then (slice_get whole) p.parent))

@@ -125,3 +125,10 @@ root-has-none (node l j k r) i p o is (inr (inl has)) =
 root-has-none (node l j k r) i p o is (inr (inr has)) =
     let same : j ≡ i = cc in
     absurd (omega (arith, o.once i, has-occurs r (Some j) i p has, here-same i, ap (here i) same))
+
+-- the root occurs in its shape
+pub root-occurs : (s : Shape) (i : ℕ) → root_of s ≡ Some i → 1 ≤ times_in i s
+root-occurs missing i is = absurd (cc)
+root-occurs (node l j k r) i is =
+    let same : j ≡ i = cc in
+    omega (arith, here-same i, ap (here i) same)

@@ -1,5 +1,5 @@
 //! The tree below a link of the arena.
-ghost use Rattle.std.specs.Prelude.{◌≡◌, ◌≤◌, MatchOption, option_map};
+ghost use Rattle.std.specs.Prelude.{◌≡◌, ◌≢◌, ◌≤◌, true, false, Some, MatchOption, option_map};
 ghost use Rattle.ord_tree.specs.Shape.{missing, node, rank_of, size_of, height, root_of};
 ghost use Rattle.triple_ord.specs.Arena.{count};
 ghost use Rattle.tree_picture.specs.Below.{part_at, part_below};
@@ -53,7 +53,12 @@ pub fn branch_at<P: BasePtr, T, A: Allocator>(
 }
 
 /// Returns whether the entry at an index is the root.
-fn is_root<P: BasePtr, T, A: Allocator>(arena: &SimpleOrdArena<P, T, A>, i: P::Inx) -> bool {
+fn is_root<P: BasePtr, T, A: Allocator>(arena: &SimpleOrdArena<P, T, A>, i: P::Inx) -> bool
+    ensures yes { result ≡ true → root_of arena.now.shape ≡ Some (P.Inx.number i) }
+    ensures no { result ≡ false → root_of arena.now.shape ≢ Some (P.Inx.number i) }
+{
+    // For the prover: the list and the shape are sound.
+    let _ = arena.len();
     match arena.get_inx_node(i) {
         Some(entry) => entry.1.t.p_back.get().is_none(),
         None => false,
@@ -64,6 +69,8 @@ fn is_root<P: BasePtr, T, A: Allocator>(arena: &SimpleOrdArena<P, T, A>, i: P::I
 pub fn root<P: BasePtr, T, A: Allocator>(arena: &SimpleOrdArena<P, T, A>) -> Option<P::Inx>
     ensures { option_map P.Inx.number result ≡ root_of arena.now.shape }
 {
+    // For the prover: the list and the shape are sound.
+    let _ = arena.len();
     for (p, _) in arena {
         if is_root(arena, p.inx()) {
             return Some(p.inx());
@@ -85,6 +92,8 @@ pub fn extent_below<P: BasePtr, T, A: Allocator>(
     ensures rank { result.rank
         ≡ rank_of (part_below arena.now.shape (option_map P.Inx.number link)) }
 {
+    // For the prover: the shape has as many nodes as the list has entries.
+    let _ = arena.len();
     let none = Extent {
         nodes: 0,
         levels: 0,

@@ -29,11 +29,7 @@ fn beginning<A: Allocator>(alloc: A, text: &str, n: usize) -> Result<String<A>, 
 /// # Errors
 ///
 /// `AllocError`: memory is refused.
-pub fn shortened<A: Allocator>(
-    alloc: A,
-    text: &str,
-    most: usize,
-) -> Result<String<A>, AllocError>
+pub fn shortened<A: Allocator>(alloc: A, text: &str, most: usize) -> Result<String<A>, AllocError>
     requires { 0 < most }
     ensures { IfOk result (λ short. string_bytes short ≡ shortened_text most text.now) }
 {

@@ -45,7 +45,9 @@ fn panel_width<P, A: Allocator>(caption: &str, picture: &Picture<P, A>) -> u32
     ensures { result ≡ panel_width caption.now (length picture.now.nodes.items) }
 {
     let characters = char_count(caption).min(CAPTION_CHARS) as u32;
-    picture.width().max(2 * MARGIN + CHARACTER_WIDTH * characters)
+    picture
+        .width()
+        .max(2 * MARGIN + CHARACTER_WIDTH * characters)
 }
 
 impl<P: Drop, A: Allocator + Copy> Sheet<P, A> {

@@ -123,7 +123,10 @@ fn push_key<A: Allocator>(xml: &mut String<A>, place: &Place, key: &str) -> Resu
 /// Appends a node's rank, at the end of its box.
 fn push_rank<A: Allocator>(xml: &mut String<A>, place: &Place) -> Result<(), AllocError> {
     let (x, y, rank) = (place.left() + RANK_END, place.top() + BASELINE, place.rank);
-    write!(xml, "<text class=\"rank\" x=\"{x}\" y=\"{y}\">{rank}</text>\n")
+    write!(
+        xml,
+        "<text class=\"rank\" x=\"{x}\" y=\"{y}\">{rank}</text>\n"
+    )
 }
 
 /// Appends a node: its box, its key and its rank.
@@ -191,7 +194,10 @@ fn push_panel<P, A: Allocator>(
     write!(xml, "<g transform=\"translate(0,{CAPTION_HEIGHT})\">\n")?;
     let nodes = panel.picture.nodes.as_slice();
     if nodes.is_empty() {
-        write!(xml, "<text class=\"key\" x=\"{MARGIN}\" y=\"{MARGIN}\">∅</text>\n")?;
+        write!(
+            xml,
+            "<text class=\"key\" x=\"{MARGIN}\" y=\"{MARGIN}\">∅</text>\n"
+        )?;
     }
     push_edges(xml, nodes)?;
     push_nodes(xml, nodes)?;

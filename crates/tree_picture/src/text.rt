@@ -94,20 +94,19 @@ fn put_branch(row: &mut [char], child: usize, parent: usize) {
 }
 
 /// Draws the lines from the nodes below a depth to their parents.
-fn put_branches<P, A: Allocator>(
-    row: &mut [char],
-    nodes: &[Node<P, A>],
-    depth: u16,
-    width: usize,
-) {
+fn put_branches<P, A: Allocator>(row: &mut [char], nodes: &[Node<P, A>], depth: u16, width: usize) {
     let middle = width / 2;
     for node in nodes {
         let place = &node.place;
         if let Some(parent) = place.parent
             && place.depth == depth.saturating_add(1)
         {
-            let child_at = (place.column as usize).saturating_mul(width).saturating_add(middle);
-            let parent_at = (parent as usize).saturating_mul(width).saturating_add(middle);
+            let child_at = (place.column as usize)
+                .saturating_mul(width)
+                .saturating_add(middle);
+            let parent_at = (parent as usize)
+                .saturating_mul(width)
+                .saturating_add(middle);
             put_branch(row, child_at, parent_at);
         }
     }
