@@ -1,6 +1,6 @@
 -- Lemmas of this crate.
 pub mod Parts
-pub mod Links
+pub mod LinkedParts
 pub mod LayoutLaws
 pub mod Laying
 pub mod Listing

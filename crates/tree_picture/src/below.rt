@@ -44,11 +44,11 @@ pub fn branch_at<P: BasePtr, T, A: Allocator>(
     // For the prover: the list and the shape are sound.
     let _ = arena.len();
     let entry = arena.get_inx_node(i)?;
-    let node = &entry.1.t;
+    let node = entry.1;
     Some(Branch {
-        lesser: node.p_tree0.get(),
-        greater: node.p_tree1.get(),
-        rank: node.rank,
+        lesser: node.t.p_tree0.get(),
+        greater: node.t.p_tree1.get(),
+        rank: node.t.rank,
     })
 }
 
@@ -59,10 +59,11 @@ fn is_root<P: BasePtr, T, A: Allocator>(arena: &SimpleOrdArena<P, T, A>, i: P::I
 {
     // For the prover: the list and the shape are sound.
     let _ = arena.len();
-    match arena.get_inx_node(i) {
-        Some(entry) => entry.1.t.p_back.get().is_none(),
-        None => false,
-    }
+    let Some(entry) = arena.get_inx_node(i) else {
+        return false;
+    };
+    let node = entry.1;
+    node.t.p_back.get().is_none()
 }
 
 /// Returns the index of the root, if there are entries. O(n).

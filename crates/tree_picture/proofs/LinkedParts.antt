@@ -1,7 +1,8 @@
 -- The parts of an arena's shape below its links.
-use Rattle.std.proofs.Common.{◌≡◌, ℕ, ◌+◌, ◌<◌, ◌≤◌, List, [], ◌∷◌, Option, Some, None, is_some, true, false, length, length-map, map, max, refl, sym, ap, ◌∙◌, arith, inl, inr}
+use Rattle.std.proofs.Common.{◌≡◌, ℕ, ◌+◌, ◌<◌, ◌≤◌, List, [], ◌∷◌, Option, Some, None, is_some, true, false, length, map, max, refl, sym, ap, ◌∙◌, arith, inl, inr}
 use Rattle.std.proofs.lemmas.Bool.Decides.{eqb_tells, nat_tests}
 use Rattle.std.proofs.lemmas.Grind.{common_steps}
+use Rattle.std.proofs.lemmas.List.{length-map}
 use Rattle.chain_base.specs.Chain.{Entry, IsDistinct, times as entry_times, link_at, link_between}
 use Rattle.ord_tree.specs.{Node.indexes, Parents.HasParent, Slots.times, Slots.times_in, Tree.Tree, Tree.IsSoundTree}
 use Rattle.ord_tree.specs.Shape.{Shape, missing, node, root_of, size_of, height, walk}
