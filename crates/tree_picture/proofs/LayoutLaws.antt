@@ -1,14 +1,12 @@
 -- The laws of every layout.
-use Rattle.std.proofs.Common.{◌≡◌, ◌≢◌, ℕ, zero, suc, ◌+◌, ◌*◌, ◌<◌, ◌≤◌, ◌⊎◌, Option, Some, None, List, [], ◌∷◌, ◌++◌, length, refl, sym, ap, subst, ◌∙◌, arith, inl, inr, append_assoc, append-nil, length-append, max}
+use Rattle.std.proofs.Common.{◌≡◌, ℕ, zero, suc, ◌+◌, ◌<◌, ◌≤◌, ◌⊎◌, Option, Some, None, List, [], ◌∷◌, ◌++◌, length, refl, sym, ap, ◌∙◌, arith, inl, inr, append_assoc, append-nil, length-append, max}
 use Rattle.std.specs.Prelude.{All, slice_get, IsSomeAnd, MatchOption, option_and_then}
 use Rattle.std.proofs.lemmas.List.Elements.{All-append, All-cons, All-nil, All-weaker}
-use Rattle.std.proofs.lemmas.Grind.{common_steps}
 use Rattle.ord_tree.specs.{Parents.HasParentUnder, Ranks.HasRank}
 use Rattle.ord_tree.specs.Shape.{Shape, missing, node, rank_of, size_of, height, walk}
 use Rattle.tree_picture.specs.declared.place.{Place.Place}
-use Rattle.tree_picture.specs.declared.place.TheConstants.{MARGIN, BOX_WIDTH, BOX_HEIGHT, COLUMN_WIDTH, LEVEL_HEIGHT}
-use Rattle.tree_picture.specs.Layout.{laid, left_of, top_of, width_of, height_of, kind_of}
-use Rattle.tree_picture.specs.Laws.{layout, ColumnsLaw, ShowsNode, NodesLaw, IsBelowParent, LevelsLaw, SidesLaw, IsLeftOf, ApartLaw, IsInside, InsideLaw}
+use Rattle.tree_picture.specs.Layout.{laid, kind_of}
+use Rattle.tree_picture.specs.Laws.{layout, ColumnsLaw, ShowsNode, NodesLaw, IsBelowParent, LevelsLaw, SidesLaw, ApartLaw, IsInside, InsideLaw}
 
 All-around : {X : Type 0} (P : X → Type 0) (xs : List X) (y : X) (ys : List X) → All P xs → P y → All P ys → All P (xs ++ y ∷ ys)
 All-around P xs y ys before at after = All-append P xs (y ∷ ys) before (All-cons P y ys at after)

@@ -1,5 +1,5 @@
 -- Laws of every layout.
-use Rattle.std.specs.Prelude.{◌≡◌, ◌≢◌, ℕ, ◌+◌, ◌<◌, ◌≤◌, ◌⊎◌, Option, Some, None, option_and_then, MatchOption, IsSomeAnd, List, All, slice_get}
+use Rattle.std.specs.Prelude.{◌≡◌, ℕ, ◌+◌, ◌<◌, ◌≤◌, Option, Some, None, option_and_then, MatchOption, IsSomeAnd, List, All, slice_get}
 use Rattle.ord_tree.specs.{Parents.HasParent, Ranks.HasRank}
 use Rattle.ord_tree.specs.Shape.{Shape, walk, size_of, height}
 use Rattle.tree_picture.specs.declared.place.{Place.Place}

@@ -10,4 +10,4 @@ pub returns : goal.returns
 returns g c =
     let at = rw (← c.node.view_is) at c.in_ok-entry.ensures.node in
     rw (c.get.ensures.value, c.get-2.ensures.value)
-      (branch-found c.args.arena.now c.len.ensures.tree (g.P.Inx.BasePtrInx.number c.args.i) c.node.inside.t.rank _ _ _ c.len.ensures.sound.distinct at)
+    (branch-found c.args.arena.now c.len.ensures.tree (g.P.Inx.BasePtrInx.number c.args.i) c.node.inside.t.rank _ _ _ c.len.ensures.sound.distinct at)

@@ -1,4 +1,4 @@
-use Rattle.std.proofs.Common.{◌≡◌, ℕ, ◌++◌, ◌∷◌, [], sym, ap, subst, ◌∙◌, append-nil}
+use Rattle.std.proofs.Common.{◌++◌, ◌∷◌, [], sym, ap, ◌∙◌, append-nil}
 use Rattle.chain_base.specs.Chain.{times}
 use Rattle.tree_picture.proofs.LinkedParts.{none-more, rootless}
 use Rattle.tree_picture.proofs.Listing.{cut_more}
@@ -6,10 +6,11 @@ use Rattle.tree_picture.proofs.below.root.Goals as goal
 
 pub loop-p-preserved : goal.loop-p-preserved
 loop-p-preserved g c =
-    let so_far = c.loop-p.invariant in
-    (so_far.0 ++ record { index = (g.P.BasePtr.numbers c.in-Some.p).0; generation = (g.P.BasePtr.numbers c.in-Some.p).1; item = c.in-Some.field-0-1.now } ∷ [],
+    let so_far = c.loop-p.invariant in (
+      so_far.0 ++ record { index = (g.P.BasePtr.numbers c.in-Some.p).0; generation = (g.P.BasePtr.numbers c.in-Some.p).1; item = c.in-Some.field-0-1.now } ∷ [],
       cut_more _ _ _ _ _ so_far.1 c.in-Some.ensures.steps,
-      none-more _ so_far.0 _ (rw c.inx.ensures at (c.is_root.ensures.no c.if-is_root.false)) so_far.2)
+      none-more _ so_far.0 _ (rw c.inx.ensures at (c.is_root.ensures.no c.if-is_root.false)) so_far.2,
+    )
 
 pub returns : goal.returns
 returns g c =

@@ -1,4 +1,4 @@
-use Rattle.std.proofs.Common.{◌≡◌, ℕ, List, ◌++◌, map, length, take, string_bytes}
+use Rattle.std.proofs.Common.{◌≡◌, List, ◌++◌, map, length, take, string_bytes}
 use Rattle.chain_base.specs.Chain.{Entry}
 use Rattle.triple_ord.specs.Search.{pointer}
 use Rattle.tree_picture.specs.Text.{ShowEach}

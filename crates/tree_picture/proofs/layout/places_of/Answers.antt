@@ -11,4 +11,4 @@ lay-requires-clause-columns g c =
 pub lay-requires-clause-levels : goal.lay-requires-clause-levels
 lay-requires-clause-levels g c =
     rw (c.root.ensures, whole-found c.args.arena.now.shape)
-      (omega (arith, height-le-size c.args.arena.now.shape, size-listed c.args.arena.now c.len.ensures.tree, c.requires))
+    (omega (arith, height-le-size c.args.arena.now.shape, size-listed c.args.arena.now c.len.ensures.tree, c.requires))
