@@ -1,0 +1,26 @@
+-- The steps of a layout.
+use Rattle.std.proofs.Common.{◌≡◌, ℕ, ◌+◌, Option, Some, List, [], ◌∷◌, ◌++◌, Result, Ok, Err, OnOk, length, ap, ◌∙◌, arith, append_assoc, length-append}
+use Rattle.ord_tree.specs.Shape.{Shape, node, rank_of, size_of}
+use Rattle.tree_picture.specs.declared.place.{Kind.Kind, Place.Place}
+use Rattle.tree_picture.specs.Layout.{laid, kind_of}
+use Rattle.tree_picture.proofs.LayoutLaws.{length-laid}
+
+-- what holds of an `Ok`
+pub on_ok : {X E : Type 0} (r : Result X E) (P Q : Type 0) → OnOk r P → (P → Q) → OnOk r Q
+on_ok (Ok x) P Q holds then_holds = then_holds holds
+on_ok (Err e) P Q holds then_holds = tt
+
+-- the lesser side and the node, appended one after the other
+pub length-node : (old first second : List Place) (depth at : ℕ) (l : Shape) (place : Place) → at ≡ length old + size_of l
+    → first ≡ old ++ laid (length old) (depth + 1) (Some at) l → second ≡ first ++ place ∷ [] → length second ≡ length old + size_of l + 1
+length-node old first second depth at l place is one two =
+    ap length two ∙ length-append first (place ∷ []) ∙ omega (arith, ap length one, length-append old (laid (length old) (depth + 1) (Some at) l), length-laid (length old) (depth + 1) (Some at) l)
+
+-- and then the greater side
+pub laid-node : (old first second third : List Place) (depth at i k : ℕ) (above : Option ℕ) (l r : Shape) (kind : Kind) → at ≡ length old + size_of l
+    → first ≡ old ++ laid (length old) (depth + 1) (Some at) l
+    → second ≡ first ++ record { column = at; depth = depth; rank = k; kind = kind; parent = above } ∷ []
+    → kind ≡ kind_of k (rank_of l) (rank_of r)
+    → third ≡ second ++ laid (length second) (depth + 1) (Some at) r → third ≡ old ++ laid (length old) depth above (node l i k r)
+laid-node old first second third depth at i k above l r kind is one two is_kind three =
+    rw (three, length-node old first second depth at l _ is one two, two, one, is_kind, is) (simp append_assoc)

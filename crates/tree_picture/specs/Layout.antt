@@ -1,0 +1,39 @@
+-- Where the nodes of a tree stand in its picture.
+use Rattle.std.specs.Prelude.{ℕ, ◌+◌, ◌*◌, ◌==◌, ◌&&◌, if◌then◌else◌, min, max, Option, Some, List, [], ◌∷◌, ◌++◌, length}
+use Rattle.std.specs.Str.{chars}
+use Rattle.ord_tree.specs.Shape.{Shape, missing, node, rank_of, size_of}
+use Rattle.tree_picture.specs.declared.place.{Kind.Kind, Kind.TheVariants.Full, Kind.TheVariants.Uneven, Kind.TheVariants.Slack, Place.Place}
+use Rattle.tree_picture.specs.declared.sheet.TheConstants.{CAPTION_CHARS, CHARACTER_WIDTH}
+use Rattle.tree_picture.specs.declared.place.TheConstants.{COLUMN_WIDTH, LEVEL_HEIGHT, MARGIN}
+
+-- the kind of a node of rank k over sides of ranks l and r
+abbrev pub kind_of : ℕ → ℕ → ℕ → Kind
+kind_of k l r = if (k == l + 1) && (k == r + 1) then Full else (if (k == l + 2) && (k == r + 2) then Slack else Uneven)
+
+-- The places of the nodes of a shape, in order, from this column on, at this depth, under a parent in the column `above`, if any. Both
+-- sides of a node stand under it, one level deeper.
+abbrev pub laid : ℕ → ℕ → Option ℕ → Shape → List Place
+laid from depth above missing = []
+laid from depth above (node l i k r) =
+    let at = from + size_of l in
+    laid from (depth + 1) (Some at) l
+    ++ record { column = at; depth = depth; rank = k; kind = kind_of k (rank_of l) (rank_of r); parent = above }
+    ∷ laid (at + 1) (depth + 1) (Some at) r
+
+-- where the box of a node in this column begins from the left, and of one at this depth from the top
+abbrev pub left_of : ℕ → ℕ
+left_of column = MARGIN + COLUMN_WIDTH * column
+
+abbrev pub top_of : ℕ → ℕ
+top_of depth = MARGIN + LEVEL_HEIGHT * depth
+
+-- the size of the picture of so many nodes, and of so many levels
+abbrev pub width_of : ℕ → ℕ
+width_of nodes = 2 * MARGIN + COLUMN_WIDTH * nodes
+
+abbrev pub height_of : ℕ → ℕ
+height_of levels = 2 * MARGIN + LEVEL_HEIGHT * levels
+
+-- the width of a picture of so many nodes with its caption, of which so many characters at most are shown
+abbrev pub panel_width : List ℕ → ℕ → ℕ
+panel_width caption nodes = max (width_of nodes) (2 * MARGIN + CHARACTER_WIDTH * min (length (chars caption)) CAPTION_CHARS)

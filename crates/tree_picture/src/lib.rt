@@ -1,0 +1,24 @@
+//! Pictures of the balanced tree of an ordered arena: its layout, and two ways to write it, as SVG and as text.
+#![tactic(auto)]
+
+mod below;
+mod error;
+mod escaping;
+mod key_text;
+pub mod laws;
+mod layout;
+mod picture;
+mod place;
+mod sheet;
+mod svg;
+mod text;
+
+pub use error::PictureError;
+pub use escaping::push_escaped;
+pub use key_text::shortened;
+pub use layout::picture_of;
+pub use picture::{KEY_CHARS, MOST_ENTRIES, Node, Picture};
+pub use place::{BOX_HEIGHT, BOX_WIDTH, COLUMN_WIDTH, Kind, LEVEL_HEIGHT, MARGIN, Place};
+pub use sheet::{CAPTION_CHARS, CHARACTER_WIDTH, MOST_WIDTH, Panel, Sheet};
+pub use svg::{Links, svg_of};
+pub use text::text_of;
