@@ -1,7 +1,8 @@
 //! Measures an ordered arena beside std's `BTreeMap` and plain vectors, and its searches from a hint beside whole ones; and a sorted
-//! arena beside `BTreeMap`; and an agenda beside std's `BinaryHeap` and `BTreeMap`; and an order book beside two `BTreeMap`s.
+//! arena beside `BTreeMap`; an agenda beside std's `BinaryHeap` and `BTreeMap`; a timeline beside a `BTreeMap` of its changes; and an order
+//! book beside two `BTreeMap`s.
 //!
-//! Each argument is a number of entries, of jobs, and of orders. Standard output gets the sums of what the measured calls answered,
+//! Each argument is a number of entries, of jobs, of stretches, and of orders. Standard output gets the sums of what the measured calls answered,
 //! the same on each run; standard error gets their times, in nanoseconds an operation, the best of several rounds.
 #![tactic(auto)]
 
@@ -17,6 +18,7 @@ mod report;
 mod scheduling;
 mod sorted;
 mod sorting;
+mod spanning;
 mod store;
 mod task;
 mod timetable;
@@ -36,6 +38,7 @@ fn main(rt: HostRuntime) -> Result<()> {
         rekeying::run(&rt, n)?;
         sorting::run(&rt, n)?;
         scheduling::run(&rt, n)?;
+        spanning::run(&rt, n)?;
         trading::run(&rt, n)?;
     }
     Ok(())

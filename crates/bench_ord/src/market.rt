@@ -24,6 +24,9 @@ pub trait Market: Drop {
 
     /// Cancels an order. Answers what was left of it, 0 where the name names none.
     fn cancel(&mut self, id: Self::Id) -> u64;
+
+    /// Returns what the first price levels of a side come to, price by quantity.
+    fn depth(&self, side: Side, levels: usize) -> u64;
 }
 
 /// An order book with the trades of the last order that came in.
@@ -66,6 +69,14 @@ impl Market for Book {
             Some(order) => order.quantity,
             None => 0,
         }
+    }
+
+    fn depth(&self, side: Side, levels: usize) -> u64 {
+        let mut sum = 0u64;
+        for level in self.book.depth(side, levels) {
+            sum = sum.wrapping_add(level.price.wrapping_mul(level.quantity as u64));
+        }
+        sum
     }
 }
 
@@ -152,6 +163,23 @@ impl Orders {
     fn cancel(&mut self, key: Key) -> u64 {
         self.orders.remove(&key).unwrap_or(0)
     }
+
+    fn depth(&self, levels: usize) -> u64 {
+        let mut sum = 0u64;
+        let mut left = levels;
+        let mut last = None;
+        for (key, quantity) in &self.orders {
+            if last != Some(key.0) {
+                let Some(fewer) = left.checked_sub(1) else {
+                    break;
+                };
+                left = fewer;
+                last = Some(key.0);
+            }
+            sum = sum.wrapping_add(ranked(self.side, key.0).wrapping_mul(*quantity));
+        }
+        sum
+    }
 }
 
 // What trades come to.
@@ -220,6 +248,13 @@ impl Market for Maps {
         match id.0 {
             Side::Buy => self.bids.cancel(id.1),
             Side::Sell => self.asks.cancel(id.1),
+        }
+    }
+
+    fn depth(&self, side: Side, levels: usize) -> u64 {
+        match side {
+            Side::Buy => self.bids.depth(levels),
+            Side::Sell => self.asks.depth(levels),
         }
     }
 }

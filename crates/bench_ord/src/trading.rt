@@ -8,7 +8,11 @@ use order_book::Side;
 use std::alloc::AllocError;
 use std::time::Instant;
 
-/// Measures n orders that come to rest, and a stream of n orders over them, and prints it.
+/// The number of price levels that are looked at.
+const LEVELS: usize = 5;
+
+/// Measures n orders that come to rest, a stream of n orders over them, and one more in which each step looks at the first levels of a
+/// side, and prints it.
 pub fn run(rt: &HostRuntime, n: usize) -> Result<()> {
     let keys = keys_of(rt.alloc(), n)?;
     let (resting, stream) = (keys.random.as_slice(), keys.misses.as_slice());
@@ -19,14 +23,16 @@ pub fn run(rt: &HostRuntime, n: usize) -> Result<()> {
         maps = maps.or_quicker(round_of::<Maps>(rt, resting, stream)?);
     }
     report(rt, n, "place at rest", book.rest, maps.rest)?;
-    report(rt, n, "place, cancel, trade", book.stream, maps.stream)
+    report(rt, n, "place, cancel, trade", book.stream, maps.stream)?;
+    report(rt, n, "the same, and depth", book.watched, maps.watched)
 }
 
-// One round: how long the orders took that came to rest, and the stream over them.
+// One round: how long the orders took that came to rest, the stream over them, and the stream with looks at the levels.
 #[derive(Clone, Copy)]
 struct Round {
     rest: Lap,
     stream: Lap,
+    watched: Lap,
 }
 
 impl Round {
@@ -35,6 +41,7 @@ impl Round {
         Round {
             rest: self.rest.or_quicker(other.rest),
             stream: self.stream.or_quicker(other.stream),
+            watched: self.watched.or_quicker(other.watched),
         }
     }
 }
@@ -62,8 +69,14 @@ fn round_of<M: Market>(rt: &HostRuntime, resting: &[u64], stream: &[u64]) -> Res
     let rest = Lap::since(rt, start, ids.len() as u64)?;
     let start = Instant::now(rt)?;
     let sum = go_on(&mut market, &mut ids, stream)?;
-    let stream = Lap::since(rt, start, sum)?;
-    Ok(Round { rest, stream })
+    let stream_lap = Lap::since(rt, start, sum)?;
+    let start = Instant::now(rt)?;
+    let sum = go_on_watched(&mut market, &mut ids, resting)?;
+    Ok(Round {
+        rest,
+        stream: stream_lap,
+        watched: Lap::since(rt, start, sum)?,
+    })
 }
 
 // The side that a random number says.
@@ -158,6 +171,20 @@ fn go_on<M: Market>(
     let mut sum = 0u64;
     for random in numbers {
         sum = sum.wrapping_add(step(market, ids, *random)?);
+    }
+    Ok(sum)
+}
+
+// Takes a step for each number, and looks at the first levels of a side after it. Answers what was traded, cancelled and seen.
+fn go_on_watched<M: Market>(
+    market: &mut M,
+    ids: &mut Vec<M::Id>,
+    numbers: &[u64],
+) -> Result<u64, AllocError> {
+    let mut sum = 0u64;
+    for random in numbers {
+        sum = sum.wrapping_add(step(market, ids, *random)?);
+        sum = sum.wrapping_add(market.depth(side_of(*random), LEVELS));
     }
     Ok(sum)
 }

@@ -48,6 +48,27 @@ fn tell_whole<W: Write>(out: &mut W, calendar: &Calendar, time: u64) -> io::Resu
     }
 }
 
+/// The most parts of a strip.
+const PARTS: u64 = 48;
+
+// Writes a time as a row of equal parts, each by the first letter of the word that holds at its beginning.
+fn tell_strip<W: Write>(out: &mut W, calendar: &Calendar, from: u64, until: u64) -> io::Result<()> {
+    let part = until.saturating_sub(from).div_ceil(PARTS);
+    let mut time = from;
+    for _ in 0..PARTS {
+        if time >= until {
+            break;
+        }
+        let letter = match calendar.get(time) {
+            Some(word) => word.as_str().chars().next().unwrap_or(' '),
+            None => '.',
+        };
+        write!(out, "{letter}")?;
+        time = time.saturating_add(part);
+    }
+    writeln!(out)
+}
+
 // Makes a word hold, or none, until an end or for ever.
 fn put(
     alloc: Global,
@@ -92,6 +113,7 @@ pub fn obey<W: Write>(
         Command::At(time) => tell_whole(out, calendar, time)?,
         Command::Spans(from, until) => tell_spans(out, calendar, from, until)?,
         Command::Gaps(from, until) => tell_gaps(out, calendar, from, until)?,
+        Command::Strip(from, until) => tell_strip(out, calendar, from, until)?,
         Command::Help => out.write_all(HELP.as_bytes())?,
         Command::Blank => return Ok(false),
     }

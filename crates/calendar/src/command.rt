@@ -15,6 +15,7 @@ pub enum Command<'a> {
     At(u64),
     Spans(u64, u64),
     Gaps(u64, u64),
+    Strip(u64, u64),
     Help,
     Blank,
 }
@@ -76,8 +77,9 @@ fn read_named<'a>(
         "clear" => clear(words),
         "get" => Ok(Command::Get(number(words.next())?)),
         "at" => Ok(Command::At(number(words.next())?)),
-        "spans" => spans(words),
-        "gaps" => gaps(words),
+        "spans" => time(words).map(|(from, until)| Command::Spans(from, until)),
+        "gaps" => time(words).map(|(from, until)| Command::Gaps(from, until)),
+        "strip" => time(words).map(|(from, until)| Command::Strip(from, until)),
         "help" => Ok(Command::Help),
         _ => Err(Misread::UnknownCommand),
     }
@@ -96,16 +98,11 @@ fn clear<'a>(words: &mut SplitAsciiWhitespace<'a>) -> Result<Command<'a>, Misrea
     Ok(Command::Clear(from, until))
 }
 
-fn spans<'a>(words: &mut SplitAsciiWhitespace<'a>) -> Result<Command<'a>, Misread> {
+// A time: the number at which it begins, and the one at which it has ended.
+fn time(words: &mut SplitAsciiWhitespace) -> Result<(u64, u64), Misread> {
     let from = number(words.next())?;
     let until = number(words.next())?;
-    Ok(Command::Spans(from, until))
-}
-
-fn gaps<'a>(words: &mut SplitAsciiWhitespace<'a>) -> Result<Command<'a>, Misread> {
-    let from = number(words.next())?;
-    let until = number(words.next())?;
-    Ok(Command::Gaps(from, until))
+    Ok((from, until))
 }
 
 // The end that a word says: a number, or none if the word is `-`.

@@ -26,6 +26,7 @@ Reads one command per line and answers each:
   at TIME               the whole span around a time; - if it has no end
   spans FROM UNTIL      a line for each span in that time
   gaps FROM UNTIL       a line for each gap in that time
+  strip FROM UNTIL      that time in a row of at most 48 first letters, . for no word
   help                  this text
 
 A bad line is answered by `line N: REASON` and changes nothing. The last line has totals.

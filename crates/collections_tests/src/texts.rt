@@ -24,6 +24,14 @@ fn texts_of_refused_orders(rt: HostRuntime) {
     let texts = [
         (PlacingError::NoQuantity, "an order for nothing, NoQuantity"),
         (
+            PlacingError::WouldTrade,
+            "the order would trade, WouldTrade",
+        ),
+        (
+            PlacingError::WouldNotFill,
+            "the order would not be filled, WouldNotFill",
+        ),
+        (
             PlacingError::BeyondMaxCapacity,
             "as many orders as there can be, BeyondMaxCapacity",
         ),

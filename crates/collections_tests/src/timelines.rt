@@ -336,3 +336,11 @@ fn a_setting_with_room_for_two_changes_asks_for_no_memory(rt: HostRuntime) {
     assert!(rt; set_from(&mut numbers, 40) == Some(true));
     assert!(rt; (numbers.len(), numbers.capacity()) == (10, 16));
 }
+
+#[test]
+fn a_timeline_is_printed_as_its_changes(rt: HostRuntime) {
+    let mut numbers = Numbers::new(rt.alloc());
+    numbers.set(9, 17, 1).expect(&rt, "memory");
+    let text = format!(in rt.alloc(); "{numbers:?}").expect(&rt, "memory");
+    assert!(rt; text.as_str() == "{9: Some(1), 17: None}");
+}

@@ -1,9 +1,11 @@
 //! What the exchange answers to each line.
 
 use crate::HELP;
+use crate::chart::write_chart;
 use crate::command::{Command, Fault};
 use crate::exchange::Exchange;
 use order_book::{Order, OrderKind, Side};
+use std::alloc::Global;
 use std::io;
 use std::io::Write;
 
@@ -145,6 +147,7 @@ fn change<W: Write>(
 
 /// Does what a line says, and answers it.
 pub fn obey<W: Write>(
+    alloc: Global,
     writer: &mut W,
     exchange: &mut Exchange,
     figures: &mut Figures,
@@ -162,6 +165,7 @@ pub fn obey<W: Write>(
             write_depth(writer, exchange, Side::Buy, levels)?;
             write_depth(writer, exchange, Side::Sell, levels)?;
         }
+        Command::Chart(levels) => write_chart(alloc, writer, exchange, levels)?,
         Command::Help => write!(writer, "{HELP}")?,
         command => change(writer, exchange, figures, command)?,
     }

@@ -17,6 +17,7 @@ pub enum Command {
     Replace(u64, u64, u64),
     Best,
     Depth(usize),
+    Chart(usize),
     Help,
 }
 
@@ -87,7 +88,8 @@ fn read_other(name: &str, words: &mut SplitAsciiWhitespace) -> Result<Command, M
         "reduce" => reduce(words),
         "replace" => replace(words),
         "best" => Ok(Command::Best),
-        "depth" => depth(words),
+        "depth" => Ok(Command::Depth(levels(words)?)),
+        "chart" => Ok(Command::Chart(levels(words)?)),
         "help" => Ok(Command::Help),
         _ => Err(Misread::UnknownCommand),
     }
@@ -136,10 +138,10 @@ fn replace(words: &mut SplitAsciiWhitespace) -> Result<Command, Misread> {
 }
 
 // How many levels to show: five, if the line doesn't say.
-fn depth(words: &mut SplitAsciiWhitespace) -> Result<Command, Misread> {
+fn levels(words: &mut SplitAsciiWhitespace) -> Result<usize, Misread> {
     match words.next() {
-        Some(word) => Ok(Command::Depth(number(Some(word))? as usize)),
-        None => Ok(Command::Depth(5)),
+        Some(word) => Ok(number(Some(word))? as usize),
+        None => Ok(5),
     }
 }
 

@@ -2,6 +2,7 @@
 #![tactic(auto)]
 
 mod answers;
+mod chart;
 mod command;
 mod exchange;
 
@@ -9,6 +10,7 @@ use answers::{Figures, obey, report, write_totals};
 use command::Fault;
 use command_line::{Request, WRONG_USAGE};
 use exchange::Exchange;
+use std::alloc::Global;
 use std::io::{BufRead, BufReader, BufWriter, Write};
 use std::process::ExitCode;
 use std::{io, str};
@@ -30,6 +32,7 @@ Reads one command per line and answers each:
   cancel ORDER
   best                                the best bid and ask
   depth [LEVELS]                      price, quantity and orders of each level
+  chart [LEVELS]                      price and quantity of each level, as bars
   help
 
 Numbers are decimal digits, at most 18446744073709551615. A bad line is answered
@@ -40,6 +43,7 @@ Exit status: 0; 1 if reading or writing failed; 64 on wrong usage.
 
 /// Obeys a line, and answers it. A line that can't be obeyed is reported by its number and changes nothing; a blank one is passed over.
 fn answer<W: Write>(
+    alloc: Global,
     writer: &mut W,
     exchange: &mut Exchange,
     figures: &mut Figures,
@@ -47,7 +51,7 @@ fn answer<W: Write>(
 ) -> io::Result<()> {
     let outcome = match str::from_utf8(line) {
         Ok(text) if text.trim_ascii().is_empty() => return Ok(()),
-        Ok(text) => obey(writer, exchange, figures, text),
+        Ok(text) => obey(alloc, writer, exchange, figures, text),
         Err(_) => Err(Fault::NotText),
     };
     report(writer, figures, outcome)
@@ -68,7 +72,7 @@ fn serve<W: Write>(
             break;
         }
         figures.lines = figures.lines.saturating_add(1);
-        answer(writer, exchange, figures, line.as_slice())?;
+        answer(rt.alloc(), writer, exchange, figures, line.as_slice())?;
         if !input.buffer().contains(&b'\n') {
             writer.flush()?;
         }

@@ -1,7 +1,8 @@
 //! Commands to an ordered arena, and scripts of them: bytes in, replies out.
 //!
 //! `run` runs commands on any `SimpleOrdArena`, and returns a reply to each. `serve` reads a whole script, runs its commands on an arena
-//! of pairs, and writes a line for each reply. `parse` reads the commands of a script, for callers that run them on an arena of their own. `laws` states facts about every run and every script.
+//! of pairs, and writes a line for each reply. `parse` reads the commands of a script, for callers that run them on an arena of their own.
+//! `laws` states facts about every run and every script.
 #![tactic(auto)]
 
 mod arguments;

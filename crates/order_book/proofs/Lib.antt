@@ -2,3 +2,4 @@ pub mod Volumes
 pub mod Apart
 pub mod Pairs
 pub mod Deals
+pub mod Names

@@ -7,6 +7,7 @@ ghost use Rattle.arena_base.specs.Arena.{capacity_for};
 ghost use Rattle.order_queue.specs.Queue.{most_orders, first_of, first_levels, resting, traded, within, reduced_order, total, volume, HasRoomFor};
 ghost use Rattle.order_queue.specs.declared.side.Side.TheVariants.{Buy, Sell};
 ghost use Rattle.order_book.specs.Book.{opposite, queue, empty_queue, named, limit_of, can_rest, only_rests, is_whole, without, with_less, replacement};
+ghost use Rattle.order_book.specs.Names.{IsStep};
 ghost use Rattle.order_book.specs.Book.{trades_for, trades_of, untraded, rest_of, AreWithin, IsBook, IsFull, IsUntraded, LacksRoom, Places, Updates};
 
 use crate::error::{PlacingError, ReplacingError};
@@ -102,6 +103,7 @@ impl<A: Allocator> OrderBook<A> {
             ↔ (most_orders < length (queue self.old side).orders + additional) }
         ensures memory { result ≡ Err ReallocationError.AllocError
             → (queue self.old side).capacity < length (queue self.old side).orders + additional }
+        ensures step { IsStep self.old self.new }
         ensures err { OnErr result (self.new ≡ self.old) }
     {
         match side {
@@ -180,6 +182,7 @@ impl<A: Allocator> OrderBook<A> {
         ensures count { OnSome result (length (queue self.old id.side).orders
             ≡ length (queue self.new id.side).orders + 1) }
         ensures gone { OnSome result (self.new ≡ without self.old id) }
+        ensures step { IsStep self.old self.new }
         ensures none { IfNone result (self.new ≡ self.old) }
     {
         match id.side() {
@@ -197,6 +200,7 @@ impl<A: Allocator> OrderBook<A> {
         ensures updates { Updates self.old self.new id
             (reduced_order (named self.old id) quantity) }
         ensures after { IfSome result (λ left. self.new ≡ with_less self.old id left) }
+        ensures step { IsStep self.old self.new }
         ensures none { IfNone result (self.new ≡ self.old) }
     {
         match id.side() {
@@ -301,6 +305,7 @@ impl<A: Allocator> OrderBook<A> {
             (trades_of self.old order)
             ⊎ ((0 < rest_of self.old order) × IsFull (queue self.old order.side)
             × (length (queue self.old order.side).orders ≢ most_orders)) }
+        ensures step { IsStep self.old self.new }
         ensures err { OnErr result (self.new ≡ self.old) }
         ensures kept { OnErr result (trades.new.items ≡ trades.old.items) }
     {
@@ -362,6 +367,7 @@ impl<A: Allocator> OrderBook<A> {
         ensures memory { result ≡ Err ReplacingError.AllocError
             → LacksRoom (vec_capacity trades.old) (length trades.old.items)
             (trades_of (without self.old id) (replacement self.old id price quantity)) }
+        ensures step { IsStep self.old self.new }
         ensures err { OnErr result (self.new ≡ self.old) }
         ensures kept { OnErr result (trades.new.items ≡ trades.old.items) }
     {

@@ -3,6 +3,7 @@
 
 mod book;
 mod error;
+pub mod laws;
 mod new_order;
 mod settling;
 

@@ -1,11 +1,13 @@
 //! A desk that deals for others, and says at once how much was dealt.
 
 ghost use Rattle.std.specs.Prelude.{◌≡◌, ◌≢◌, ◌↔◌, ◌+◌, ◌-◌, ◌++◌, ◌<◌, ◌⊎◌, ℕ, [], ◌∷◌, length, vec_capacity, IsTrue, true, false};
-ghost use Rattle.std.specs.Prelude.{Some, None, Ok, Err, IfOk, OnOk, OnErr, IfSome, IfNone};
+ghost use Rattle.std.specs.Prelude.{Some, None, Ok, Err, IfOk, OnOk, OnErr, OnSome, IfSome, IfNone};
 ghost use Rattle.std.specs.Option.{option_map};
 ghost use Rattle.order_book.specs.Words.{HasRoomFor, first_levels, volume};
+ghost use Rattle.order_book.specs.Names.{Counts, HasEnded, HasNoLaterName};
 ghost use Rattle.order_book.specs.Book.{IsFull, LacksRoom, Updates, named, queue, rest_of, trades_for, trades_of};
 
+use order_book::laws::ended_name_law;
 use order_book::{
     Level, NewOrder, OrderBook, OrderId, OrderKind, PlacingError, ReallocationError, Side, Trade,
 };
@@ -83,11 +85,16 @@ impl Desk {
     }
 
     /// Removes an order and returns how much was left of it. `None` if the name names none.
+    ///
+    /// The name has ended, unless generations begin again.
     pub fn withdraw(&mut self, id: OrderId) -> Option<u64>
         ensures left { result ≡ option_map (λ order. order.quantity) (named self.old id) }
         ensures updates { Updates self.old self.new id None }
+        ensures ended { HasNoLaterName self.old → Counts self.old self.new
+            → OnSome result (HasEnded self.new id) }
         ensures none { IfNone result (self.new ≡ self.old) }
     {
+        ended_name_law();
         let order = self.book.cancel(id)?;
         Some(order.quantity)
     }
@@ -121,6 +128,8 @@ impl Desk {
     }
 
     /// Deals all of an order at once, or nothing of it, and returns whether it was dealt. It needs room for its trades alone.
+    ///
+    /// Names that have ended stay so, unless generations begin again.
     pub fn deal_whole(
         &mut self,
         side: Side,
@@ -136,8 +145,13 @@ impl Desk {
         })) ≡ quantity }
         ensures declined { result ≡ Ok false → self.new ≡ self.old }
         ensures not_full { result ≢ Err PlacingError.BeyondMaxCapacity }
+        ensures ended { Counts self.old self.new → (other : _) → HasEnded self.old other
+            → HasEnded self.new other }
+        ensures later { Counts self.old self.new → HasNoLaterName self.old
+            → HasNoLaterName self.new }
         ensures refused { OnErr result (self.new ≡ self.old) }
     {
+        ended_name_law();
         let order = NewOrder {
             side,
             kind: OrderKind::FillOrKill(price),

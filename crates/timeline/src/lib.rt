@@ -2,6 +2,7 @@
 #![tactic(auto)]
 
 mod changes;
+mod debug;
 mod gaps;
 mod list;
 mod paint;

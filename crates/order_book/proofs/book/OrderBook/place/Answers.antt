@@ -1,6 +1,8 @@
 use Rattle.std.proofs.Common.{sym, subst}
 use Rattle.order_book.specs.Book.{Book, IsBook}
 use Rattle.order_book.proofs.Pairs.{pair-settled_bid, pair-settled_ask}
+use Rattle.order_book.proofs.Names.{goes-own, goes-other, step-of}
+use Rattle.order_book.proofs.book.OrderBook.place.Goals.{in-Buy, in-Sell}
 use Rattle.order_book.proofs.book.OrderBook.place.Goals as goal
 
 pub invariant_of-self : goal.invariant_of-self
@@ -32,3 +34,21 @@ invariant_of-self-in-Sell g c =
       own_kept = settled.ensures.own_kept;
       other_kept = settled.ensures.other_kept;
     })
+
+pub returns-in-Ok-clause-step : goal.returns-in-Ok-clause-step
+returns-in-Ok-clause-step g c =
+    let bids = c.self.inside.bids in
+    let asks = c.self.inside.asks in
+    let lawful : IsBook (record { bids = bids; asks = asks }) = subst (λ (b : Book). IsBook b) (sym c.self.view_is) c.count.ensures.lawful in
+    elim c.match-order.branch [
+      | in-Buy w ↦
+        let settled = w.settle-settled in
+        step-of bids asks settled.new.own settled.new.other c.args.self.now c.match-order.self c.self.view_is w.self-is
+        (λ counted. goes-own settled.result bids settled.new.own settled.ensures.own_kept _ _ _ settled.ensures.rests)
+        (λ counted. goes-other settled.result asks settled.new.other settled.ensures.other_kept _ lawful.asks.summable.few settled.ensures.taken counted)
+      | in-Sell w ↦
+        let settled = w.settle-settled-in-Sell in
+        step-of bids asks settled.new.other settled.new.own c.args.self.now c.match-order.self c.self.view_is w.self-is
+        (λ counted. goes-other settled.result bids settled.new.other settled.ensures.other_kept _ lawful.bids.summable.few settled.ensures.taken counted)
+        (λ counted. goes-own settled.result asks settled.new.own settled.ensures.own_kept _ _ _ settled.ensures.rests)
+    ]

@@ -1,0 +1,299 @@
+-- Names that have ended stay so: how names go on from one book to the next.
+use Rattle.std.proofs.Common.{◌≡◌, ◌≢◌, ℕ, zero, suc, ◌+◌, ◌-◌, ◌<◌, ◌≤◌, ◌==◌, ◌&&◌, ◌⊎◌, inl, inr, List, [], ◌∷◌, ◌++◌, length, Option, Some, None, IsSome, is_some, IfSome, IfNone, OnSome, Result, Ok, Err, IfOk, OnOk, OnErr, true, false, refl, sym, ap, subst, ◌∙◌, arith, if◌then◌else◌}
+use Rattle.std.specs.Prelude.{Bool, nat_lt}
+use Rattle.std.proofs.{lemmas.Bool.Decides.eqb_tells}
+use Rattle.order_queue.specs.Queue.{Queue, most_orders, is_named_by, order_of, without, with_rest, with_quantity, generation_after, behind, generation_behind, taken, with_left, reduced, Rests}
+use Rattle.order_queue.specs.{Id.Id, declared.order.Order.Order, declared.side.Side.TheVariants.Buy, declared.side.Side.TheVariants.Sell}
+use Rattle.order_book.specs.Book.{Book, RestsOrNot, queue, named}
+use Rattle.order_book.specs.Names.{GoesOn, Counts, IsStep, IsRun, HasNoLaterName, HasEnded, KeepsEnded, EndedNameLaw}
+
+-- a pointer names an order also where others stand before it
+there-behind : (x : Order) (xs : List Order) (p : ℕ × ℕ) → IsSome (order_of xs p) → IsSome (order_of (x ∷ xs) p)
+there-behind x xs p there = elim (is_named_by p x) as (λ b. IsSome (if b then Some x else order_of xs p)) [
+  | true ↦ refl
+  | false ↦ there
+]
+
+-- how much is left of an order doesn't touch what names it
+there-kept : (x : Order) (n : ℕ) (xs : List Order) (p : ℕ × ℕ) → IsSome (order_of (x ∷ xs) p) → IsSome (order_of (with_rest x n ∷ xs) p)
+there-kept x n xs p = elim (is_named_by p x) as (λ b. IsSome (if b then Some x else order_of xs p) → IsSome (if b then Some (with_rest x n) else order_of xs p)) [
+  | true ↦ λ there. refl
+  | false ↦ λ there. there
+]
+
+there-before : (x : Order) (n : ℕ) (xs : List Order) (p : ℕ × ℕ) → IsSome (order_of (with_rest x n ∷ xs) p) → IsSome (order_of (x ∷ xs) p)
+there-before x n xs p = elim (is_named_by p x) as (λ b. IsSome (if b then Some (with_rest x n) else order_of xs p) → IsSome (if b then Some x else order_of xs p)) [
+  | true ↦ λ there. refl
+  | false ↦ λ there. there
+]
+
+-- what a pointer names among fewer orders, it names among all
+there-without : (xs : List Order) (p u : ℕ × ℕ) → IsSome (order_of (without xs p) u) → IsSome (order_of xs u)
+there-without [] p u = λ there. there
+there-without (x ∷ xs) p u = elim (is_named_by p x) as (λ b. IsSome (order_of (if b then xs else x ∷ without xs p) u) → IsSome (order_of (x ∷ xs) u)) [
+  | true ↦ λ there. there-behind x xs u there
+  | false ↦ elim (is_named_by u x) as (λ b. IsSome (if b then Some x else order_of (without xs p) u) → IsSome (if b then Some x else order_of xs u)) [
+    | true ↦ λ there. refl
+    | false ↦ λ there. there-without xs p u there
+  ]
+]
+
+there-taken : (xs : List Order) (n : ℕ) (p : ℕ × ℕ) → IsSome (order_of (behind n xs) p) → IsSome (order_of xs p)
+there-taken [] n p = λ there. there
+there-taken (x ∷ xs) n p = elim (nat_lt n x.quantity) as (λ b. IsSome (order_of (if b then with_rest x (x.quantity - n) ∷ xs else behind (n - x.quantity) xs) p) → IsSome (order_of (x ∷ xs) p)) [
+  | true ↦ there-before x (x.quantity - n) xs p
+  | false ↦ λ there. there-behind x xs p (there-taken xs (n - x.quantity) p there)
+]
+
+-- how much is left of one of them doesn't touch what names them
+there-less : (xs : List Order) (p : ℕ × ℕ) (n : ℕ) (u : ℕ × ℕ) → is_some (order_of (with_quantity xs p n) u) ≡ is_some (order_of xs u)
+there-less [] p n u = refl
+there-less (x ∷ xs) p n u = elim (is_named_by p x) as (λ b. is_some (order_of (if b then with_rest x n ∷ xs else x ∷ with_quantity xs p n) u) ≡ is_some (order_of (x ∷ xs) u)) [
+  | true ↦ elim (is_named_by u x) as (λ b. is_some (if b then Some (with_rest x n) else order_of xs u) ≡ is_some (if b then Some x else order_of xs u)) [
+    | true ↦ refl
+    | false ↦ refl
+  ]
+  | false ↦ elim (is_named_by u x) as (λ b. is_some (if b then Some x else order_of (with_quantity xs p n) u) ≡ is_some (if b then Some x else order_of xs u)) [
+    | true ↦ refl
+    | false ↦ there-less xs p n u
+  ]
+]
+
+-- a pointer that names an order has its generation
+of_generation : (p : ℕ × ℕ) (y : Order) → is_named_by p y ≡ true → p.1 ≡ y.id.pointer.1
+of_generation p y = elim (eqb_tells y.id.pointer.0 p.0) [
+  | inl h ↦ elim (eqb_tells y.id.pointer.1 p.1) [
+    | inl k ↦ λ named. sym k.1
+    | inr k ↦ λ named. absurd (let wrong : false ≡ true = sym (rw (h.0, k.0) refl) ∙ named in cc)
+  ]
+  | inr h ↦ λ named. absurd (let wrong : false ≡ true = sym (rw h.0 refl) ∙ named in cc)
+]
+
+-- among orders with one more, a pointer names what it named, or its generation is that one's
+there-among : (xs : List Order) (y : Order) (ys : List Order) (p : ℕ × ℕ) → IsSome (order_of (xs ++ y ∷ ys) p) → IsSome (order_of (xs ++ ys) p) ⊎ (p.1 ≡ y.id.pointer.1)
+there-among [] y ys p = go (is_named_by p y) refl
+  where
+    go : (b : Bool) → is_named_by p y ≡ b → IsSome (if b then Some y else order_of ys p) → IsSome (order_of ys p) ⊎ (p.1 ≡ y.id.pointer.1)
+    go true is there = inr (of_generation p y is)
+    go false is there = inl there
+there-among (x ∷ xs) y ys p = elim (is_named_by p x) as (λ b. IsSome (if b then Some x else order_of (xs ++ y ∷ ys) p) → IsSome (if b then Some x else order_of (xs ++ ys) p) ⊎ (p.1 ≡ y.id.pointer.1)) [
+  | true ↦ λ there. inl refl
+  | false ↦ λ there. there-among xs y ys p there
+]
+
+there-between : (xs : List Order) (y : Order) (ys : List Order) (p : ℕ × ℕ) → IsSome (order_of (xs ++ ys) p) → IsSome (order_of (xs ++ y ∷ ys) p)
+there-between [] y ys p = there-behind y ys p
+there-between (x ∷ xs) y ys p = elim (is_named_by p x) as (λ b. IsSome (if b then Some x else order_of (xs ++ ys) p) → IsSome (if b then Some x else order_of (xs ++ y ∷ ys) p)) [
+  | true ↦ λ there. refl
+  | false ↦ λ there. there-between xs y ys p there
+]
+
+-- where the generations don't begin again, the next one is greater
+after-is : (g : ℕ) → ((g ≡ 18446744073709551615) × (generation_after g ≡ 2)) ⊎ (generation_after g ≡ g + 1)
+after-is g = elim (eqb_tells g 18446744073709551615) [
+  | inl h ↦ inl (h.1, rw h.0 refl)
+  | inr h ↦ inr (rw h.0 refl)
+]
+
+after-greater : (g : ℕ) → g ≤ generation_after g → g < generation_after g
+after-greater g counted = elim (after-is g) [
+  | inl last ↦ absurd (omega (arith, counted, last.0, last.1))
+  | inr next ↦ omega (arith, next)
+]
+
+-- What becomes of a side whose first units are taken, of which these orders are left and this is the generation: each order keeps its name;
+-- or the generation has risen, by as many orders as there were at most; or it has begun again.
+abbrev IsTaken : List Order → ℕ → List Order → ℕ → Type 0
+IsTaken xs g left now =
+    ((now ≡ g) × ((p : ℕ × ℕ) → IsSome (order_of xs p) → IsSome (order_of left p)))
+    ⊎ (((g < now) × (now ≤ g + length xs)) ⊎ ((now ≤ 1 + length xs) × (18446744073709551615 < g + length xs)))
+
+-- the first order is filled
+first-filled : (x : Order) (xs : List Order) (g : ℕ) (left : List Order) (now : ℕ) → IsTaken xs (generation_after g) left now → IsTaken (x ∷ xs) g left now
+first-filled x xs g left now (inl same) = elim (after-is g) [
+  | inl last ↦ inr (inr (omega (arith, same.0, last.0, last.1), omega (arith, last.0)))
+  | inr next ↦ inr (inl (omega (arith, same.0, next), omega (arith, same.0, next)))
+]
+first-filled x xs g left now (inr (inl rose)) = elim (after-is g) [
+  | inl last ↦ inr (inr (omega (arith, rose.1, last.1), omega (arith, last.0)))
+  | inr next ↦ inr (inl (omega (arith, rose.0, next), omega (arith, rose.1, next)))
+]
+first-filled x xs g left now (inr (inr again)) = elim (after-is g) [
+  | inl last ↦ inr (inr (omega (arith, again.0), omega (arith, last.0)))
+  | inr next ↦ inr (inr (omega (arith, again.0), omega (arith, again.1, next)))
+]
+
+taking : (xs : List Order) (n g : ℕ) → IsTaken xs g (behind n xs) (generation_behind n xs g)
+taking [] n g = inl (refl, λ p there. there)
+taking (x ∷ xs) n g = elim (nat_lt n x.quantity) as (λ b. IsTaken (x ∷ xs) g (if b then with_rest x (x.quantity - n) ∷ xs else behind (n - x.quantity) xs) (if b then g else generation_behind (n - x.quantity) xs (generation_after g))) [
+  | true ↦ inl (refl, there-kept x (x.quantity - n) xs)
+  | false ↦ first-filled x xs g (behind (n - x.quantity) xs) (generation_behind (n - x.quantity) xs (generation_after g)) (taking xs (n - x.quantity) (generation_after g))
+]
+
+-- that nothing is there, against that something is
+some-none : (o : Option Order) → IsSome o → o ≡ None → ⊥
+some-none None some none = absurd (cc)
+some-none (Some x) some none = absurd (cc)
+
+-- A side goes on: nothing changes; one change after another; an order leaves; units are taken; an order comes to rest; an order gets less.
+pub goes-nowhere : (q new : Queue) → new ≡ q → GoesOn q new
+goes-nowhere q new same = subst (λ (r : Queue). GoesOn q r) (sym same) (record { known = λ p there. inl there; ended = λ p there none. absurd (some-none _ there none) })
+
+goes-then : (a b c : Queue) → a.generation ≤ b.generation → b.generation ≤ c.generation → GoesOn a b → GoesOn b c → GoesOn a c
+goes-then a b c up on first second = record {
+  known = λ p there. elim (second.known p there) [
+    | inl before ↦ elim (first.known p before) [
+      | inl was ↦ inl was
+      | inr late ↦ inr (late.0, omega (arith, late.1, on))
+    ]
+    | inr late ↦ inr (omega (arith, up, late.0), late.1)
+  ];
+  ended = λ p there none. go p there none (order_of b.orders p) refl;
+}
+  where
+    go : (p : ℕ × ℕ) → IsSome (order_of a.orders p) → order_of c.orders p ≡ None → (o : Option Order) → order_of b.orders p ≡ o → a.generation < c.generation
+    go p there none None is = omega (arith, first.ended p there is, on)
+    go p there none (Some x) is = omega (arith, up, second.ended p (ap is_some is) none)
+
+pub goes-left : (q : Queue) (p : ℕ × ℕ) → q.generation ≤ generation_after q.generation → GoesOn q (with_left q p)
+goes-left q p counted = record { known = λ u there. inl (there-without q.orders p u there); ended = λ u was none. after-greater q.generation counted }
+
+pub goes-taken : (q : Queue) (n : ℕ) → length q.orders ≤ most_orders → q.generation ≤ (taken n q).generation → GoesOn q (taken n q)
+goes-taken q n few counted = record {
+  known = λ p there. inl (there-taken q.orders n p there);
+  ended = λ p there none. elim (taking q.orders n q.generation) [
+    | inl same ↦ absurd (some-none _ (same.1 p there) none)
+    | inr more ↦ elim more [
+      | inl rose ↦ rose.0
+      | inr again ↦ absurd (omega (arith, few, counted, again.0, again.1))
+    ]
+  ];
+}
+
+goes-rested : (old new : Queue) (price quantity tag : ℕ) (p : ℕ × ℕ) → Rests old price quantity tag p new → GoesOn old new
+goes-rested old new price quantity tag p h = record { known = known; ended = λ u there none. absurd (some-none _ (still u there) none) }
+  where
+    There : ℕ × ℕ → List Order → Type 0
+    There u xs = IsSome (order_of xs u)
+
+    known : (u : ℕ × ℕ) → IsSome (order_of new.orders u) → IsSome (order_of old.orders u) ⊎ ((old.generation ≤ u.1) × (u.1 ≤ new.generation))
+    known u there = elim (there-among h.ahead _ h.later u (subst (There u) h.after there)) [
+      | inl was ↦ inl (subst (There u) (sym h.before) was)
+      | inr late ↦ inr (omega (arith, late, h.of_generation), omega (arith, late, h.of_generation, h.generation))
+    ]
+
+    still : (u : ℕ × ℕ) → IsSome (order_of old.orders u) → IsSome (order_of new.orders u)
+    still u there = subst (There u) (sym h.after) (there-between h.ahead _ h.later u (subst (There u) h.before there))
+
+-- an order comes to rest, or nothing of it does; before it another may have left
+pub goes-in : (old new : Queue) (price rest tag : ℕ) (id : Option Id) → RestsOrNot old price rest tag id new → GoesOn old new
+goes-in old new price rest tag None rests = goes-nowhere old new rests.1
+goes-in old new price rest tag (Some id) rests = goes-rested old new price rest tag id.pointer rests.2
+
+generation-in : (old new : Queue) (price rest tag : ℕ) (id : Option Id) → RestsOrNot old price rest tag id new → new.generation ≡ old.generation
+generation-in old new price rest tag None rests = ap (λ (q : Queue). q.generation) rests.1
+generation-in old new price rest tag (Some id) rests = rests.2.generation
+
+pub goes-anew : (old new : Queue) (p : ℕ × ℕ) (price rest tag : ℕ) (id : Option Id) → RestsOrNot (with_left old p) price rest tag id new
+    → old.generation ≤ new.generation → GoesOn old new
+goes-anew old new p price rest tag id rests counted =
+    let same = generation-in (with_left old p) new price rest tag id rests in
+    goes-then old (with_left old p) new (omega (arith, counted, same)) (omega (arith, same)) (goes-left old p (omega (arith, counted, same))) (goes-in (with_left old p) new price rest tag id rests)
+
+pub goes-reduced : (q : Queue) (p : ℕ × ℕ) (left : ℕ) → q.generation ≤ (reduced q p left).generation → GoesOn q (reduced q p left)
+goes-reduced q p zero counted = goes-left q p counted
+goes-reduced q p (suc left) counted = record {
+  known = λ u there. inl (sym (there-less q.orders p (suc left) u) ∙ there);
+  ended = λ u there none. absurd (some-none _ (there-less q.orders p (suc left) u ∙ there) none);
+}
+
+-- The same by what the calls of a queue say: an order leaves or none does; so much is left of one, or it names none; an order has come in,
+-- in place of another or not; and the other side has traded.
+pub goes-left_if : (q new : Queue) (o : Option Order) (p : ℕ × ℕ) → OnSome o (new ≡ with_left q p) → IfNone o (new ≡ q) → q.generation ≤ new.generation → GoesOn q new
+goes-left_if q new None p gone none counted = goes-nowhere q new none
+goes-left_if q new (Some x) p gone none counted =
+    subst (λ (r : Queue). GoesOn q r) (sym gone) (goes-left q p (subst (λ (r : Queue). q.generation ≤ r.generation) gone counted))
+
+pub goes-reduced_if : (q new : Queue) (left : Option ℕ) (p : ℕ × ℕ) → IfSome left (λ n. new ≡ reduced q p n) → IfNone left (new ≡ q) → q.generation ≤ new.generation → GoesOn q new
+goes-reduced_if q new None p after none counted = goes-nowhere q new none
+goes-reduced_if q new (Some n) p after none counted =
+    subst (λ (r : Queue). GoesOn q r) (sym after) (goes-reduced q p n (subst (λ (r : Queue). q.generation ≤ r.generation) after counted))
+
+module _ {E : Type 0} (r : Result (Option Id) E) (q new : Queue) (kept : OnErr r (new ≡ q)) where
+  pub goes-own : (price rest tag : ℕ) → IfOk r (λ id. RestsOrNot q price rest tag id new) → GoesOn q new
+  goes-own price rest tag rests = go r rests kept
+    where
+      go : (r : Result (Option Id) E) → IfOk r (λ id. RestsOrNot q price rest tag id new) → OnErr r (new ≡ q) → GoesOn q new
+      go (Ok id) rests kept = goes-in q new price rest tag id rests
+      go (Err e) rests kept = goes-nowhere q new kept
+
+  pub goes-own_anew : (p : ℕ × ℕ) (price rest tag : ℕ) → IfOk r (λ id. RestsOrNot (with_left q p) price rest tag id new) → q.generation ≤ new.generation → GoesOn q new
+  goes-own_anew p price rest tag rests counted = go r rests kept
+    where
+      go : (r : Result (Option Id) E) → IfOk r (λ id. RestsOrNot (with_left q p) price rest tag id new) → OnErr r (new ≡ q) → GoesOn q new
+      go (Ok id) rests kept = goes-anew q new p price rest tag id rests counted
+      go (Err e) rests kept = goes-nowhere q new kept
+
+  pub goes-other : (n : ℕ) → length q.orders ≤ most_orders → OnOk r (new ≡ taken n q) → q.generation ≤ new.generation → GoesOn q new
+  goes-other n few after counted = go r after kept
+    where
+      go : (r : Result (Option Id) E) → OnOk r (new ≡ taken n q) → OnErr r (new ≡ q) → GoesOn q new
+      go (Ok id) after kept = subst (λ (s : Queue). GoesOn q s) (sym after) (goes-taken q n few (subst (λ (s : Queue). q.generation ≤ s.generation) after counted))
+      go (Err e) after kept = goes-nowhere q new kept
+
+-- one call, by what becomes of both sides
+pub step-of : (bids asks bids_now asks_now : Queue) (old new : Book) → record { bids = bids; asks = asks } ≡ old → new ≡ record { bids = bids_now; asks = asks_now }
+    → (bids.generation ≤ bids_now.generation → GoesOn bids bids_now) → (asks.generation ≤ asks_now.generation → GoesOn asks asks_now) → IsStep old new
+step-of bids asks bids_now asks_now old new was is buys sells =
+    subst (λ (b : Book). IsStep b new) was (subst (λ (b : Book). IsStep (record { bids = bids; asks = asks }) b) (sym is) (record { bids = buys; asks = sells }))
+
+-- a book goes on
+goes-run : (between : List Book) (old new : Book) → IsRun old between new → Counts old new × IsStep old new
+goes-run [] old new run = subst (λ (b : Book). Counts old b × IsStep old b) (sym run)
+    (record { bids = omega arith; asks = omega arith }, record { bids = λ counted. goes-nowhere _ _ refl; asks = λ counted. goes-nowhere _ _ refl })
+goes-run (next ∷ rest) old new run =
+    let more = goes-run rest next new run.2 in
+    let first = run.1 in
+    (record { bids = omega (arith, first.bids, more.0.bids); asks = omega (arith, first.asks, more.0.asks) },
+    record {
+      bids = λ counted. goes-then old.bids next.bids new.bids first.bids more.0.bids (run.0.bids first.bids) (more.1.bids more.0.bids);
+      asks = λ counted. goes-then old.asks next.asks new.asks first.asks more.0.asks (run.0.asks first.asks) (more.1.asks more.0.asks);
+    })
+
+module _ (old new : Book) (step : IsStep old new) (counted : Counts old new) where
+  goes : (id : Id) → GoesOn (queue old id.side) (queue new id.side) × ((queue old id.side).generation ≤ (queue new id.side).generation)
+  goes id = elim id.side as (λ side. GoesOn (queue old side) (queue new side) × ((queue old side).generation ≤ (queue new side).generation)) [
+    | Buy ↦ (step.bids counted.bids, counted.bids)
+    | Sell ↦ (step.asks counted.asks, counted.asks)
+  ]
+
+  ended-goes : (id : Id) → HasEnded old id → HasEnded new id
+  ended-goes id h = record { nothing = go (named new id) refl; passed = omega (arith, (goes id).1, h.passed) }
+    where
+      go : (o : Option Order) → named new id ≡ o → o ≡ None
+      go None is = refl
+      go (Some x) is = elim ((goes id).0.known id.pointer (ap is_some is)) [
+        | inl was ↦ absurd (some-none _ was h.nothing)
+        | inr late ↦ absurd (omega (arith, late.0, h.passed))
+      ]
+
+  no_later-goes : HasNoLaterName old → HasNoLaterName new
+  no_later-goes none id there = elim ((goes id).0.known id.pointer there) [
+    | inl was ↦ omega (arith, none id was, (goes id).1)
+    | inr late ↦ late.1
+  ]
+
+  ends-goes : (id : Id) → HasNoLaterName old → IsSome (named old id) → named new id ≡ None → HasEnded new id
+  ends-goes id none was gone = record { nothing = gone; passed = omega (arith, none id was, (goes id).0.ended id.pointer was gone) }
+
+pub ended_name : EndedNameLaw
+ended_name = record {
+  run = λ old new between run. let on = goes-run between old new run in record {
+    ended = ended-goes old new on.1 on.0;
+    no_later = no_later-goes old new on.1 on.0;
+    ends = ends-goes old new on.1 on.0;
+  };
+  ended = λ old new id step counted. ended-goes old new step counted id;
+  no_later = λ old new step counted. no_later-goes old new step counted;
+  ends = λ old new id step counted. ends-goes old new step counted id;
+}
