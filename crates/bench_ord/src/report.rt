@@ -1,6 +1,6 @@
 //! What is printed of a measure.
 use crate::lap::Lap;
-use std::io;
+use std::{env, io};
 
 /// The best rounds of a measure at n entries, of the structure that is measured and of another one.
 #[derive(Clone, Copy)]
@@ -13,8 +13,26 @@ pub struct Row<'a> {
     pub other_name: &'a str,
 }
 
-/// Prints the sums to standard output, and the times to standard error.
+/// Prints the sums to standard output, and the times to standard error; or, if the first argument is `--csv`, the times to standard output.
 pub fn print(rt: &HostRuntime, row: Row) -> io::Result<()> {
+    match env::args(rt)?.nth(1) {
+        Some(first) if first.as_str() == "--csv" => print_values(rt, row),
+        _ => print_table(rt, row),
+    }
+}
+
+// Prints the times as comma-separated values, a line for each structure.
+fn print_values(rt: &HostRuntime, row: Row) -> io::Result<()> {
+    let (n, measure) = (row.n, row.measure);
+    for (name, lap) in &[(row.name, row.own), (row.other_name, row.other)] {
+        let (whole, tenth) = in_tenths(per_operation(*lap, n));
+        println!(rt; "{n},{measure},{name},{whole}.{tenth}")?;
+    }
+    Ok(())
+}
+
+// Prints the sums to standard output, and the times to standard error.
+fn print_table(rt: &HostRuntime, row: Row) -> io::Result<()> {
     let (n, measure) = (row.n, row.measure);
     let (name, other_name) = (row.name, row.other_name);
     let (own_sum, other_sum) = (row.own.sum, row.other.sum);

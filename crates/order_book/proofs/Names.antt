@@ -253,12 +253,13 @@ goes-run [] old new run = subst (λ (b : Book). Counts old b × IsStep old b) (s
     (record { bids = omega arith; asks = omega arith }, record { bids = λ counted. goes-nowhere _ _ refl; asks = λ counted. goes-nowhere _ _ refl })
 goes-run (next ∷ rest) old new run =
     let more = goes-run rest next new run.2 in
-    let first = run.1 in
-    (record { bids = omega (arith, first.bids, more.0.bids); asks = omega (arith, first.asks, more.0.asks) },
-    record {
-      bids = λ counted. goes-then old.bids next.bids new.bids first.bids more.0.bids (run.0.bids first.bids) (more.1.bids more.0.bids);
-      asks = λ counted. goes-then old.asks next.asks new.asks first.asks more.0.asks (run.0.asks first.asks) (more.1.asks more.0.asks);
-    })
+    let first = run.1 in (
+      record { bids = omega (arith, first.bids, more.0.bids); asks = omega (arith, first.asks, more.0.asks) },
+      record {
+        bids = λ counted. goes-then old.bids next.bids new.bids first.bids more.0.bids (run.0.bids first.bids) (more.1.bids more.0.bids);
+        asks = λ counted. goes-then old.asks next.asks new.asks first.asks more.0.asks (run.0.asks first.asks) (more.1.asks more.0.asks);
+      },
+    )
 
 module _ (old new : Book) (step : IsStep old new) (counted : Counts old new) where
   goes : (id : Id) → GoesOn (queue old id.side) (queue new id.side) × ((queue old id.side).generation ≤ (queue new id.side).generation)

@@ -25,7 +25,7 @@ const CORNER: u32 = 10;
 const KEY_MIDDLE: u32 = 32;
 
 /// The end of the rank in a box from the left, in pixels.
-const RANK_END: u32 = 75;
+const RANK_END: u32 = 70;
 
 /// The line on which key and rank stand in a box from the top, in pixels.
 const BASELINE: u32 = 18;

@@ -44,13 +44,13 @@ returns-in-Ok-clause-step g c =
     let lawful : IsBook (record { bids = bids; asks = asks }) = subst (λ (b : Book). IsBook b) (sym c.self.view_is) c.count.ensures.lawful in
     elim c.match-side.branch [
       | in-Buy w ↦
-        let settled = w.settle_anew-settled in
-        step-of bids asks settled.new.own settled.new.other c.args.self.now c.match-side.self c.self.view_is w.self-is
-        (λ counted. goes-own_anew settled.result bids settled.new.own settled.ensures.own_kept _ _ _ _ settled.ensures.rests counted)
-        (λ counted. goes-other settled.result asks settled.new.other settled.ensures.other_kept _ lawful.asks.summable.few settled.ensures.taken counted)
+          let settled = w.settle_anew-settled in
+          step-of bids asks settled.new.own settled.new.other c.args.self.now c.match-side.self c.self.view_is w.self-is
+          (λ counted. goes-own_anew settled.result bids settled.new.own settled.ensures.own_kept _ _ _ _ settled.ensures.rests counted)
+          (λ counted. goes-other settled.result asks settled.new.other settled.ensures.other_kept _ lawful.asks.summable.few settled.ensures.taken counted)
       | in-Sell w ↦
-        let settled = w.settle_anew-settled-in-Sell in
-        step-of bids asks settled.new.other settled.new.own c.args.self.now c.match-side.self c.self.view_is w.self-is
-        (λ counted. goes-other settled.result bids settled.new.other settled.ensures.other_kept _ lawful.bids.summable.few settled.ensures.taken counted)
-        (λ counted. goes-own_anew settled.result asks settled.new.own settled.ensures.own_kept _ _ _ _ settled.ensures.rests counted)
+          let settled = w.settle_anew-settled-in-Sell in
+          step-of bids asks settled.new.other settled.new.own c.args.self.now c.match-side.self c.self.view_is w.self-is
+          (λ counted. goes-other settled.result bids settled.new.other settled.ensures.other_kept _ lawful.bids.summable.few settled.ensures.taken counted)
+          (λ counted. goes-own_anew settled.result asks settled.new.own settled.ensures.own_kept _ _ _ _ settled.ensures.rests counted)
     ]
