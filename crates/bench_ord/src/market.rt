@@ -74,7 +74,8 @@ impl Market for Book {
     fn depth(&self, side: Side, levels: usize) -> u64 {
         let mut sum = 0u64;
         for level in self.book.depth(side, levels) {
-            sum = sum.wrapping_add(level.price.wrapping_mul(level.quantity as u64));
+            let quantity = u64::try_from(level.quantity).unwrap_or(u64::MAX);
+            sum = sum.wrapping_add(level.price.wrapping_mul(quantity));
         }
         sum
     }
