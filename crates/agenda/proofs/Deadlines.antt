@@ -2,7 +2,7 @@
 use Rattle.std.proofs.Common.{◌≡◌, ◌≢◌, ℕ, ◌<◌, ◌≤◌, List, [], ◌∷◌, ◌++◌, map, None, IfSome, arith}
 use Rattle.std.proofs.{lemmas.List.Elements.All-from_recursion, lemmas.List.Elements.recursion_from_All, lemmas.Bool.Decides.nat_tests}
 use Rattle.std.specs.{declared.cmp.Ordering.TheVariants.Less, List.AllByRecursion, Ordering.nat_cmp}
-use Rattle.chain_base.specs.Chain.{Entry}
+use Rattle.triple_ord.specs.Chain.{Entry}
 use Rattle.triple_ord.specs.Gap.{first_of, last_of}
 use Rattle.agenda.specs.{Agenda.Scheduled, Agenda.IsInOrder, Layout.scheduled}
 

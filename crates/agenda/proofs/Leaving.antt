@@ -3,10 +3,10 @@ use Rattle.std.proofs.Common.{◌≡◌, ℕ, ◌≤◌, List, [], ◌∷◌, ma
 use Rattle.std.proofs.{lemmas.List.Elements.All-from_recursion, lemmas.List.Elements.recursion_from_All, lemmas.Bool.Decides.eqb_tells}
 use Rattle.std.proofs.{lemmas.Grind.common_steps, lemmas.List.length-map}
 use Rattle.std.specs.List.{All, AllByRecursion}
-use Rattle.arena_base.specs.Arena.{limit_of}
-use Rattle.chain_base.specs.Chain.{Entry, removed, IsSound as IsSoundChain, IsDistinct as AreDistinct, entry_at, item_of, without as without_index}
-use Rattle.chain_base.proofs.CallerLemmas.{entry_at-absent}
-use Rattle.ord_tree.specs.Tree.{Tree}
+use Rattle.triple_ord.specs.PlainArena.{limit_of}
+use Rattle.triple_ord.specs.Chain.{Entry, removed, IsSound as IsSoundChain, IsDistinct as AreDistinct, entry_at, item_of, without as without_index}
+use Rattle.triple_ord.proofs.ChainLemmas.{entry_at-absent}
+use Rattle.triple_ord.specs.Tree.{Tree}
 use Rattle.agenda.specs.Agenda.{Scheduled, Agenda, most_jobs, count, Updates, with_left, is_named_by, job_of, without, IsInOrder, IsDistinct, IsSound}
 use Rattle.agenda.specs.Tickets.{IsStep}
 use Rattle.agenda.proofs.Steps.{step-stays, step-leaves}

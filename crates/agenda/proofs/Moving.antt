@@ -1,8 +1,8 @@
 -- A job that is moved: it leaves, and is put on the agenda again.
 use Rattle.std.proofs.Common.{◌≡◌, ℕ, ◌∙◌, Some, ap, is_some, subst}
 use Rattle.std.specs.Ordering.{nat_cmp}
-use Rattle.chain_base.specs.Chain.{removed, item_of, IsSound}
-use Rattle.ord_tree.specs.Tree.{Tree}
+use Rattle.triple_ord.specs.Chain.{removed, item_of, IsSound}
+use Rattle.triple_ord.specs.Tree.{Tree}
 use Rattle.triple_ord.specs.{Insertion.within, Insertion.InsertsNew, Place.behind_key}
 use Rattle.agenda.specs.Agenda.{Agenda, Schedules, Reschedules, Moves, count, most_jobs}
 use Rattle.agenda.specs.Layout.{greatest_generation, deadline_of, agenda_of, IsArenaOfJobs}

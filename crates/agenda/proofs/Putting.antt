@@ -2,16 +2,16 @@
 use Rattle.std.proofs.Common.{◌≡◌, ◌≢◌, ℕ, ◌∷◌, ◌++◌, map, IfSome, refl, sym, ap, ◌∙◌, nat_lt, if◌then◌else◌}
 use Rattle.std.proofs.{lemmas.List.map-append, lemmas.List.length-map, lemmas.List.Elements.All-from_recursion}
 use Rattle.std.specs.{declared.cmp.Ordering.TheVariants.Less, Ordering.nat_cmp}
-use Rattle.chain_base.specs.Chain.{Entry, Chain, times, IsSound}
-use Rattle.chain_base.specs.Insert.{IsInsertion}
-use Rattle.chain_base.proofs.CallerLemmas.{after-insertion, entry_at-absent}
-use Rattle.ord_tree.specs.Tree.{Tree}
+use Rattle.triple_ord.specs.Chain.{Entry, Chain, times, IsSound}
+use Rattle.triple_ord.specs.Insert.{IsInsertion}
+use Rattle.triple_ord.proofs.ChainLemmas.{after-insertion, entry_at-absent}
+use Rattle.triple_ord.specs.Tree.{Tree}
 use Rattle.triple_ord.specs.Insertion.{Growth, with_room_by, InsertsNew}
 use Rattle.triple_ord.specs.{Gap.Gap, Gap.before, Gap.after, Gap.with_between}
 use Rattle.triple_ord.specs.{Place.behind_key}
 use Rattle.triple_ord.proofs.CallerLemmas.{entries-with_room_by, numbers-with_room_by, numbers-inserted, capacity-inserted}
 use Rattle.agenda.specs.Layout.{greatest_generation, scheduled, deadline_of, agenda_of, IsArenaOfJobs}
-use Rattle.arena_base.specs.Arena.{doubled_capacity}
+use Rattle.triple_ord.specs.PlainArena.{doubled_capacity}
 use Rattle.agenda.specs.Agenda.{Schedules, IsInOrder, most_jobs, count}
 use Rattle.agenda.proofs.Deadlines.{in_order-between, in_order-back, none-later, all-later}
 use Rattle.agenda.proofs.Leaving.{job_of-found}

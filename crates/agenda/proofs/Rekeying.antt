@@ -3,8 +3,8 @@ use Rattle.std.proofs.Common.{◌≡◌, ℕ, ◌∙◌, ◌++◌, ◌∷◌, ma
 use Rattle.std.specs.{Result.is_ok, Option.option_map, Bool.OnTrue}
 use Rattle.std.proofs.{lemmas.List.map-append, lemmas.List.Elements.All-from_recursion}
 use Rattle.std.specs.Ordering.{nat_cmp}
-use Rattle.chain_base.specs.Chain.{Chain, item_of, IsSound}
-use Rattle.ord_tree.specs.Tree.{Tree}
+use Rattle.triple_ord.specs.Chain.{Chain, item_of, IsSound}
+use Rattle.triple_ord.specs.Tree.{Tree}
 use Rattle.triple_ord.specs.Rekey.{Rekeys}
 use Rattle.agenda.specs.Agenda.{Scheduled, MovesDeadline, Updates, IsInOrder, job_of, without, count, most_jobs}
 use Rattle.agenda.specs.Tickets.{IsStep}

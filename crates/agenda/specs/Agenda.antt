@@ -1,7 +1,7 @@
 -- What an agenda is: one list of jobs, each with its ticket and its deadline, in the order in which they leave.
 use Rattle.std.specs.Prelude.{◌≡◌, ◌≢◌, ℕ, ◌+◌, ◌≤◌, ◌<◌, ◌==◌, ◌&&◌, leb, nat_lt, if◌then◌else◌, Bool, List, [], ◌∷◌, ◌++◌, length, Option, Some, None}
 use Rattle.std.specs.{Option.option_map, List.All, Borrow.Bor}
-use Rattle.arena_base.specs.{Arena.doubled_capacity, Generation.next_generation}
+use Rattle.triple_ord.specs.{PlainArena.doubled_capacity, Generation.next_generation}
 
 -- a job on the agenda: the ticket that names it, which is an index and a generation; its deadline; and the job itself
 pub record Scheduled (J : Type 0) : Type 0 where

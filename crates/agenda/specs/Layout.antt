@@ -1,7 +1,7 @@
 -- How an agenda lies in its arena (layout).
 use Rattle.std.specs.Prelude.{◌≡◌, ℕ, Option, Some, None, map}
-use Rattle.chain_base.specs.Chain.{Entry}
-use Rattle.ord_tree.specs.Tree.{Tree}
+use Rattle.triple_ord.specs.Chain.{Entry}
+use Rattle.triple_ord.specs.Tree.{Tree}
 use Rattle.agenda.specs.Agenda.{Scheduled, Agenda, IsInOrder}
 
 -- the greatest generation of a ticket

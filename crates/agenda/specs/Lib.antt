@@ -1,4 +1,5 @@
--- The definitions that the contracts cite.
+-- What public clauses cite.
 pub mod Agenda
 pub mod Tickets
+-- How an agenda lies in its arena. No public clause cites these files.
 pub mod Layout

@@ -2,7 +2,7 @@
 
 ghost use Rattle.std.specs.Prelude.{◌≡◌, ◌<◌, ◌↔◌, Err, IfOk, IfErr, OnErr, length};
 ghost use Rattle.std.specs.Ordering.{nat_cmp};
-ghost use Rattle.chain_base.specs.Chain.{chain_limit, IsSound};
+ghost use Rattle.triple_ord.specs.Chain.{chain_limit, IsSound};
 ghost use Rattle.triple_ord.specs.Insertion.{within, reallocating, InsertsNew};
 ghost use Rattle.triple_ord.specs.Place.{aim_of, behind_key, kind_now};
 ghost use Rattle.agenda.specs.Agenda.{most_jobs};

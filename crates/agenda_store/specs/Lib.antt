@@ -4,3 +4,5 @@ pub mod Planner
 pub mod Replay
 pub mod Requests
 pub mod Store
+-- What contracts above cite of the layers below.
+pub use Rattle.record_log.specs.Device

@@ -3,7 +3,7 @@ use Rattle.std.proofs.Common.{◌≡◌, ◌≢◌, ℕ, ℤ, Bool, true, List, 
 use Rattle.std.specs.Option.{option_map, option_and_then}
 use Rattle.std.specs.Ordering.{int_cmp, is_eq}
 use Rattle.std.specs.declared.cmp.Ordering.{Ordering}
-use Rattle.chain_base.specs.Chain.{Entry as Listed, IsDistinct, last_pointer, item_of}
+use Rattle.sorted_arena.specs.Chain.{Entry as Listed, IsDistinct, last_pointer, item_of}
 use Rattle.sorted_arena.specs.Sorted.{first_where, key_of, last_item}
 use Rattle.sorted_arena.proofs.CallerLemmas.{last-named, last-none}
 use Rattle.arena_c.specs.declared.entry.Entry.{Entry}
@@ -11,8 +11,8 @@ use Rattle.arena_c.specs.Shown.{Arena, entry_found}
 use Rattle.std.specs.List.{Contains}
 use Rattle.sorted_arena.specs.declared.error.UniqueInsertionError.{UniqueInsertionError}
 use Rattle.sorted_arena.specs.declared.error.UniqueInsertionError.TheVariants.{EqualKey, BeyondMaxCapacity, AllocError}
-use Rattle.arena_base.specs.declared.error.ReallocationError.{ReallocationError}
-use Rattle.arena_base.specs.declared.error.ReallocationError.TheVariants.{BeyondMaxCapacity as Beyond, AllocError as NoMemory}
+use Rattle.sorted_arena.specs.ReallocationError.{ReallocationError}
+use Rattle.sorted_arena.specs.ReallocationError.TheVariants.{BeyondMaxCapacity as Beyond, AllocError as NoMemory}
 use Rattle.arena_c.specs.Status.{ok, full, no_memory, closed, out_of_order}
 use Rattle.arena_c.specs.Answer.{found_status, found_or, look_status, Becomes, Looks, Changes, status_of_reservation}
 

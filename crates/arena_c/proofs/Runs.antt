@@ -3,8 +3,8 @@ use Rattle.std.proofs.Common.{◌≡◌, ℕ, zero, suc, ◌+◌, ◌<◌, ◌�
 use native.Mathlib.Numerals.{unary_clauses}
 use Rattle.std.proofs.lemmas.{Grind.common_steps, List.map-append}
 use Rattle.std.specs.{Cmp.int_cmp_total, Option.option_map, Option.option_map_or, Ordering.is_gt, Ordering.int_cmp, List.zip}
-use Rattle.chain_base.specs.Chain.{Entry, IsDistinct, item_of, first_pointer, from_index}
-use Rattle.triple_ord.specs.Gap.{first_of, last_of}
+use Rattle.sorted_arena.specs.Chain.{Entry, IsDistinct, item_of, first_pointer, from_index}
+use Rattle.sorted_arena.specs.Gap.{first_of, last_of}
 use Rattle.sorted_arena.specs.Sorted.{Inserts, next_of, pointer_of, first_item, first_item_until, behind_first, entries_until, last_item, item_of as pair_in}
 use Rattle.arena_c.specs.declared.entry.Entry.{Entry as Shown}
 use Rattle.arena_c.specs.Shown.{Arena, most, entry_at, entry_found, shown_entry, numbers_of}

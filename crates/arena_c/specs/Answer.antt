@@ -1,8 +1,8 @@
 -- What a call leaves and answers.
 use Rattle.std.specs.Prelude.{◌≡◌, ◌≢◌, ℕ, Option, Some, None, is_some, if◌then◌else◌, Result, Ok, Err}
 use Rattle.std.specs.Option.{option_map_or, option_and_then}
-use Rattle.arena_base.specs.declared.error.ReallocationError.{ReallocationError}
-use Rattle.arena_base.specs.declared.error.ReallocationError.TheVariants.{BeyondMaxCapacity, AllocError}
+use Rattle.sorted_arena.specs.ReallocationError.{ReallocationError}
+use Rattle.sorted_arena.specs.ReallocationError.TheVariants.{BeyondMaxCapacity, AllocError}
 use Rattle.arena_c.specs.Shown.{Arena}
 use Rattle.arena_c.specs.Status.{ok, not_found, full, no_memory, closed}
 

@@ -2,7 +2,7 @@
 use Rattle.std.specs.Prelude.{◌≡◌, ℕ, ◌+◌, ℤ, ◌++◌, min, false, if◌then◌else◌, List, [], ◌∷◌, length, map, take, drop, Option, Some, None}
 use Rattle.std.specs.Ordering.{int_cmp, is_gt}
 use Rattle.std.specs.Option.{option_map, option_map_or}
-use Rattle.chain_base.specs.Chain.{Entry as Listed}
+use Rattle.sorted_arena.specs.Chain.{Entry as Listed}
 use Rattle.sorted_arena.specs.Sorted.{last_item}
 use Rattle.arena_c.specs.declared.entry.Entry.{Entry}
 use Rattle.arena_c.specs.Shown.{Arena, shown_entry}

@@ -4,7 +4,7 @@ ghost use Rattle.std.specs.Prelude.{◌≡◌, ◌≢◌, ◌↔◌, ◌+◌, �
 ghost use Rattle.std.specs.List.{Contains, zip};
 ghost use Rattle.std.specs.Option.{option_and_then};
 ghost use Rattle.std.specs.Ordering.{int_cmp};
-ghost use Rattle.chain_base.specs.Chain.{from_index};
+ghost use Rattle.sorted_arena.specs.Chain.{from_index};
 ghost use Rattle.sorted_arena.specs.Sorted.{count, entries_until, item_of, pair_of};
 ghost use Rattle.arena_c.specs.Answer.{Becomes, found_or, look_status};
 ghost use Rattle.arena_c.specs.Batch.{fall_behind, paired_keys, Fills};

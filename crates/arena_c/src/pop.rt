@@ -2,7 +2,7 @@
 
 ghost use Rattle.std.specs.Prelude.{◌≡◌, ◌≢◌, drop, if◌then◌else◌, is_some};
 ghost use Rattle.std.specs.Ordering.{int_cmp};
-ghost use Rattle.chain_base.specs.Chain.{first_pointer, last_pointer};
+ghost use Rattle.sorted_arena.specs.Chain.{first_pointer, last_pointer};
 ghost use Rattle.sorted_arena.specs.Sorted.{behind_first, before_last, entries_until, with_left};
 ghost use Rattle.arena_c.specs.Answer.{Becomes, Changes};
 ghost use Rattle.arena_c.specs.Batch.{Fills};

@@ -4,7 +4,7 @@ ghost use Rattle.std.specs.Prelude.{◌≡◌, ◌+◌, ◌<◌, ◌≤◌, ◌+
 ghost use Rattle.std.specs.List.{zip};
 ghost use Rattle.std.specs.Option.{option_map, option_map_or};
 ghost use Rattle.std.specs.Ordering.{int_cmp, is_gt};
-ghost use Rattle.chain_base.specs.Chain.{first_pointer, from_index};
+ghost use Rattle.sorted_arena.specs.Chain.{first_pointer, from_index};
 ghost use Rattle.sorted_arena.specs.Sorted.{count, entries_until, item_of, last_item, pair_of};
 ghost use Rattle.arena_c.specs.Shown.{most};
 ghost use Rattle.arena_c.specs.Batch.{fall_behind, first_fall, Fills};

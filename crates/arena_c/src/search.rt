@@ -2,7 +2,7 @@
 
 ghost use Rattle.std.specs.Prelude.{◌≡◌};
 ghost use Rattle.std.specs.Ordering.{int_cmp, is_eq, is_le, is_lt};
-ghost use Rattle.chain_base.specs.Chain.{first_pointer, last_pointer};
+ghost use Rattle.sorted_arena.specs.Chain.{first_pointer, last_pointer};
 ghost use Rattle.sorted_arena.specs.Sorted.{first_where, key_of, next_of, prev_of};
 ghost use Rattle.arena_c.specs.Answer.{Looks};
 ghost use Rattle.arena_c.specs.Shown.{entry_found, numbers_of};

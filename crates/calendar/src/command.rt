@@ -1,5 +1,6 @@
 //! What a line says, and what may be wrong with it.
 
+use command_line::{NumberError, number};
 use std::alloc::AllocError;
 use std::io;
 use std::str::SplitAsciiWhitespace;
@@ -25,12 +26,8 @@ pub enum Command<'a> {
 pub enum Misread {
     #[error("unknown command")]
     UnknownCommand,
-    #[error("a number is missing")]
-    NumberMissing,
-    #[error("not a number")]
-    NotANumber,
-    #[error("a number is too large")]
-    NumberTooLarge,
+    #[error("{0}")]
+    Number(#[from] NumberError),
     #[error("a word is missing")]
     WordMissing,
     #[error("a word too many")]
@@ -111,13 +108,4 @@ fn end(word: Option<&str>) -> Result<Option<u64>, Misread> {
         Some("-") => Ok(None),
         word => Ok(Some(number(word)?)),
     }
-}
-
-// The number that a word says, in digits alone.
-fn number(word: Option<&str>) -> Result<u64, Misread> {
-    let word = word.ok_or(Misread::NumberMissing)?;
-    if !word.bytes().all(|byte| byte.is_ascii_digit()) {
-        return Err(Misread::NotANumber);
-    }
-    word.parse::<u64>().map_err(|_| Misread::NumberTooLarge)
 }

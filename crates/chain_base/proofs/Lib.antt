@@ -20,3 +20,5 @@ pub mod CallerLemmas
 pub mod Transferring
 pub mod Cloning
 pub mod CloneKept
+-- The lemmas of the layers below, for callers.
+pub use Rattle.arena_base.proofs.CallerLemmas as ArenaLemmas

@@ -1,4 +1,4 @@
--- Two entries of a chain swap their indexes. No public clause uses this file.
+-- Two entries of a chain swap their indexes. No public clause cites this file.
 use Rattle.std.specs.Prelude.{◌≡◌, ℕ, ◌==◌, if◌then◌else◌, List, map, Option}
 use Rattle.std.specs.Option.{option_and_then, ForSome}
 use Rattle.chain_base.specs.Chain.{Entry, Chain, entry_at, link_at}

@@ -1,4 +1,4 @@
--- A chain in an arena: the list is found by following the links. No public clause uses this file.
+-- A chain in an arena: the list is found by following the links. No public clause cites this file.
 use Rattle.std.specs.Prelude.{◌≡◌, ℕ, zero, suc, ◌==◌, Bool, false, if◌then◌else◌, List, [], ◌∷◌, length, Option, Some, None, is_some, count_by, slice_index_or}
 use Rattle.std.specs.Option.{option_map}
 use Rattle.arena_base.specs.Arena.{Arena, slot, with_slot, arena_capacity}

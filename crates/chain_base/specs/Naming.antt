@@ -1,4 +1,4 @@
--- How each entry of a chain gets the new indexes of its neighbours from these. No public clause uses this file.
+-- How each entry of a chain gets the new indexes of its neighbours from these. No public clause cites this file.
 use Rattle.std.specs.Prelude.{◌≡◌, ◌≢◌, ℕ, ◌+◌, List, [], ◌∷◌, map, Option, Some, None, IsSome, is_some, count_by, take, length}
 use Rattle.std.specs.{Option.option_map, Option.option_and_then, List.FoldsTo}
 use Rattle.arena_base.specs.{Compression.CompressionStep, Compression.compressed, Arena.Arena, Arena.HoldsSame, Arena.slot}

@@ -1,4 +1,4 @@
--- The steps of a transfer. No public clause uses this file.
+-- The steps of a transfer. No public clause cites this file.
 use Rattle.std.specs.Prelude.{◌≡◌, ℕ, zero, suc, List, [], ◌∷◌, ◌++◌, length, Option, Some, None}
 use Rattle.std.specs.List.{FoldsTo}
 use Rattle.arena_base.specs.declared.invalidation.InvalidationOption.{InvalidationOption}

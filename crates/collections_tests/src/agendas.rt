@@ -1,9 +1,11 @@
 //! Agendas of letters, from a program's view.
+mod room;
 mod sequences;
 
+use crate::support::rest_of;
 use agenda::{Agenda, ReallocationError, Ticket};
 use linked_list_allocator::LocalHeap;
-use std::alloc::{AllocError, Allocator, Global};
+use std::alloc::{Allocator, Global};
 
 type Letters<A = Global> = Agenda<char, A>;
 
@@ -90,7 +92,7 @@ const ROWS: [Row; 36] = [
 ];
 
 #[test]
-fn jobs_leave_by_deadline_and_then_by_the_order_of_scheduling(rt: HostRuntime) {
+fn jobs_leave_by_deadline_and_then_in_the_order_of_scheduling(rt: HostRuntime) {
     let mut letters = Letters::new(rt.alloc());
     let mut tickets = Vec::new(rt.alloc());
     for (call, wanted) in &ROWS {
@@ -110,22 +112,8 @@ fn fill(letters: &mut Letters<&LocalHeap>) -> Option<usize> {
     Some(9)
 }
 
-/// Takes all memory that a heap has left.
-pub(crate) fn rest_of(
-    alloc: Global,
-    heap: &LocalHeap,
-) -> Result<Vec<Vec<u8, &LocalHeap>>, AllocError> {
-    let mut blocks = Vec::new(alloc);
-    for size in (1..2048usize).rev() {
-        if let Ok(block) = Vec::with_capacity(heap, size) {
-            blocks.push(block)?;
-        }
-    }
-    Ok(blocks)
-}
-
 #[test]
-fn a_job_comes_back_where_memory_is_refused(rt: HostRuntime) {
+fn a_job_is_given_back_if_memory_is_refused(rt: HostRuntime) {
     let mut met = [false; 10];
     for units in 1..120usize {
         let heap = LocalHeap::new(rt.alloc(), units * 16).expect(&rt, "a heap");
@@ -177,7 +165,7 @@ fn are_right(letters: &mut Letters<&LocalHeap>, tickets: &mut Vec<Ticket>, rows:
 }
 
 #[test]
-fn moving_asks_for_no_memory(rt: HostRuntime) {
+fn moving_and_rescheduling_need_no_memory(rt: HostRuntime) {
     let heap = LocalHeap::new(rt.alloc(), 2048).expect(&rt, "a heap");
     let mut letters: Letters<&LocalHeap> = Agenda::new(&heap);
     let mut tickets = Vec::new(rt.alloc());
@@ -186,53 +174,6 @@ fn moving_asks_for_no_memory(rt: HostRuntime) {
     assert!(rt; are_right(&mut letters, &mut tickets, &WITHOUT));
     drop(rest);
     assert!(rt; are_right(&mut letters, &mut tickets, &AFTER));
-}
-
-/// Schedules `count` letters. Returns whether all fit.
-fn all_fit(letters: &mut Letters<&LocalHeap>, count: usize) -> bool {
-    for _ in 0..count {
-        if letters.schedule(3, 'r').is_err() {
-            return false;
-        }
-    }
-    true
-}
-
-#[test]
-fn a_reservation_is_room_enough(rt: HostRuntime) {
-    let mut met = [false; 2];
-    for units in 1..60usize {
-        let heap = LocalHeap::new(rt.alloc(), units * 16).expect(&rt, "a heap");
-        let mut letters: Letters<&LocalHeap> = Agenda::new(&heap);
-        if letters.reserve(5).is_ok() {
-            let rest = rest_of(rt.alloc(), &heap).expect(&rt, "memory");
-            assert!(rt; all_fit(&mut letters, 5) && letters.capacity() == 5);
-            letters.clear();
-            assert!(rt; letters.is_empty() && all_fit(&mut letters, 5));
-            drop(rest);
-            met[0] = true;
-        } else {
-            assert!(rt; (letters.len(), letters.capacity()) == (0, 0));
-            met[1] = true;
-        }
-    }
-    assert!(rt; met == [true, true]);
-}
-
-#[test]
-fn reservations_of_one_grow_as_jobs_do(rt: HostRuntime) {
-    let mut letters = Letters::new(rt.alloc());
-    let mut growths = 0usize;
-    for _ in 0..100usize {
-        let before = letters.capacity();
-        assert!(rt; letters.reserve(1).is_ok() && letters.schedule(1, 'a').is_ok());
-        if letters.capacity() != before {
-            growths = growths.wrapping_add(1);
-        }
-    }
-    // 4, 8, 16, 32, 64, 128
-    assert!(rt; growths == 6);
-    assert!(rt; letters.reserve(usize::MAX) == Err(ReallocationError::BeyondMaxCapacity));
 }
 
 #[test]

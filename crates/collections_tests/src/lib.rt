@@ -7,6 +7,6 @@ mod agendas;
 #[cfg(test)]
 mod order_books;
 #[cfg(test)]
-mod texts;
+mod support;
 #[cfg(test)]
 mod timelines;

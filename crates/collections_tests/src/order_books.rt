@@ -1,5 +1,6 @@
-//! Order books: a trading day, replaced orders, every sequence of a few orders, refused memory.
+//! Order books: a trading day, replaced orders, every sequence of a few orders, refused memory, and the texts of errors.
 mod day;
+mod error;
 mod refused;
 mod replaced;
 mod sequences;

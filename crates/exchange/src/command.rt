@@ -1,9 +1,9 @@
 //! What a line says, and what may be wrong with it.
 
+use command_line::{NumberError, number};
 use order_book::{OrderKind, PlacingError, ReplacingError, Side};
 use std::alloc::AllocError;
 use std::io;
-use std::num::IntErrorKind;
 use std::str::SplitAsciiWhitespace;
 use thiserror::Error;
 
@@ -28,12 +28,8 @@ pub enum Misread {
     UnknownCommand,
     #[error("neither buy nor sell")]
     NoSide,
-    #[error("a number is missing")]
-    NumberMissing,
-    #[error("not a number")]
-    NotANumber,
-    #[error("a number is too large")]
-    NumberTooLarge,
+    #[error("{0}")]
+    Number(#[from] NumberError),
     #[error("a word too many")]
     WordTooMany,
 }
@@ -157,20 +153,7 @@ fn side(word: Option<&str>) -> Result<Side, Misread> {
 // The tag at the end of a line: 0, if there is none.
 fn tag(words: &mut SplitAsciiWhitespace) -> Result<u64, Misread> {
     match words.next() {
-        Some(word) => number(Some(word)),
+        Some(word) => Ok(number(Some(word))?),
         None => Ok(0),
-    }
-}
-
-// The number of a word in decimal digits, without a sign.
-fn number(word: Option<&str>) -> Result<u64, Misread> {
-    let word = word.ok_or(Misread::NumberMissing)?;
-    if !word.bytes().all(|byte| byte.is_ascii_digit()) {
-        return Err(Misread::NotANumber);
-    }
-    match word.parse::<u64>() {
-        Ok(number) => Ok(number),
-        Err(error) if *error.kind() == IntErrorKind::PosOverflow => Err(Misread::NumberTooLarge),
-        Err(_) => Err(Misread::NotANumber),
     }
 }

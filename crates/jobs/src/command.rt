@@ -1,6 +1,6 @@
 //! What a line says, and what may be wrong with it.
 
-use std::num::IntErrorKind;
+use command_line::{NumberError, number};
 use std::str::SplitAsciiWhitespace;
 use thiserror::Error;
 
@@ -22,12 +22,8 @@ pub enum Command<'a> {
 pub enum Misread {
     #[error("unknown command")]
     UnknownCommand,
-    #[error("a number is missing")]
-    NumberMissing,
-    #[error("not a number")]
-    NotANumber,
-    #[error("a number is too large")]
-    NumberTooLarge,
+    #[error("{0}")]
+    Number(#[from] NumberError),
     #[error("a name is missing")]
     NameMissing,
     #[error("a word too many")]
@@ -75,14 +71,4 @@ fn move_to<'a>(words: &mut SplitAsciiWhitespace<'a>) -> Result<Command<'a>, Misr
     let id = number(words.next())?;
     let deadline = number(words.next())?;
     Ok(Command::Move(id, deadline))
-}
-
-// The number that a word says.
-fn number(word: Option<&str>) -> Result<u64, Misread> {
-    let word = word.ok_or(Misread::NumberMissing)?;
-    match word.parse::<u64>() {
-        Ok(number) => Ok(number),
-        Err(error) if *error.kind() == IntErrorKind::PosOverflow => Err(Misread::NumberTooLarge),
-        Err(_) => Err(Misread::NotANumber),
-    }
 }

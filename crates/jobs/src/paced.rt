@@ -1,7 +1,7 @@
 //! `Paced`: a file whose changes are put on the disk at a pace.
 
 ghost use Rattle.std.specs.Prelude.{false, []};
-ghost use Rattle.record_log.specs.Device.{nothing};
+ghost use Rattle.agenda_store.specs.Device.{nothing};
 
 use agenda_store::{Device, DeviceError, FileDevice};
 use std::alloc::Global;

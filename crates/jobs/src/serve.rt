@@ -27,8 +27,8 @@ Each change is on the disk before its answer. With --sync changes are put on the
 at the end (never). If the process is killed, no answered change is lost. A power failure may lose changes that weren't put on the disk, or,
 as the disk may write them in another order, leave a file that is refused as corrupt.
 
-A bad line is answered by `line N: REASON` and changes nothing. If the file fails, so is that line, which may take effect or not,
-and every later change is refused: start again.
+A bad line is answered by `line N: REASON` and changes nothing. If the file fails, the line is answered so too: its change may be in the file
+or not. Every later change is then refused: start the program again.
 Exit status: 0; 1 if reading or writing failed, or the file can't be opened; 64 on wrong usage; 65 if it is no agenda, or corrupt.
 ";
 

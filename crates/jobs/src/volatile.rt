@@ -1,7 +1,7 @@
 //! `Volatile`: a file in memory that ends with the program.
 
 ghost use Rattle.std.specs.Prelude.{false, []};
-ghost use Rattle.record_log.specs.Device.{nothing};
+ghost use Rattle.agenda_store.specs.Device.{nothing};
 
 use agenda_store::{Device, DeviceError};
 use std::alloc::Global;

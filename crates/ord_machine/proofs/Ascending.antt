@@ -4,7 +4,7 @@ use Rattle.std.proofs.lemmas.Bool.Decides.{eqb_tells}
 use Rattle.std.specs.declared.cmp.Ordering.TheVariants.{Less, Equal, Greater}
 use Rattle.std.specs.{Cmp.IsTotalOrder, Cmp.alike_right, List.Sorted.IsStrictlySortedBy, declared.cmp.Ordering.Ordering}
 use Rattle.std.specs.{Ordering.ordering_reverse, List.AllByRecursion}
-use Rattle.chain_base.specs.Chain.{Entry, Chain, IsDistinct, entry_at, without, with_item_among}
+use Rattle.triple_ord.specs.Chain.{Entry, Chain, IsDistinct, entry_at, without, with_item_among}
 use Rattle.triple_ord.specs.{Gap.first_of, Gap.last_of, Search.order_to, Place.at_key}
 use Rattle.triple_ord.proofs.CallerLemmas.{recursion-map}
 use Rattle.ord_machine.specs.{Ascending.KeepsApart, Ascending.AscendingKeysLaw, Machine.Reading, Machine.Calls, Machine.State, Machine.Runs}

@@ -1,6 +1,6 @@
 -- The bounds on the visits of a search, given what the marks of a state say about its shape.
 use Rattle.std.proofs.Common.{ℕ, Option, Some, None, IfNone, length}
-use Rattle.ord_tree.specs.Tree.{Tree}
+use Rattle.triple_ord.specs.Tree.{Tree}
 use Rattle.triple_ord.specs.VisitBounds as visits
 use Rattle.ord_machine.specs.Machine.{Marks, State, AreTrue, IsWithinBoundsByMarks, IsWithinHintedBoundsByMarks}
 

@@ -1,8 +1,8 @@
 -- Lemmas on public definitions, for this crate and those above.
 use Rattle.std.proofs.Common.{ℕ, List, [], ◌∷◌, Option, Some, None, IsSomeAnd, refl, ap, arith}
-use Rattle.ord_tree.specs.{Half.IsRebuilt, Shape.missing, Tree.Tree}
+use Rattle.triple_ord.specs.{Half.IsRebuilt, Shape.missing, Tree.Tree}
 use Rattle.std.specs.List.{FoldsTo}
-use Rattle.chain_base.specs.Chain.{Entry, item_of}
+use Rattle.triple_ord.specs.Chain.{Entry, item_of}
 use Rattle.triple_ord.specs.ClosureSearch.{Shown, Searches}
 use Rattle.ord_machine.specs.Machine.{Calls, Reading, Marks, State, AreTrue, AnswersWith, AnswersSimilarWith, Gets, Does, Runs}
 use Rattle.ord_machine.specs.{declared.reply.Reply.TheVariants.Found, declared.reply.Reply.TheVariants.Similar, declared.reply.Reply.Reply}

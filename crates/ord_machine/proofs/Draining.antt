@@ -1,7 +1,7 @@
 -- Entries removed from the front of a list, one after another.
 use Rattle.std.proofs.Common.{◌≡◌, ℕ, ◌<◌, min, List, [], ◌∷◌, ◌++◌, length, map, take, Option, Some, None, IsSome, refl, sym, ap, ◌∙◌, arith, length-append}
 use Rattle.std.proofs.{lemmas.List.take_min, lemmas.List.map-append, Math.Seq.take-append_seam}
-use Rattle.chain_base.specs.Chain.{Entry, Chain, removed}
+use Rattle.triple_ord.specs.Chain.{Entry, Chain, removed}
 use Rattle.ord_machine.specs.Machine.{removed_each, entry_of}
 use Rattle.ord_machine.proofs.Lists.{cut_more}
 

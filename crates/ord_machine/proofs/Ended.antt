@@ -2,10 +2,10 @@
 use Rattle.std.proofs.Common.{◌≡◌, ℕ, zero, suc, ◌+◌, ◌<◌, ◌≤◌, ◌⊎◌, inl, inr, false, List, [], ◌∷◌, Option, Some, None, IsSome, is_some, refl, sym, ap, ◌∙◌, arith}
 use Rattle.std.proofs.lemmas.Bool.Decides.{eqb_tells}
 use Rattle.std.specs.{Option.ForSome, Option.option_map, List.AllByRecursion}
-use Rattle.arena_base.specs.Generation.{next_generation}
-use Rattle.chain_base.specs.Chain.{Chain, IsSound, IsDistinct, entry_at, item_of}
-use Rattle.chain_base.proofs.CallerLemmas.{entry_at-without, entry_at-without_other, entry_at-with_item_among, entry_at-with_item_among_other}
-use Rattle.chain_base.proofs.CallerLemmas.{entry_at-with_generation, entry_at-with_generation_other, entry_at-between}
+use Rattle.triple_ord.specs.Generation.{next_generation}
+use Rattle.triple_ord.specs.Chain.{Chain, IsSound, IsDistinct, entry_at, item_of}
+use Rattle.triple_ord.proofs.ChainLemmas.{entry_at-without, entry_at-without_other, entry_at-with_item_among, entry_at-with_item_among_other}
+use Rattle.triple_ord.proofs.ChainLemmas.{entry_at-with_generation, entry_at-with_generation_other, entry_at-between}
 use Rattle.ord_machine.specs.Pointers.{resets, raises, raises_among, Part, EndedPointerLaw}
 use Rattle.ord_machine.specs.{Machine.Reading, Machine.Calls, Machine.State, Machine.Runs, declared.command.Command.Command, declared.reply.Reply.Reply}
 use Rattle.ord_machine.proofs.Outcomes.{cases_pointer, found-there, there-found, elsewhere, unused, risen, Change, stays, comes, writes, rekeys, leaves, renews, relays, empties, outcome}

@@ -1,8 +1,8 @@
 -- The first entry of an arena, and its rank.
 use Rattle.std.proofs.Common.{◌≡◌, ℕ, inl, inr, List, [], ◌∷◌, ◌++◌, length, map, Some, None, refl, sym, ap, subst, ◌∙◌, arith, length-append}
 use Rattle.std.specs.declared.cmp.Ordering.{Ordering}
-use Rattle.chain_base.specs.Chain.{Entry, Chain, next_index, inserted, with_room}
-use Rattle.ord_tree.specs.{Shape.Shape, Shape.missing, Shape.node, Shape.walk, Tree.Tree, Tree.IsSoundTree, Ranks.IsRanked, Ranks.HasRank}
+use Rattle.triple_ord.specs.Chain.{Entry, Chain, next_index, inserted, with_room}
+use Rattle.triple_ord.specs.{Shape.Shape, Shape.missing, Shape.node, Shape.walk, Tree.Tree, Tree.IsSoundTree, Ranks.IsRanked, Ranks.HasRank}
 use Rattle.triple_ord.specs.declared.entry_kind.OrdEntryKind.TheVariants.{New, Replacing}
 use Rattle.triple_ord.specs.{declared.error.OrdInsertionError.TheVariants.AllocError, declared.error.OrdInsertionError.OrdInsertionError}
 use Rattle.triple_ord.specs.{Insertion.reallocating, Insertion.InsertsNew, Gap.with_between, Place.at_key}

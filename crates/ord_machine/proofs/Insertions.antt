@@ -1,7 +1,7 @@
 -- The reply to an insertion says what the arena says.
 use Rattle.std.proofs.Common.{◌≡◌, ℕ, Option, Result, Ok, Err, sym, subst}
 use Rattle.std.specs.declared.cmp.Ordering.{Ordering}
-use Rattle.ord_tree.specs.Tree.{Tree}
+use Rattle.triple_ord.specs.Tree.{Tree}
 use Rattle.triple_ord.specs.{declared.error.OrdInsertionError.OrdInsertionError, declared.insert_kind.OrdInsertKind.OrdInsertKind}
 use Rattle.triple_ord.specs.{declared.entry_kind.OrdEntryKind.OrdEntryKind, Insertion.Growth, Insertion.InsertsBy, Place.Aim, Place.aim_of}
 use Rattle.ord_machine.specs.Machine.{Inserts, insertion_reply}

@@ -1,8 +1,8 @@
 -- A pointer keeps its entry during commands to other entries, and a rekeyed entry's pointer names the new item.
 use Rattle.std.proofs.Common.{◌≡◌, ℕ, List, [], ◌∷◌, IsSome, is_some, refl, sym, ap, ◌∙◌}
-use Rattle.arena_base.specs.Arena.{item_if}
-use Rattle.chain_base.specs.Chain.{Entry, Chain, entry_at, item_of}
-use Rattle.chain_base.proofs.CallerLemmas.{entry_at-without_other, entry_at-with_item_among_other, entry_at-with_generation_other}
+use Rattle.triple_ord.specs.PlainArena.{item_if}
+use Rattle.triple_ord.specs.Chain.{Entry, Chain, entry_at, item_of}
+use Rattle.triple_ord.proofs.ChainLemmas.{entry_at-without_other, entry_at-with_item_among_other, entry_at-with_generation_other}
 use Rattle.triple_ord.proofs.CallerLemmas.{rekeys-updates}
 use Rattle.ord_machine.specs.{Machine.Reading, Machine.Calls, Machine.State, Pointers.KeptPointerLaw, Pointers.RekeyedPointerLaw}
 use Rattle.ord_machine.proofs.Outcomes.{elsewhere, unused, Change, stays, comes, writes, rekeys, leaves, renews, relays, empties, outcome}

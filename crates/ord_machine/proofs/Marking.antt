@@ -1,7 +1,7 @@
 -- The marks of a state stay true.
 use Rattle.std.proofs.Common.{◌≡◌, ℕ, zero, suc, ◌==◌, cond, true, inl, inr, ◌∷◌, length, refl, sym, subst, arith, length-append}
 use Rattle.std.proofs.{lemmas.List.length-map, Math.Dec.eqb-suc-zero}
-use Rattle.ord_tree.specs.{Shape.Shape, Shape.missing, Shape.node, Shape.walk, Tree.Tree, Tree.IsSoundTree}
+use Rattle.triple_ord.specs.{Shape.Shape, Shape.missing, Shape.node, Shape.walk, Tree.Tree, Tree.IsSoundTree}
 use Rattle.ord_machine.specs.Machine.{Calls, Reading, State, Marks, Effect, adds, removes, moves, rebuilds, keeps, marked_by, AreTrue, settled, Does, effect_of, marks_after}
 use Rattle.ord_machine.specs.{declared.command.Command.Command, declared.reply.Reply.Reply}
 use Rattle.ord_machine.proofs.{Outcomes.Affects, Outcomes.outcome, CallerLemmas.AreTrue-missing}

@@ -3,12 +3,12 @@ use Rattle.std.proofs.Common.{◌≡◌, ◌≢◌, ℕ, zero, suc, ◌+◌, ◌
 use Rattle.std.proofs.{lemmas.Bool.Decides.eqb_tells, lemmas.List.length-map, lemmas.Cmp.tied_itself}
 use Rattle.std.specs.declared.cmp.Ordering.{Ordering, TheVariants.Less, TheVariants.Equal, TheVariants.Greater}
 use Rattle.std.specs.Cmp.{IsTotalOrder}
-use Rattle.arena_base.specs.declared.invalidation.InvalidationResult.TheVariants.{Success, GenerationOverflow, InvalidPtr}
-use Rattle.arena_base.specs.Generation.{next_generation}
-use Rattle.chain_base.specs.Chain.{Entry, Chain, renewed, removed, times, IsDistinct, entry_at, item_of, without, with_item_among, with_generation}
-use Rattle.chain_base.specs.{Compression.at_compressed_index, Compression.numbered, Insert.IsInsertion}
-use Rattle.chain_base.proofs.CallerLemmas.{after-insertion, entry_at-absent, entry_at-between_other, generation-relocated, generation-numbered}
-use Rattle.ord_tree.specs.{Shape.Shape, Shape.missing, Half.IsRebuilt, Ranks.IsTight, Tree.Tree, Potential.ChangesRanksWithin}
+use Rattle.triple_ord.specs.InvalidationResult.TheVariants.{Success, GenerationOverflow, InvalidPtr}
+use Rattle.triple_ord.specs.Generation.{next_generation}
+use Rattle.triple_ord.specs.Chain.{Entry, Chain, renewed, removed, times, IsDistinct, entry_at, item_of, without, with_item_among, with_generation}
+use Rattle.triple_ord.specs.{ChainCompression.at_compressed_index, ChainCompression.numbered, Insert.IsInsertion}
+use Rattle.triple_ord.proofs.ChainLemmas.{after-insertion, entry_at-absent, entry_at-between_other, generation-relocated, generation-numbered}
+use Rattle.triple_ord.specs.{Shape.Shape, Shape.missing, Half.IsRebuilt, Ranks.IsTight, Tree.Tree, Potential.ChangesRanksWithin}
 use Rattle.triple_ord.specs.Place.{Aim, alone, at_key, behind_key, beside, into, over, IsPlace, aim_of}
 use Rattle.triple_ord.specs.declared.error.OrdInsertionError.TheVariants.{BeyondMaxCapacity, AllocError}
 use Rattle.triple_ord.specs.declared.insert_kind.OrdInsertKind.TheVariants.{Normal, Nonhereditary, Linear, NonhereditaryLinear}

@@ -2,12 +2,12 @@
 use Rattle.std.proofs.Common.{◌≡◌, ℕ, ◌+◌, ◌≤◌, inl, inr, Option, Some, List, [], ◌∷◌, length, refl, sym, ap, subst, ◌∙◌, arith}
 use Rattle.std.proofs.lemmas.List.{length-map}
 use Rattle.std.specs.List.{AllByRecursion}
-use Rattle.chain_base.specs.Chain.{IsSound}
-use Rattle.ord_tree.specs.{Shape.Shape, Shape.size_of, Tree.Tree, Tree.IsSoundTree, Potential.potential, Potential.ChangesRanksWithin, Ranks.HasRank}
-use Rattle.ord_tree.proofs.CallerLemmas.{rank_in-standing, times-walk, times-indexes, potential-le-size, size_of-walk}
-use Rattle.ord_tree.specs.{Slots.times, Slots.times_in}
+use Rattle.triple_ord.specs.Chain.{IsSound}
+use Rattle.triple_ord.specs.{Shape.Shape, Shape.size_of, Tree.Tree, Tree.IsSoundTree, Potential.potential, Potential.ChangesRanksWithin, Ranks.HasRank}
+use Rattle.triple_ord.proofs.TreeLemmas.{rank_in-standing, times-walk, times-indexes, potential-le-size, size_of-walk}
+use Rattle.triple_ord.specs.Slots.{times, times_in}
 use Rattle.triple_ord.specs.declared.entry_kind.OrdEntryKind.TheVariants.{New}
-use Rattle.arena_base.specs.declared.invalidation.InvalidationResult.TheVariants.{Success, GenerationOverflow}
+use Rattle.triple_ord.specs.InvalidationResult.TheVariants.{Success, GenerationOverflow}
 use Rattle.ord_machine.specs.declared.reply.Reply.TheVariants.{Inserted, Item, Removed}
 use Rattle.ord_machine.specs.Machine.{Calls, Reading, State, Runs, Effect, adds, removes, moves, rebuilds, keeps, told_effect, effect_of}
 use Rattle.ord_machine.specs.RankChanges.{allowance, KeepsTree, allowance_of, CountsRankChanges, RankChangesLaw}

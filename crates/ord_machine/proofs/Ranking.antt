@@ -1,9 +1,9 @@
 -- Links and ranks of entries in a list.
 use Rattle.std.proofs.Common.{◌≡◌, ℕ, List, [], ◌∷◌, ◌++◌, inl, inr, Option, Some, None, IsSome, refl, sym, ap, subst, ◌∙◌}
 use Rattle.std.proofs.lemmas.Bool.Decides.{eqb_tells}
-use Rattle.chain_base.specs.Chain.{Entry, link_at, link_between}
-use Rattle.ord_tree.specs.Shape.{Shape}
-use Rattle.ord_tree.specs.{Shape.missing, Shape.node, Ranks.HasRank}
+use Rattle.triple_ord.specs.Chain.{Entry, link_at, link_between}
+use Rattle.triple_ord.specs.Shape.{Shape}
+use Rattle.triple_ord.specs.{Shape.missing, Shape.node, Ranks.HasRank}
 use Rattle.triple_ord.specs.Node.{IsPart}
 use Rattle.ord_machine.specs.Machine.{HaveRanks}
 

@@ -1,7 +1,7 @@
 -- A run, step by step.
 use Rattle.std.proofs.Common.{◌≡◌, List, [], ◌∷◌, ◌++◌, refl, subst}
-use Rattle.chain_base.specs.Chain.{IsSound}
-use Rattle.ord_tree.specs.Tree.{Tree, IsSoundTree}
+use Rattle.triple_ord.specs.Chain.{IsSound}
+use Rattle.triple_ord.specs.Tree.{Tree, IsSoundTree}
 use Rattle.ord_machine.specs.Machine.{Calls, Reading, Marks, State, AreTrue, Does, marks_after, Step, Runs, RunsBetween}
 use Rattle.ord_machine.specs.{declared.command.Command.Command, declared.reply.Reply.Reply}
 use Rattle.ord_machine.proofs.Marking.{AreTrue-does}

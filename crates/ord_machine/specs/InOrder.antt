@@ -1,6 +1,6 @@
 -- When keys stay in order along a run.
 use Rattle.std.specs.{Prelude.◌≡◌, Prelude.List, declared.cmp.Ordering.TheVariants.Equal, List.AllByRecursion, Cmp.IsTotalOrder}
-use Rattle.chain_base.specs.Chain.{IsSound}
+use Rattle.triple_ord.specs.Chain.{IsSound}
 use Rattle.triple_ord.specs.declared.insert_kind.OrdInsertKind.TheVariants.{Normal, Nonhereditary, Linear, NonhereditaryLinear}
 use Rattle.triple_ord.specs.{declared.insert_kind.OrdInsertKind.OrdInsertKind, Order.IsInOrder}
 use Rattle.ord_machine.specs.{Machine.Reading, Machine.Calls, Machine.State, Machine.Runs, declared.command.Command.Command, declared.reply.Reply.Reply}

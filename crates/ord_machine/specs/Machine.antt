@@ -1,14 +1,14 @@
 -- The list machine: the possible replies to each command on an ordered arena, and the state that it leaves.
 use Rattle.std.specs.Prelude.{◌≡◌, ℕ, ◌+◌, ◌^◌, ◌<◌, ◌≤◌, ◌==◌, ◌↔◌, Bool, true, false, if◌then◌else◌, List, [], ◌∷◌, length, map, take, max, Option, Some, IsSomeAnd, is_some, IfSome, IfNone, MatchOption, Result, Ok, Err}
 use Rattle.std.specs.{declared.cmp.Ordering.Ordering, Option.option_map}
-use Rattle.arena_base.specs.declared.invalidation.InvalidationResult.TheVariants.{Success, GenerationOverflow}
-use Rattle.arena_base.specs.Invalidation.{valid_value, is_overflow, IsRemoval, IsRenewal}
-use Rattle.arena_base.specs.Compression.{compressed_generation, compression_overflows}
-use Rattle.arena_base.specs.Generation.{overflows_after}
-use Rattle.chain_base.specs.Chain.{Entry, Chain, IsSound, entry_at, item_of, link_at, first_pointer, last_pointer, removed, renewed, cleared, raised, chain_limit, greatest_index, with_capacity}
-use Rattle.chain_base.specs.{Compression.relocated, Compression.canonical, Link.Link}
-use Rattle.ord_tree.specs.{Tree.Tree, Tree.IsSoundTree, Tree.IsShrunk, Tree.with_item, Shape.Shape, Shape.missing}
-use Rattle.ord_tree.specs.{Numbers.fib, Numbers.HasDigits, Half.IsRebuilt, Ranks.IsTight, Ranks.HasRank}
+use Rattle.triple_ord.specs.InvalidationResult.TheVariants.{Success, GenerationOverflow}
+use Rattle.triple_ord.specs.Invalidation.{valid_value, is_overflow, IsRemoval, IsRenewal}
+use Rattle.triple_ord.specs.ArenaCompression.{compressed_generation, compression_overflows}
+use Rattle.triple_ord.specs.Generation.{overflows_after}
+use Rattle.triple_ord.specs.Chain.{Entry, Chain, IsSound, entry_at, item_of, link_at, first_pointer, last_pointer, removed, renewed, cleared, raised, chain_limit, greatest_index, with_capacity}
+use Rattle.triple_ord.specs.{ChainCompression.relocated, ChainCompression.canonical, Link.Link}
+use Rattle.triple_ord.specs.{Tree.Tree, Tree.IsSoundTree, Tree.IsShrunk, Tree.with_item, Shape.Shape, Shape.missing}
+use Rattle.triple_ord.specs.{Numbers.fib, Numbers.HasDigits, Half.IsRebuilt, Ranks.IsTight, Ranks.HasRank}
 use Rattle.triple_ord.specs.declared.error.OrdInsertionError.TheVariants.{BeyondMaxCapacity, AllocError}
 use Rattle.triple_ord.specs.{Insertion.Growth, Insertion.within, Insertion.reallocating, Insertion.InsertsBy, Hint.IsNearHint}
 use Rattle.triple_ord.specs.{ClosureSearch.Shown, ClosureSearch.FindsWith, ClosureSearch.FindsSimilarWith, Order.IsInOrder}

@@ -1,8 +1,8 @@
 -- What pointers name along a run: an entry keeps its pointer while others come and go, and a pointer that has ended stays ended.
 use Rattle.std.specs.Prelude.{◌≡◌, ◌≢◌, ℕ, ◌+◌, ◌≤◌, Bool, false, List, ◌∷◌, length, Some, None, IsSome}
 use Rattle.std.specs.{List.AllByRecursion, Option.ForSome}
-use Rattle.arena_base.specs.declared.invalidation.InvalidationResult.TheVariants.{Success, GenerationOverflow}
-use Rattle.chain_base.specs.Chain.{IsSound, entry_at, item_of}
+use Rattle.triple_ord.specs.InvalidationResult.TheVariants.{Success, GenerationOverflow}
+use Rattle.triple_ord.specs.Chain.{IsSound, entry_at, item_of}
 use Rattle.triple_ord.specs.{declared.entry_kind.OrdEntryKind.TheVariants.Replacing}
 use Rattle.ord_machine.specs.declared.reply.Reply.TheVariants.{Inserted, Item, Removed, Renewed, Changed, Entries}
 use Rattle.ord_machine.specs.{Machine.Reading, Machine.Calls, Machine.State, Machine.Runs, declared.command.Command.Command, declared.reply.Reply.Reply}

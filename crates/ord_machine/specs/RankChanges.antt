@@ -1,8 +1,8 @@
 -- The amortized bound: how often ranks change along a run.
 use Rattle.std.specs.Prelude.{◌≡◌, ℕ, ◌+◌, ◌*◌, ◌≤◌, List, [], ◌∷◌, length}
 use Rattle.std.specs.List.{AllByRecursion}
-use Rattle.chain_base.specs.Chain.{IsSound}
-use Rattle.ord_tree.specs.{Tree.IsSoundTree, Potential.NamesRankChanges}
+use Rattle.triple_ord.specs.Chain.{IsSound}
+use Rattle.triple_ord.specs.{Tree.IsSoundTree, Potential.NamesRankChanges}
 use Rattle.ord_machine.specs.Machine.{Calls, Reading, State, Step, Runs, Effect, adds, removes, moves, rebuilds, keeps, effect_of}
 use Rattle.ord_machine.specs.{declared.command.Command.Command, declared.reply.Reply.Reply}
 use Rattle.ord_machine.specs.declared.command.Command.TheVariants as commands

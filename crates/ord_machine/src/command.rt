@@ -1,6 +1,5 @@
 //! The commands to an ordered arena.
-use arena_base::BasePtr;
-use triple_ord::{OrdInsertKind, SimpleOrdItem};
+use triple_ord::{BasePtr, OrdInsertKind, SimpleOrdItem};
 
 /// A command to an ordered arena of items `T` under pointers `P`.
 #[derive(Drop)]

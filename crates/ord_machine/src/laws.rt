@@ -8,10 +8,9 @@ ghost use Rattle.ord_machine.specs.Machine.{calls_by};
 ghost use Rattle.ord_machine.specs.Pointers.{EndedPointerLaw, KeptPointerLaw, RekeyedPointerLaw};
 ghost use Rattle.ord_machine.specs.RankChanges.{RankChangesLaw};
 
-use arena_base::BasePtr;
 use std::alloc::Allocator;
 use std::cmp::Ordering;
-use triple_ord::SimpleOrdItem;
+use triple_ord::{BasePtr, SimpleOrdItem};
 
 /// An insertion into an empty arena, and then `ranks`: there is one rank, and it is 1, unless a command fails.
 pub fn first_rank_law<

@@ -1,8 +1,9 @@
 //! The replies of an ordered arena.
-use arena_base::{BasePtr, InvalidationOption, InvalidationResult};
 use std::alloc::Allocator;
 use std::cmp::Ordering;
-use triple_ord::{OrdEntryKind, OrdInsertionError};
+use triple_ord::{
+    BasePtr, InvalidationOption, InvalidationResult, OrdEntryKind, OrdInsertionError,
+};
 
 /// A reply to a command.
 #[derive(Drop)]

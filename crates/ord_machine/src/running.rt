@@ -1,17 +1,16 @@
 //! Running commands on an ordered arena.
 ghost use Rattle.std.specs.Prelude.{◌≡◌, ◌<◌, IfOk, OnErr, length};
-ghost use Rattle.chain_base.specs.Chain.{IsSound};
-ghost use Rattle.ord_tree.specs.Tree.{IsSoundTree};
+ghost use Rattle.triple_ord.specs.Chain.{IsSound};
+ghost use Rattle.triple_ord.specs.Tree.{IsSoundTree};
 ghost use Rattle.triple_ord.specs.ClosureSearch.{Asks};
 ghost use Rattle.ord_machine.specs.Machine.{calls_by, reading_by, Marks, AreTrue, Does, RunsBetween};
 
 use crate::command::Command;
 use crate::reply::Reply;
 use crate::steps;
-use arena_base::BasePtr;
 use std::alloc::{AllocError, Allocator};
 use std::cmp::Ordering;
-use triple_ord::{SimpleOrdArena, SimpleOrdItem};
+use triple_ord::{BasePtr, SimpleOrdArena, SimpleOrdItem};
 
 /// Runs the commands in order and returns one reply for each.
 ///

@@ -1,20 +1,22 @@
 //! What each command does, and its reply.
 ghost use Rattle.std.specs.Prelude.{◌≡◌, ◌<◌, IfOk, OnOk, OnErr, IfSome, is_some, length, map, take};
-ghost use Rattle.chain_base.specs.Chain.{link_at, first_pointer, last_pointer, cleared, raised};
-ghost use Rattle.chain_base.specs.Compression.{canonical, relocated};
-ghost use Rattle.ord_tree.specs.Shape.{missing};
+ghost use Rattle.triple_ord.specs.Chain.{link_at, first_pointer, last_pointer, cleared, raised};
+ghost use Rattle.triple_ord.specs.ChainCompression.{canonical, relocated};
+ghost use Rattle.triple_ord.specs.Shape.{missing};
 ghost use Rattle.triple_ord.specs.ClosureSearch.{Asks};
 ghost use Rattle.triple_ord.specs.Insertion.{within, reallocating, told};
 ghost use Rattle.triple_ord.specs.Place.{at_key, aim_of};
-ghost use Rattle.ord_tree.specs.Ranks.{HasRank};
+ghost use Rattle.triple_ord.specs.Ranks.{HasRank};
 ghost use Rattle.ord_machine.specs.Machine.{Marks, AreTrue, Inserts, insertion_reply, Sets, MovesToKey, Removes, RemovesAt, Renews, Changes, Rebuilds, Reserves, SetsMaximum, Finds, FindsFrom, FindsNear, FindsNearFrom, AnswersWith, AnswersSimilarWith, Visits, Gets, IsEnd, HasNeighbours, Lists, entry_of, Ranked, HaveRanks, Drains, removed_each, Checks, Counts};
 
 use crate::reply::Reply;
-use arena_base::{BasePtr, ItemsMut, ReallocationError};
 use std::alloc::{AllocError, Allocator};
 use std::cmp::Ordering;
 use std::mem;
-use triple_ord::{OrdEntryKind, OrdInsertKind, OrdInsertionError, SimpleOrdArena, SimpleOrdItem};
+use triple_ord::{
+    BasePtr, ItemsMut, OrdEntryKind, OrdInsertKind, OrdInsertionError, ReallocationError,
+    SimpleOrdArena, SimpleOrdItem,
+};
 
 /// Runs `Command::Insert`.
 pub fn insert<P: BasePtr, T: SimpleOrdItem + Drop, A: Allocator>(

@@ -1,8 +1,8 @@
 -- The replies of a script's run from the beginning.
 use Rattle.std.proofs.Common.{◌≡◌, ℕ, List, Result, Ok, Err, IfOk, Bor, subst}
 use Rattle.std.specs.{declared.cmp.Ordering.TheVariants.Equal, declared.cmp.Ordering.Ordering}
-use Rattle.ord_tree.specs.Tree.{Tree}
-use Rattle.triple_ord.specs.ClosureSearch.{Asks}
+use Rattle.ord_machine.specs.Tree.{Tree}
+use Rattle.ord_machine.specs.ClosureSearch.{Asks}
 use Rattle.ord_machine.specs.Machine.{calls_by, State, Runs, RunsBetween}
 use Rattle.ord_script.specs.Pairs.{Pair, Pointer, PairCommand, PairReply, reading, beginning, script_calls}
 use Rattle.ord_machine.proofs.CallerLemmas.{AreTrue-missing, Runs-like}

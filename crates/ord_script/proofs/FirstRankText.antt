@@ -1,9 +1,9 @@
 -- The script of two lines, an insertion and `ranks`, from its bytes to the bytes of its answers.
 use Rattle.std.proofs.Common.{◌≡◌, ℕ, pos, List, [], ◌∷◌, Contains, codes, Some, None, refl, sym, ◌∙◌, subst, arith, append-nil}
 use Rattle.std.proofs.lemmas.Fmt.{decimal_digit}
-use Rattle.triple_ord.specs.declared.error.OrdInsertionError.TheVariants.{FailedOrdRequirement, NotWithinCapacity, BeyondMaxCapacity, AllocError}
-use Rattle.triple_ord.specs.{declared.entry_kind.OrdEntryKind.TheVariants.New, Insertion.reallocating, Insertion.InsertsNew, Place.at_key}
-use Rattle.ord_tree.specs.Tree.{Tree}
+use Rattle.ord_machine.specs.OrdInsertionError.TheVariants.{FailedOrdRequirement, NotWithinCapacity, BeyondMaxCapacity, AllocError}
+use Rattle.ord_machine.specs.{OrdEntryKind.TheVariants.New, Insertion.reallocating, Insertion.InsertsNew, Place.at_key}
+use Rattle.ord_machine.specs.Tree.{Tree}
 use Rattle.ord_machine.specs.declared.command.Command.TheVariants as commands
 use Rattle.ord_machine.specs.declared.reply.Reply.TheVariants.{Inserted, Refused, Ranks}
 use Rattle.ord_machine.specs.{Machine.State, Machine.Inserts, Machine.Runs, Laws.AreFirstReplies}

@@ -6,7 +6,7 @@ use Rattle.std.proofs.{lemmas.List.Recursion.and_at, lemmas.Fmt.decimal_nonempty
 use Rattle.std.specs.declared.cmp.Ordering.TheVariants.{Less, Equal, Greater}
 use Rattle.std.specs.Str.Lines.{lines, lines_of_parts, strip_carriage_return}
 use Rattle.std.specs.List.{AllByRecursion, list_all, slice_split, join_with_byte}
-use Rattle.triple_ord.specs.declared.insert_kind.OrdInsertKind.TheVariants as kinds
+use Rattle.ord_machine.specs.OrdInsertKind.TheVariants as kinds
 use Rattle.ord_machine.specs.declared.command.Command.TheVariants as commands
 use Rattle.ord_script.specs.Spelling.{Argument, key, value, index, count, pointer, flag, argument_text, IsInRange, saying_of, spelled, CanBeSaid, script_text}
 use Rattle.ord_script.specs.{Script.is_blank, Script.words_of, Script.and_then, Script.script_from, Script.script_of, Pairs.PairCommand}

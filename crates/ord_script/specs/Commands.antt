@@ -2,7 +2,7 @@
 use Rattle.std.specs.Prelude.{ℕ, ℤ, List, [], ◌∷◌, ◌==◌, ok_or, Option, Some, None, Result, Ok, Err, codes, bytes_eq, slice_index, if◌then◌else◌}
 use Rattle.std.specs.declared.cmp.Ordering.TheVariants.{Less, Equal, Greater}
 use Rattle.std.specs.declared.cmp.Ordering.{Ordering}
-use Rattle.triple_ord.specs.declared.insert_kind.OrdInsertKind.TheVariants as kinds
+use Rattle.ord_machine.specs.OrdInsertKind.TheVariants as kinds
 use Rattle.ord_script.specs.Arguments.{Reader, nothing, one, both, key_and_value, arguments_in}
 use Rattle.ord_script.specs.Numbers.{key_of, value_of, index_of, flag_of, pointer_of}
 use Rattle.ord_script.specs.{declared.fault.FaultKind.TheVariants.UnknownCommand, Pairs.Pair, Pairs.Pointer, Pairs.PairCommand}

@@ -2,8 +2,8 @@
 use Rattle.std.specs.Prelude.{◌≡◌, Bool, true, false, ℕ, ◌^◌, ◌<◌, ℤ, pos, neg_ℤ, ◌≤ℤ◌, ◌<ℤ◌, List, [], ◌∷◌, ◌++◌, All, map, flat_map, codes, decimal}
 use Rattle.std.specs.declared.cmp.Ordering.TheVariants.{Less, Equal, Greater}
 use Rattle.std.specs.{List.join_with_byte, Fmt.signed_decimal}
-use Rattle.triple_ord.specs.declared.insert_kind.OrdInsertKind.{OrdInsertKind}
-use Rattle.triple_ord.specs.declared.insert_kind.OrdInsertKind.TheVariants as kinds
+use Rattle.ord_machine.specs.OrdInsertKind.{OrdInsertKind}
+use Rattle.ord_machine.specs.OrdInsertKind.TheVariants as kinds
 use Rattle.ord_machine.specs.declared.command.Command.TheVariants as commands
 use Rattle.ord_script.specs.{Pairs.Pair, Pairs.Pointer, Pairs.PairCommand, Text.pointer_text}
 

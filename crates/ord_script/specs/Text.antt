@@ -2,11 +2,11 @@
 use Rattle.std.specs.Prelude.{◌≡◌, Result, OnOk, String, string_bytes, ℕ, Bool, true, false, List, [], ◌∷◌, ◌++◌, Option, Some, None, codes, decimal, flat_map}
 use Rattle.std.specs.declared.cmp.Ordering.TheVariants.{Less, Equal, Greater}
 use Rattle.std.specs.{declared.cmp.Ordering.Ordering, Fmt.signed_decimal}
-use Rattle.arena_base.specs.declared.invalidation.InvalidationResult.TheVariants.{Success, GenerationOverflow, InvalidPtr}
-use Rattle.arena_base.specs.{declared.invalidation.InvalidationResult.InvalidationResult, Invalidation.is_overflow}
-use Rattle.triple_ord.specs.declared.error.OrdInsertionError.TheVariants.{FailedOrdRequirement, NotWithinCapacity, BeyondMaxCapacity, AllocError}
-use Rattle.triple_ord.specs.declared.entry_kind.OrdEntryKind.TheVariants.{New, Replacing}
-use Rattle.triple_ord.specs.{declared.error.OrdInsertionError.OrdInsertionError, declared.entry_kind.OrdEntryKind.OrdEntryKind}
+use Rattle.ord_machine.specs.InvalidationResult.TheVariants.{Success, GenerationOverflow, InvalidPtr}
+use Rattle.ord_machine.specs.{InvalidationResult.InvalidationResult, Invalidation.is_overflow}
+use Rattle.ord_machine.specs.OrdInsertionError.TheVariants.{FailedOrdRequirement, NotWithinCapacity, BeyondMaxCapacity, AllocError}
+use Rattle.ord_machine.specs.OrdEntryKind.TheVariants.{New, Replacing}
+use Rattle.ord_machine.specs.{OrdInsertionError.OrdInsertionError, OrdEntryKind.OrdEntryKind}
 use Rattle.ord_machine.specs.declared.command.Command.TheVariants as commands
 use Rattle.ord_script.specs.declared.form.Form.TheVariants.{Plain, Replaced, WithPointer, Cleared, Drained}
 use Rattle.ord_script.specs.declared.fault.FaultKind.TheVariants.{UnknownCommand, WrongArguments, BadNumber}

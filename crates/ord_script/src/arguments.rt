@@ -6,8 +6,7 @@ use crate::cutting::Words;
 use crate::fault::FaultKind;
 use crate::numbers::{flag_of, index_of, key_of, pointer_of, value_of};
 use crate::pairs::Pair;
-use arena_base::P0;
-use triple_ord::OrdPair;
+use triple_ord::{OrdPair, P0};
 
 /// A value read from some words of a line.
 pub trait Arguments: Sized + Drop {

@@ -2,7 +2,7 @@
 ghost use Rattle.std.specs.Prelude.{◌≡◌, position};
 ghost use Rattle.ord_script.specs.Numbers.{number_up_to, key_of, value_of, index_of, flag_of, pointer_of, is_point};
 
-use arena_base::{BasePtr, P0};
+use triple_ord::{BasePtr, P0};
 
 /// Reads a key: decimal digits, with an optional `-` before them.
 pub fn key_of(word: &[u8]) -> Option<i64>

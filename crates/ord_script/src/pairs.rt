@@ -1,8 +1,7 @@
 //! The contents of a script's arena, pairs of a key and a value under pointers, and how they are printed.
-use arena_base::{BasePtr, P0};
 use ord_machine::{Command, Reply};
 use std::fmt;
-use triple_ord::{OrdPair, SimpleOrdArena};
+use triple_ord::{BasePtr, OrdPair, P0, SimpleOrdArena};
 
 /// A key with its value.
 pub type Pair = OrdPair<i64, u64>;

@@ -9,10 +9,9 @@ use crate::cutting::Words;
 use crate::fault::FaultKind;
 use crate::pairs::{Pair, PairCommand};
 use crate::word::{Word, word_in};
-use arena_base::P0;
 use ord_machine::Command;
 use std::cmp::Ordering;
-use triple_ord::OrdInsertKind;
+use triple_ord::{OrdInsertKind, P0};
 
 /// Returns the command of a line, or its fault; `None` if the line has no words or begins with `#`. The first word is checked first, then
 /// the number of words, then each argument from the left.

@@ -14,12 +14,11 @@ use crate::script_end::ScriptEnd;
 use crate::text::text_of;
 use crate::watched::Watched;
 use crate::writing::write_all;
-use arena_base::P0;
 use ord_machine::run;
 use std::alloc::{AllocError, Allocator};
 use std::cmp::Ordering;
 use std::io::{Read, Write};
-use triple_ord::SimpleOrdArena;
+use triple_ord::{P0, SimpleOrdArena};
 
 /// Reads a whole script, runs its commands on an empty arena, and writes the answer: a line for each reply, and one for the first fault,
 /// if any.

@@ -1,7 +1,7 @@
 //! Writing the lines of the answer to a script.
 ghost use Rattle.std.specs.Prelude.{◌≡◌, ◌++◌, [], ◌∷◌, IfOk, string_bytes, codes, flat_map, decimal};
 ghost use Rattle.ord_script.specs.Text.{Adds, reply_lines, reply_text, fault_line, insertion_text, optional_pointer_text, similar_text, order_text, item_word, item_text, taken_text, pointer_text, overflow_text, valid_text, change_word, links_text, entries_word, entry_text, sorted_text, stats_text, refusal_text};
-ghost use Rattle.arena_base.specs.Invalidation.{is_overflow};
+ghost use Rattle.ord_machine.specs.Invalidation.{is_overflow};
 
 use crate::fault::Fault;
 use crate::form::Form;
@@ -9,12 +9,11 @@ use crate::pairs::{
     Pair, PairReply, ShownBefore, ShownMaximum, ShownNeighbour, ShownOverflow, ShownPair,
     ShownPointer,
 };
-use arena_base::{InvalidationOption, InvalidationResult, P0};
 use ord_machine::Reply;
 use std::alloc::{AllocError, Allocator};
 use std::cmp::Ordering;
 use std::fmt::Write;
-use triple_ord::{OrdEntryKind, OrdInsertionError};
+use triple_ord::{InvalidationOption, InvalidationResult, OrdEntryKind, OrdInsertionError, P0};
 
 /// Returns a line for each reply, and one for the fault, if any. `forms` has the form of each reply.
 pub fn text_of<A: Allocator>(

@@ -3,4 +3,20 @@
 #![tactic(auto)]
 
 #[cfg(test)]
-mod tests;
+mod devices;
+#[cfg(test)]
+mod fault;
+#[cfg(test)]
+mod hostile;
+#[cfg(test)]
+mod memory;
+#[cfg(test)]
+mod running;
+#[cfg(test)]
+mod script_end;
+#[cfg(test)]
+mod serving;
+#[cfg(test)]
+mod support;
+#[cfg(test)]
+mod watched;

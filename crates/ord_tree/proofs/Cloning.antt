@@ -3,8 +3,8 @@ use Rattle.std.proofs.Common.{arith, ◌≡◌, ℕ, zero, suc, ◌+◌, inl, in
 use Rattle.std.proofs.{lemmas.Bool.Decides.eqb_tells, lemmas.Option.slice_get-map, lemmas.Grind.common_steps, lemmas.Bool.false≢true}
 use Rattle.std.proofs.lemmas.List.{map-id}
 use Rattle.std.specs.declared.alloc.AllocError.{AllocError}
-use Rattle.arena_base.specs.Clone.{Grants, StopsAtRefusal}
-use Rattle.arena_base.proofs.CallerLemmas.{clones-retold, clones-leave, stops-retold, stops-leave}
+use Rattle.chain_base.specs.ArenaClone.{Grants, StopsAtRefusal}
+use Rattle.chain_base.proofs.ArenaLemmas.{clones-retold, clones-leave, stops-retold, stops-leave}
 use Rattle.chain_base.specs.Clone.{links_among, links_rising, taken_over, IsClone as IsClonedList, IsRefusedClone as IsRefusedList}
 use Rattle.chain_base.specs.Chain.{Entry, Chain, entry_at, first_or, link_between, greatest_index, IsSound}
 use Rattle.chain_base.specs.{Compression.lesser, Compression.refilled, Walk.pointers, Link.Link}

@@ -3,11 +3,11 @@ use Rattle.std.proofs.Common.{Result, Ok, Err, OnErr, arith, ◌≡◌, ℕ, zer
 use Rattle.std.proofs.{lemmas.Grind.common_steps, lemmas.List.length-map}
 use Rattle.chain_base.specs.Compression.{lesser, entry_before, rising_among, entries_rising, refilled, moved, compressed, at_compressed_index, relocated, numbered, canonical, replaced, left_empty, IsCompression, Transferring, IsTransfer}
 use Rattle.chain_base.specs.Chain.{Entry, Chain}
-use Rattle.arena_base.specs.declared.invalidation.InvalidationOption.{InvalidationOption}
+use Rattle.chain_base.specs.InvalidationOption.{InvalidationOption}
 use Rattle.chain_base.proofs.CallerLemmas.{steps-retold}
 use Rattle.ord_tree.specs.{declared.node.SimpleOrdArenaNode.SimpleOrdArenaNode as Node, Node.bare_entry, Node.bare, Node.entry_in}
 use Rattle.ord_tree.specs.MapNode.{MapsTaken}
-use Rattle.arena_base.proofs.CallerLemmas.{calls-retold}
+use Rattle.chain_base.proofs.ArenaLemmas.{calls-retold}
 use Rattle.ord_tree.proofs.Trees.{entry_at-bare, vacant_among-bare}
 
 -- what always holds also holds on `Err`

@@ -11,7 +11,7 @@ use Rattle.ord_tree.specs.{Slots.Holds, Slots.times, Slots.IsOnce, Slots.shape_u
 use Rattle.ord_tree.specs.{Leaf.beside, Leaf.leaf_links, Leaf.IsNewLeaf, Layout.shape_in, Layout.IsLaidOut, Promote.IsRepaired}
 use Rattle.ord_tree.specs.{Ranks.IsRanked, Potential.potential, Potential.ChangesRanksWithin, Account.IsSpelledWithin, Account.rank_in}
 use Rattle.ord_tree.proofs.{RankChanges.ChangesRanksWithin-spelled, Potentials.node_potential-full}
-use Rattle.arena_base.proofs.CallerLemmas.{limit_of-below}
+use Rattle.chain_base.proofs.ArenaLemmas.{limit_of-below}
 use Rattle.ord_tree.proofs.Trees.{links_at, times-bare, indexes-bare, vacant_among-bare, shape_in-held, is_some-bare}
 use Rattle.ord_tree.proofs.Slack.{IsRanked-balanced, IsBalanced-ranked, IsTight-balanced, IsBalanced-tight}
 use Rattle.ord_tree.proofs.{LeafBranches.times-indexes, LeafBranches.IsOnce-distinct, LeafBranches.within-occupied, Views.MovesAtMost-backs}

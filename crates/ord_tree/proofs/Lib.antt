@@ -38,3 +38,6 @@ pub mod Appending
 pub mod Appended
 pub mod Cloning
 pub mod CallerLemmas
+-- The lemmas of the layers below, for callers.
+pub use Rattle.chain_base.proofs.ArenaLemmas
+pub use Rattle.chain_base.proofs.CallerLemmas as ChainLemmas

@@ -1,7 +1,7 @@
 -- A new pointer for an entry; the tree is unchanged.
 use Rattle.std.proofs.Common.{arith, ◌≡◌, ℕ, Option, Some, None, List, [], ◌∷◌, map, refl, sym, ◌∙◌, ap, is_some, option_map, OnSome, IfNone, subst}
 use Rattle.std.proofs.lemmas.Grind.{common_steps}
-use Rattle.arena_base.specs.{Generation.next_generation, Arena.item_if}
+use Rattle.chain_base.specs.{Generation.next_generation, PlainArena.item_if}
 use Rattle.chain_base.specs.Chain.{Entry, Chain, entry_at, item_of, with_generation, renewed}
 use Rattle.ord_tree.specs.{declared.node.SimpleOrdArenaNode.SimpleOrdArenaNode as Node, Layout.shape_in, Layout.tree_of, Layout.IsLaidOut}
 use Rattle.ord_tree.specs.Node.{bare_entry, bare, entry_in, indexes}

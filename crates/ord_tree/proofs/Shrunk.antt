@@ -7,7 +7,7 @@ use Rattle.ord_tree.specs.{Node.bare_entry, Node.bare, Node.entry_in, Node.links
 use Rattle.ord_tree.specs.{declared.node.SimpleOrdArenaNode.SimpleOrdArenaNode as Node, Detach.without, Detach.IsDetachable, Leaf.previous}
 use Rattle.ord_tree.specs.{Slots.Holds, Slots.times, Slots.IsOnce, Slots.MovesBacks, Layout.shape_in, Layout.IsLaidOut, Promote.IsBuilt}
 use Rattle.ord_tree.specs.Tree.{IsShrunk}
-use Rattle.arena_base.proofs.CallerLemmas.{limit_of-below}
+use Rattle.chain_base.proofs.ArenaLemmas.{limit_of-below}
 use Rattle.chain_base.proofs.CallerLemmas.{entry_at-link, entry_at-without_other}
 use Rattle.ord_tree.proofs.{Trees.entry_at-bare, Trees.is_some-bare, Trees.indexes-bare, Trees.shape_in-held, Views.MovesAtMost-backs, Views.Holds-unique}
 use Rattle.ord_tree.specs.{Potential.potential, Potential.ChangesRanksWithin, Account.IsSpelledWithin, Account.ranks_without}

@@ -3,7 +3,7 @@ use Rattle.std.proofs.Common.{◌≡◌, ℕ, zero, suc, ◌+◌, ◌≤◌, Opt
 use Rattle.std.proofs.{lemmas.Grind.common_steps, lemmas.List.length-map}
 use Rattle.chain_base.specs.Chain.{Entry, Chain, entry_at, times, with_item_among, with_item as chain_with_item, vacant_among, with_capacity, with_room, grown_capacity, greatest_index, IsSound}
 use Rattle.std.specs.Option.{ForSome}
-use Rattle.arena_base.specs.{Generation.IsLawfulGeneration, Arena.times as times_among}
+use Rattle.chain_base.specs.{Generation.IsLawfulGeneration, PlainArena.times as times_among}
 use Rattle.ord_tree.specs.{Layout.shape_in, Layout.tree_of, Layout.IsLaidOut, Layout.with_item_below, Layout.with_node_item, Ranks.IsRanked}
 use Rattle.ord_tree.specs.Node.{bare_entry, bare, entry_in, links_in, slots_of, indexes}
 use Rattle.ord_tree.specs.Shape.{Shape, missing, node, size_of, height, walk}

@@ -1,4 +1,4 @@
--- The rank rules and tightness in one definition, for the steps of a repair.
+-- The rank rules and tightness in one definition, for the steps of a repair. No public clause cites this file.
 use Rattle.std.specs.Prelude.{◌≡◌, ℕ, ◌+◌, ◌*◌, ◌<◌, ◌≤◌, ◌⊎◌}
 use Rattle.ord_tree.specs.{Shape.Shape, Shape.missing, Shape.node, Shape.rank_of, Slots.Way, Slots.top, Slots.up}
 

@@ -1,7 +1,7 @@
 -- What it means to clone one tree into another: the clone has the source's pointers in the same order, the same shape, and items made
 -- from the source's.
 use Rattle.std.specs.{Prelude.◌≡◌, Prelude.ℕ, Prelude.Result, declared.alloc.AllocError.AllocError, Borrow.Bor}
-use Rattle.arena_base.specs.Clone.{Grants, IsShown}
+use Rattle.chain_base.specs.ArenaClone.{Grants, IsShown}
 use Rattle.chain_base.specs.{Clone.IsClone as IsClonedList, Clone.IsRefusedClone as IsRefusedList, Link.Link}
 use Rattle.ord_tree.specs.{Shape.missing, Tree.Tree}
 

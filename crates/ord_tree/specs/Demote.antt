@@ -1,4 +1,4 @@
--- The states of the repair after a removal.
+-- The states of the repair after a removal. No public clause cites this file.
 use Rattle.std.specs.Prelude.{◌≡◌, ℕ, ◌+◌, ◌^◌, ◌<◌, Option, Some, List, length}
 use Rattle.ord_tree.specs.Slots.{Slots, Holds, Way, plug, above, HoldsWay, IsOnce, back_at, rank_at}
 use Rattle.ord_tree.specs.{Balance.IsOver, Balance.IsBalanced, Balance.IsBalancedWay, Shape.Shape, Shape.fork, Shape.rank_of, Shape.walk}

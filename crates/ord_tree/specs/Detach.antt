@@ -1,4 +1,4 @@
--- Removing a node: the list without it, and what takes its place.
+-- Removing a node: the list without it, and what takes its place. No public clause cites this file.
 use Rattle.std.specs.Prelude.{◌≡◌, ℕ, ◌^◌, ◌<◌, ◌≤◌, ◌==◌, if◌then◌else◌, Option, None, Some, List, [], ◌∷◌, length, IsSome}
 use Rattle.ord_tree.specs.{Slots.Slots, Slots.Holds, Slots.times, Slots.times_in, Slots.IsOnce, declared.tree_links.TreeLinks.TreeLinks}
 use Rattle.ord_tree.specs.{Shape.Shape, Shape.missing, Shape.node, declared.tree_links.Side.Side, TreeLinks.child_at, Promote.IsBuilt}

@@ -1,7 +1,7 @@
 -- How the item of a node is mapped. No public clause cites this file.
 use Rattle.std.specs.Prelude.{◌≡◌}
-use Rattle.arena_base.specs.declared.invalidation.InvalidationOption.{InvalidationOption}
-use Rattle.arena_base.specs.Invalidation.{allowed_value, is_overflow}
+use Rattle.chain_base.specs.InvalidationOption.{InvalidationOption}
+use Rattle.chain_base.specs.Invalidation.{allowed_value, is_overflow}
 use Rattle.ord_tree.specs.declared.node.SimpleOrdArenaNode.{SimpleOrdArenaNode as Node}
 
 -- the call made the new item from the item of the removed node

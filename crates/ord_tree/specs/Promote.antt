@@ -1,4 +1,4 @@
--- The states of the repair after an insertion.
+-- The states of the repair after an insertion. No public clause cites this file.
 use Rattle.std.specs.Prelude.{◌≡◌, ℕ, ◌+◌, ◌*◌, ◌^◌, ◌<◌, Option, None, Some, List, length}
 use Rattle.ord_tree.specs.Slots.{Slots, Holds, Way, plug, above, HoldsWay, IsOnce, back_at, rank_at, MovesBacks}
 use Rattle.ord_tree.specs.{Balance.IsBalanced, Balance.IsBalancedWay, Balance.IsUneven, Shape.Shape, Shape.fork, Shape.rank_of, Shape.walk}

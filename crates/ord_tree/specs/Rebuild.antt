@@ -1,4 +1,4 @@
--- The states of a rebuild: what the stack of open runs says about the shape that is being built.
+-- The states of a rebuild: what the stack of open runs says about the shape that is being built. No public clause cites this file.
 use Rattle.std.specs.Prelude.{◌≡◌, ℕ, ◌+◌, ◌^◌, ◌<◌, ◌≤◌, ◌⊎◌, Option, None, Some, List, [], ◌∷◌, ◌++◌, length, IsSome}
 use Rattle.ord_tree.specs.{declared.tree_links.Side.TheVariants.Lesser, declared.tree_links.Side.TheVariants.Greater, Numbers.HasDigits}
 use Rattle.ord_tree.specs.{Slots.Slots, Slots.Holds, Slots.Way, Slots.top, Slots.up, Slots.plug, Slots.times_in, Leaf.list_head}

@@ -1,4 +1,4 @@
--- The state before a rotation and the state after it.
+-- The state before a rotation and the state after it. No public clause cites this file.
 use Rattle.std.specs.Prelude.{◌≡◌, ℕ, ◌⊎◌, Option, Some}
 use Rattle.ord_tree.specs.Slots.{Slots, Holds, Way, above, HoldsWay, back_at, IsApart}
 use Rattle.ord_tree.specs.{Shape.Shape, Shape.fork, Shape.root_of, declared.tree_links.Side.Side}

@@ -1,4 +1,4 @@
--- A code for shapes, by which a proof distinguishes them: the nodes in postorder.
+-- A code for shapes, by which a proof distinguishes them: the nodes in postorder. No public clause cites this file.
 use Rattle.std.specs.Prelude.{◌≡◌, ℕ, Option, None, Some, List, [], ◌∷◌, refl}
 use Rattle.std.specs.Coded.{Coded, code_by, coded×, coded_ℕ, coded_list, coded_option}
 use Rattle.std.proofs.Common.{ap, ◌∙◌}

@@ -1,4 +1,4 @@
--- The tree links of a node: parent, sides and rank.
+-- The tree links of a node: parent, sides and rank. No public clause cites this file.
 use Rattle.std.specs.Prelude.{ℕ, Option, option_map}
 use Rattle.ord_tree.specs.declared.tree_links.Side.TheVariants.{Lesser, Greater}
 use Rattle.ord_tree.specs.{declared.tree_links.TreeLinks.TreeLinks, declared.tree_links.Side.Side}

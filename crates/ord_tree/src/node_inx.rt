@@ -1,7 +1,7 @@
 //! `NodeInx`: the index of a node.
 
 ghost use Rattle.std.specs.Prelude.{◌≡◌, ◌≢◌, option_map};
-ghost use Rattle.arena_base.specs.Pointer.{named_of};
+ghost use Rattle.chain_base.specs.Pointer.{named_of};
 ghost use Rattle.chain_base.specs.Chain.{IsOccupied};
 
 use arena_base::{BasePtr, BasePtrInx, OptInx};

@@ -2,8 +2,8 @@
 
 ghost use Rattle.std.specs.Prelude.{◌≡◌, ◌==◌, None, is_some, length};
 ghost use Rattle.std.specs.Option.{option_map};
-ghost use Rattle.arena_base.specs.Generation.{IsLawfulGeneration, overflows_after};
-ghost use Rattle.arena_base.specs.Invalidation.{is_overflow};
+ghost use Rattle.chain_base.specs.Generation.{IsLawfulGeneration, overflows_after};
+ghost use Rattle.chain_base.specs.Invalidation.{is_overflow};
 ghost use Rattle.chain_base.specs.Chain.{raised, entry_at, IsSound};
 ghost use Rattle.ord_tree.specs.Shape.{root_of};
 ghost use Rattle.ord_tree.specs.Tree.{IsChainOf, IsSoundTree};

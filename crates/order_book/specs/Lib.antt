@@ -1,5 +1,6 @@
--- The definitions that the contracts cite.
+-- What public clauses cite.
 pub mod Book
 pub mod Names
 pub mod Words
+-- How a book is made of two queues. No public clause cites these files.
 pub mod Layout

@@ -3,7 +3,7 @@
 ghost use Rattle.std.specs.Prelude.{◌≡◌, ◌≢◌, ◌↔◌, ◌+◌, ◌-◌, ◌<◌, ◌++◌, ◌⊎◌, ℕ, true, false, Ok, Err, Some, None, length, vec_capacity};
 ghost use Rattle.std.specs.Prelude.{IfOk, OnOk, OnErr, OnSome, IfSome, IfNone};
 ghost use Rattle.std.specs.Option.{option_map};
-ghost use Rattle.arena_base.specs.Arena.{capacity_for};
+ghost use Rattle.order_queue.specs.PlainArena.{capacity_for};
 ghost use Rattle.order_queue.specs.Queue.{most_orders, first_of, first_levels, resting, traded, within, reduced_order, total, volume, HasRoomFor};
 ghost use Rattle.order_queue.specs.declared.side.Side.TheVariants.{Buy, Sell};
 ghost use Rattle.order_book.specs.Book.{opposite, queue, empty_queue, named, limit_of, can_rest, only_rests, is_whole, without, with_less, replacement};

@@ -2,8 +2,8 @@
 use Rattle.std.proofs.Common.{◌≡◌, ℕ, ◌<◌, ◌≤◌, ◌==◌, [], ◌∷◌, map, Option, Some, None, IsSome, refl, sym, ap, subst, ◌∙◌, arith, inl, inr, true, false, if◌then◌else◌}
 use Rattle.std.proofs.{lemmas.Bool.Decides.eqb_tells, lemmas.Grind.common_steps, lemmas.List.length-map}
 use Rattle.std.specs.{List.AllByRecursion, Option.option_map, Ordering.nat_cmp}
-use Rattle.chain_base.specs.Chain.{Entry, IsDistinct as AreDistinct, entry_at, item_of, first_pointer, without as without_index}
-use Rattle.chain_base.proofs.CallerLemmas.{entry_at-absent}
+use Rattle.sorted_arena.specs.Chain.{Entry, IsDistinct as AreDistinct, entry_at, item_of, first_pointer, without as without_index}
+use Rattle.sorted_arena.proofs.ChainLemmas.{entry_at-absent}
 use Rattle.sorted_arena.specs.Sorted.{Sorted, IsSound as IsSoundArena, Updates as UpdatesArena, without as without_entry}
 use Rattle.order_queue.specs.Queue.{most_orders, Updates, with_left, first_of, order_of, without, IsDistinct, IsSound}
 use Rattle.order_queue.specs.Layout.{order_in, queue_of, IsLawful, AreLawful}

@@ -2,12 +2,12 @@
 use Rattle.std.proofs.Common.{◌≡◌, ◌≢◌, ℕ, ◌∷◌, ◌++◌, map, Some, refl, sym, ap, subst, ◌∙◌, ◌<◌, ◌≤◌, nat_lt, if◌then◌else◌}
 use Rattle.std.proofs.{lemmas.List.map-append, lemmas.List.length-map, lemmas.List.Elements.recursion_from_All}
 use Rattle.std.specs.{declared.cmp.Ordering.TheVariants.Less, List.AllByRecursion, Option.option_map, Ordering.nat_cmp}
-use Rattle.chain_base.specs.Chain.{Entry, IsDistinct as AreDistinct}
+use Rattle.sorted_arena.specs.Chain.{Entry, IsDistinct as AreDistinct}
 use Rattle.sorted_arena.specs.Sorted.{Sorted, Inserts, Updates as UpdatesArena}
 use Rattle.order_queue.specs.Layout.{most_price, ranked, order_in, queue_of, IsLawful, AreLawful}
 use Rattle.order_queue.specs.Queue.{Rests, Updates, IsNoWorse, IsWorse, most_orders, resting}
 use Rattle.order_queue.specs.{declared.order.Lot.Lot, declared.side.Side.Side}
-use Rattle.arena_base.specs.Arena.{doubled_capacity}
+use Rattle.sorted_arena.specs.PlainArena.{doubled_capacity}
 use Rattle.order_queue.proofs.Ranks.{no_worse-ahead, worse-ranked, ranked-twice, ranked-lawful, recursion-map, recursion-both, recursion-back, recursion-between}
 use Rattle.order_queue.proofs.Naming.{order_under, order_of-found, updates-found}
 

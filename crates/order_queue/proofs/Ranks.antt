@@ -2,7 +2,7 @@
 use Rattle.std.proofs.Common.{◌≡◌, ◌≢◌, ℕ, ◌<◌, ◌≤◌, List, [], ◌∷◌, ◌++◌, map, refl, arith}
 use Rattle.std.proofs.lemmas.{Bool.Decides.nat_tests, List.Elements.recursion_from_All}
 use Rattle.std.specs.{declared.cmp.Ordering.TheVariants.Less, declared.cmp.Ordering.TheVariants.Greater, List.AllByRecursion, Ordering.nat_cmp}
-use Rattle.chain_base.specs.Chain.{Entry}
+use Rattle.sorted_arena.specs.Chain.{Entry}
 use Rattle.sorted_arena.specs.Sorted.{AreSorted}
 use Rattle.order_queue.specs.{declared.side.Side.TheVariants.Buy, declared.side.Side.TheVariants.Sell, declared.side.Side.Side}
 use Rattle.order_queue.specs.{Layout.most_price, Layout.ranked, Layout.order_in, declared.order.Lot.Lot}

@@ -2,7 +2,7 @@
 use Rattle.std.proofs.Common.{◌≡◌, ◌≢◌, ℕ, suc, zero, ◌<◌, ◌≤◌, ◌==◌, List, [], ◌∷◌, map, Some, None, refl, sym, ap, ◌∙◌, inl, inr, true, false, arith, if◌then◌else◌}
 use Rattle.std.proofs.lemmas.Bool.Decides.{eqb_tells}
 use Rattle.std.specs.{Option.option_map}
-use Rattle.chain_base.specs.Chain.{IsDistinct as AreDistinct, item_of, with_item_among}
+use Rattle.sorted_arena.specs.Chain.{IsDistinct as AreDistinct, item_of, with_item_among}
 use Rattle.sorted_arena.specs.Sorted.{Sorted, pair_of, with_value}
 use Rattle.order_queue.specs.{Layout.most_price, Layout.order_in, Layout.queue_of, Layout.AreLawful, Queue.Queue, Queue.order_of, Queue.with_quantity, Queue.with_rest, Queue.reduced, Queue.Updates}
 use Rattle.order_queue.specs.{declared.order.Lot.Lot, declared.order.Order.Order, declared.side.Side.Side}

@@ -1,7 +1,7 @@
 -- How one side of a book lies in its sorted arena (layout).
 use Rattle.std.specs.Prelude.{ℕ, ◌-◌, ◌≤◌, ◌<◌, ◌≡◌, List, [], ◌∷◌, map, Option, Some, None}
 use Rattle.std.specs.List.{AllByRecursion}
-use Rattle.chain_base.specs.Chain.{Entry}
+use Rattle.sorted_arena.specs.Chain.{Entry}
 use Rattle.sorted_arena.specs.Sorted.{Sorted}
 use Rattle.order_queue.specs.{declared.side.Side.TheVariants.Buy, declared.side.Side.TheVariants.Sell, declared.order.Order.Order, Queue.Queue, Queue.AreSummable}
 use Rattle.order_queue.specs.{declared.order.Lot.Lot, declared.side.Side.Side}

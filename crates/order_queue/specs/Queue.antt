@@ -1,7 +1,7 @@
 -- What one side of an order book is: a list of resting orders in the order in which they trade, by price, and at equal prices by age.
 use Rattle.std.specs.Prelude.{◌≡◌, ◌≢◌, ℕ, zero, suc, ◌+◌, ◌-◌, ◌≤◌, ◌<◌, min, ◌==◌, ◌&&◌, leb, nat_lt, if◌then◌else◌, Bool, List, [], ◌∷◌, ◌++◌, length, take, Option, Some, None}
 use Rattle.std.specs.List.{AllByRecursion}
-use Rattle.arena_base.specs.{Arena.doubled_capacity, Generation.next_generation}
+use Rattle.sorted_arena.specs.{PlainArena.doubled_capacity, Generation.next_generation}
 use Rattle.order_queue.specs.{declared.side.Side.TheVariants.Buy, declared.side.Side.TheVariants.Sell, declared.order.Order.Order}
 use Rattle.order_queue.specs.{declared.order.Trade.Trade, declared.level.Level.Level, declared.side.Side.Side}
 

@@ -3,7 +3,7 @@
 ghost use Rattle.std.specs.Prelude.{◌≡◌, ◌↔◌, ◌+◌, ◌-◌, ◌≤◌, ◌<◌, List, [], ◌∷◌, ◌++◌, Err, Some, None, length, vec_capacity};
 ghost use Rattle.std.specs.Prelude.{IfOk, OnOk, OnErr, OnSome, IfSome, IfNone};
 ghost use Rattle.std.specs.Option.{option_map};
-ghost use Rattle.arena_base.specs.Arena.{capacity_for};
+ghost use Rattle.sorted_arena.specs.PlainArena.{capacity_for};
 ghost use Rattle.order_queue.specs.Queue.{most_orders, first_of, order_of, resting, within, traded, trades_of_first, taken, with_left, with_rest, reduced, reduced_order};
 ghost use Rattle.order_queue.specs.Layout.{queue_of, AreLawful};
 ghost use Rattle.order_queue.specs.Queue.{HasRoomFor, IsSound, Rests, Updates};

@@ -1,8 +1,8 @@
 -- For callers: what pointers find after a write through a reference that went out.
 use Rattle.std.proofs.Common.{◌≡◌, ◌≢◌, ℕ, [], Option, Some, None, IsSome, refl}
 use Rattle.std.specs.Option.{option_map}
-use Rattle.chain_base.proofs.CallerLemmas.{length-with_item_among}
-use Rattle.ord_tree.specs.{Tree.Tree, Shape.missing}
+use Rattle.triple_ord.proofs.ChainLemmas.{length-with_item_among}
+use Rattle.triple_ord.specs.{Tree.Tree, Shape.missing}
 use Rattle.triple_ord.specs.Arena.{item_of}
 use Rattle.triple_ord.proofs.CallerLemmas.{found-written as found-there, others-written as others-there}
 use Rattle.sorted_arena.specs.Sorted.{Sorted, count, pair_of, with_value}

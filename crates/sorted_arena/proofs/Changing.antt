@@ -6,11 +6,11 @@ use Rattle.std.specs.Prelude.{IsErr, ◌↔◌}
 use Rattle.std.proofs.Common.{Bool, true, false, nat_lt, if◌then◌else◌}
 use Rattle.std.specs.{Ordering.ordering_reverse, Option.option_map}
 use Rattle.std.specs.declared.cmp.Ordering.{Ordering, TheVariants.Less, TheVariants.Equal, TheVariants.Greater}
-use Rattle.arena_base.specs.Arena.{limit_of, doubled_capacity}
-use Rattle.chain_base.specs.Chain.{Entry, Chain, times, last_pointer, IsSound as IsSoundChain, chain_limit, removed, with_capacity, greatest_index, new_chain}
-use Rattle.chain_base.proofs.CallerLemmas.{after-insertion, times-append}
-use Rattle.ord_tree.specs.Tree.{Tree}
-use Rattle.ord_tree.specs.Shape.{missing}
+use Rattle.triple_ord.specs.PlainArena.{limit_of, doubled_capacity}
+use Rattle.triple_ord.specs.Chain.{Entry, Chain, times, last_pointer, IsSound as IsSoundChain, chain_limit, removed, with_capacity, greatest_index, new_chain}
+use Rattle.triple_ord.proofs.ChainLemmas.{after-insertion, times-append}
+use Rattle.triple_ord.specs.Tree.{Tree}
+use Rattle.triple_ord.specs.Shape.{missing}
 use Rattle.triple_ord.specs.Clone.{cloned}
 use Rattle.triple_ord.specs.Arena.{item_of as item_of_arena, count as count_arena, with_room_for, Updates as UpdatesArena}
 use Rattle.triple_ord.specs.Insertion.{reallocating, with_room_by, InsertsNew}

@@ -4,12 +4,12 @@ use Rattle.std.proofs.{lemmas.Grind.common_steps, lemmas.List.Elements.All-from_
 use Rattle.std.proofs.lemmas.Bool.Decides.{eqb_tells}
 use Rattle.std.specs.{List.AllByRecursion, List.All, Option.option_map, Ordering.is_eq, Ordering.is_le, Ordering.is_lt, Ordering.is_gt, Ordering.ordering_reverse, Ordering.ordering_then, Cmp.IsTotalOrder}
 use Rattle.std.specs.declared.cmp.Ordering.{Ordering, TheVariants.Less, TheVariants.Equal, TheVariants.Greater}
-use Rattle.chain_base.specs.Chain.{Entry, times, entry_at, item_of, IsDistinct, link_at, first_pointer, last_pointer, without, with_item_among, pointed}
-use Rattle.chain_base.specs.Link.{Link}
+use Rattle.triple_ord.specs.Chain.{Entry, times, entry_at, item_of, IsDistinct, link_at, first_pointer, last_pointer, without, with_item_among, pointed}
+use Rattle.triple_ord.specs.Link.{Link}
 use Rattle.triple_ord.specs.{Gap.Gap, Gap.before, Gap.after, Gap.first_of, Gap.last_of, Search.order_to, Search.FindsKey, Search.FindsSimilar, Order.IsInOrder, PastEquals.order_past_equals}
 use Rattle.triple_ord.proofs.CallerLemmas.{IsInOrder-rest, IsInOrder-back, in_order-one, in_order-more, all_greater, all_less, recursion-map}
 use Rattle.triple_ord.proofs.CallerLemmas.{ends, stands, not_before, entry_at-here, link-read, no_last}
-use Rattle.chain_base.proofs.CallerLemmas.{entry_at-link}
+use Rattle.triple_ord.proofs.ChainLemmas.{entry_at-link}
 use Rattle.sorted_arena.specs.Sorted.{key_of, first_item, pointer_of, first_where, next_of, prev_from, prev_of, last_item, before_last, behind_first, first_item_until, entries_above, AreSorted}
 use Rattle.sorted_arena.specs.Layout.{item_key, pointer_among}
 

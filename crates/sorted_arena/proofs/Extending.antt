@@ -3,7 +3,7 @@ use Rattle.std.proofs.Common.{◌≡◌, ◌≢◌, ℕ, suc, slice_index_or, sl
 use Rattle.std.proofs.{lemmas.List.map-append, lemmas.List.length-map, lemmas.List.Elements.recursion_from_All}
 use Rattle.std.specs.{Option.option_map_or, List.AllByRecursion, List.AllAdjacentBelow, Ordering.is_gt, Ordering.ordering_reverse, Cmp.IsTotalOrder}
 use Rattle.std.specs.declared.cmp.Ordering.{Ordering, TheVariants.Less, TheVariants.Greater}
-use Rattle.chain_base.specs.Chain.{Entry}
+use Rattle.triple_ord.specs.Chain.{Entry}
 use Rattle.triple_ord.specs.Gap.{last_of}
 use Rattle.sorted_arena.specs.Sorted.{Sorted, key_of, item_of, last_item, Inserts, AreSorted, AreInOrder}
 use Rattle.sorted_arena.specs.Layout.{item_key}

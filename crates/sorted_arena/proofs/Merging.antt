@@ -3,7 +3,7 @@ use Rattle.std.proofs.Common.{◌≡◌, ◌≢◌, ℕ, true, false, map, List,
 use Rattle.std.proofs.{lemmas.List.map-append, lemmas.List.Elements.recursion_from_All, lemmas.List.Elements.All-from_recursion}
 use Rattle.std.specs.{List.AllByRecursion, Ordering.is_lt, Ordering.ordering_reverse, Cmp.IsTotalOrder}
 use Rattle.std.specs.declared.cmp.Ordering.{Ordering, TheVariants.Less, TheVariants.Equal, TheVariants.Greater}
-use Rattle.chain_base.specs.Chain.{Entry}
+use Rattle.triple_ord.specs.Chain.{Entry}
 use Rattle.sorted_arena.proofs.Cutting.{not_less}
 use Rattle.sorted_arena.specs.Merge.{with_item, merged}
 use Rattle.sorted_arena.specs.Sorted.{Sorted, key_of, item_of, pair_of, first_item, behind_first, AreSorted, Inserts, Keeps, Updates}

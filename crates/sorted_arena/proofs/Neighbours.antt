@@ -3,7 +3,7 @@ use Rattle.std.proofs.Common.{◌≡◌, ◌≢◌, ℕ, List, [], ◌∷◌, �
 use Rattle.std.proofs.lemmas.List.Elements.{recursion_from_All}
 use Rattle.std.specs.Option.{option_map}
 use Rattle.std.specs.declared.cmp.Ordering.{Ordering, TheVariants.Greater}
-use Rattle.chain_base.specs.Chain.{Entry, IsDistinct, item_of}
+use Rattle.triple_ord.specs.Chain.{Entry, IsDistinct, item_of}
 use Rattle.triple_ord.specs.Gap.{first_of, last_of}
 use Rattle.triple_ord.proofs.CallerLemmas.{ends}
 use Rattle.sorted_arena.specs.Sorted.{key_of, pointer_of, next_of, prev_of, AreSorted}

@@ -2,9 +2,9 @@
 use Rattle.std.proofs.Common.{◌≡◌, ◌≢◌, ℕ, zero, suc, ◌+◌, ◌-◌, ◌<◌, ◌≤◌, ◌==◌, Bool, true, false, if◌then◌else◌, List, [], ◌∷◌, ◌++◌, map, length, length-append, slice_get, take, drop, Option, Some, refl, sym, ap, subst, ◌∙◌, arith, is_some, inl, inr}
 use Rattle.std.proofs.{lemmas.Bool.cases_eq, lemmas.Bool.eq-eqb, lemmas.Bool.ne_eqb, lemmas.List.length-map}
 use Rattle.std.specs.{List.range_with_len, Option.option_map}
-use Rattle.chain_base.specs.Chain.{Entry, Chain, times, entry_at, without, with_item_among, greatest_index, vacant_among, vacant_indexes, with_capacity, last_pointer, inserted_at, next_index, grown_capacity, IsSound}
-use Rattle.chain_base.specs.{Compression.numbered, Compression.canonical, Insert.IsInsertion}
-use Rattle.ord_tree.specs.Append.{Appends}
+use Rattle.triple_ord.specs.Chain.{Entry, Chain, times, entry_at, without, with_item_among, greatest_index, vacant_among, vacant_indexes, with_capacity, last_pointer, inserted_at, next_index, grown_capacity, IsSound}
+use Rattle.triple_ord.specs.{ChainCompression.numbered, ChainCompression.canonical, Insert.IsInsertion}
+use Rattle.triple_ord.specs.TreeAppend.{Appends}
 use Rattle.triple_ord.specs.Insertion.{Growth, with_room_by, within, reallocating}
 use Rattle.sorted_arena.specs.{Layout.AreNumbered, Layout.IsCompact, Place.position_of, Stretch.first_index}
 

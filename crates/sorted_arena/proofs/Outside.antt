@@ -5,7 +5,7 @@ use Rattle.std.specs.{List.All, List.AllByRecursion, Ordering.is_le, Ordering.is
 use Rattle.std.specs.declared.cmp.Ordering.{Ordering, TheVariants.Less, TheVariants.Equal, TheVariants.Greater}
 use Rattle.std.specs.declared.ops.Bound.{Bound, TheVariants.Included, TheVariants.Excluded, TheVariants.Unbounded}
 use Rattle.std.specs.BTreeMap.Range.{is_from_start, is_past_end}
-use Rattle.chain_base.specs.Chain.{Entry}
+use Rattle.triple_ord.specs.Chain.{Entry}
 use Rattle.sorted_arena.specs.Range.{entries_between, entries_outside}
 use Rattle.sorted_arena.specs.Sorted.{key_of, entries_until, entries_above, AreSorted}
 use Rattle.triple_ord.proofs.CallerLemmas.{recursion-map}

@@ -9,7 +9,7 @@ use Rattle.std.specs.{List.AllByRecursion, Option.option_map, Option.option_and_
 use Rattle.std.specs.declared.cmp.Ordering.{Ordering, TheVariants.Greater}
 use Rattle.std.specs.declared.ops.Bound.{Bound, TheVariants.Included, TheVariants.Excluded, TheVariants.Unbounded}
 use Rattle.std.specs.BTreeMap.Range.{is_from_start, is_past_end}
-use Rattle.chain_base.specs.Chain.{Entry, IsDistinct, item_of}
+use Rattle.triple_ord.specs.Chain.{Entry, IsDistinct, item_of}
 use Rattle.triple_ord.specs.Gap.{first_of}
 use Rattle.triple_ord.proofs.CallerLemmas.{in_order-one, in_order-more, all_greater, all_less, recursion-map}
 use Rattle.sorted_arena.specs.Layout.{item_key}

@@ -2,7 +2,7 @@
 use Rattle.std.proofs.Common.{◌≡◌, ℕ, ◌+◌, ◌≤◌, ◌<◌, Bool, true, false, if◌then◌else◌, cond, length, append_assoc, List, [], ◌∷◌, ◌++◌, Option, Some, None, refl, sym, ap, subst, ◌∙◌, arith}
 use Rattle.std.proofs.lemmas.List.{append-nil}
 use Rattle.std.specs.{List.Retain.IsFiltered, Option.option_map}
-use Rattle.chain_base.specs.Chain.{Entry, IsDistinct, first_pointer}
+use Rattle.triple_ord.specs.Chain.{Entry, IsDistinct, first_pointer}
 use Rattle.triple_ord.specs.Gap.{first_of}
 use Rattle.sorted_arena.specs.{Stretch.stretch, Stretch.first_index}
 use Rattle.sorted_arena.specs.Sorted.{Sorted, count, pointer_of, with_left, with_rest}

@@ -2,8 +2,8 @@
 use Rattle.std.proofs.Common.{◌≡◌, ℕ, List, [], ◌∷◌, ◌++◌, append_assoc, Option, Some, None, refl, sym, ap, subst, ◌∙◌, arith}
 use Rattle.std.proofs.lemmas.Grind.{common_steps}
 use Rattle.std.specs.Option.{option_map}
-use Rattle.chain_base.specs.{Chain.Entry, Chain.times, Chain.IsDistinct, Chain.entry_at, Chain.from_index, Chain.link_at, Chain.first_pointer, Chain.last_pointer, Link.Link}
-use Rattle.chain_base.proofs.CallerLemmas.{times-append, entry_at-link}
+use Rattle.triple_ord.specs.{Chain.Entry, Chain.times, Chain.IsDistinct, Chain.entry_at, Chain.from_index, Chain.link_at, Chain.first_pointer, Chain.last_pointer, Link.Link}
+use Rattle.triple_ord.proofs.ChainLemmas.{times-append, entry_at-link}
 use Rattle.triple_ord.specs.Gap.{last_of}
 use Rattle.triple_ord.proofs.CallerLemmas.{last_of-append, ends, no_last, link-read, not_before, entry_at-here, from_index-here}
 use Rattle.sorted_arena.specs.Stretch.{before_index, stretch, first_index, IsStretch}

@@ -2,7 +2,7 @@
 use Rattle.std.proofs.Common.{◌≡◌, ℕ, Bool, true, false, ◌+◌, ◌<◌, ◌++◌, length, length-append, append_assoc, List, [], ◌∷◌, Option, Some, refl, sym, ap, subst, ◌∙◌, arith}
 use Rattle.std.proofs.lemmas.List.{append-nil}
 use Rattle.std.specs.Option.{option_map}
-use Rattle.chain_base.specs.Chain.{Entry, IsDistinct, without as without_index}
+use Rattle.triple_ord.specs.Chain.{Entry, IsDistinct, without as without_index}
 use Rattle.triple_ord.specs.Gap.{first_of}
 use Rattle.sorted_arena.specs.Sorted.{Sorted, count, pointer_of, pair_of, next_of, with_left, with_rest, without}
 use Rattle.sorted_arena.specs.Taking.{IsCutAt, TakesOut, AsksFor}

@@ -4,7 +4,7 @@ use Rattle.std.specs.Borrow.{Bor}
 use Rattle.std.specs.Iterator.{YieldsFirstBy, YieldsLastBy, Runs.EveryRun, Runs.ItemsMapTo, Runs.ItemsMapToReversed}
 use Rattle.std.specs.declared.{cmp.Ordering.Ordering, ops.Bound.Bound}
 use Rattle.std.specs.BTreeMap.Range.{range_contains}
-use Rattle.chain_base.specs.Chain.{Entry}
+use Rattle.triple_ord.specs.Chain.{Entry}
 use Rattle.sorted_arena.specs.Sorted.{key_of}
 
 -- the entries whose keys are between two bounds, in order

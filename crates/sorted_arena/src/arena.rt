@@ -1,9 +1,9 @@
 //! `SortedArena`: entries in the order of their keys.
 
 ghost use Rattle.std.specs.Prelude.{◌≡◌, ◌==◌, ◌↔◌, ◌+◌, ◌≤◌, ◌<◌, ℕ, true, [], map, slice_get, Err, OnOk, OnErr};
-ghost use Rattle.arena_base.specs.Arena.{capacity_for};
-ghost use Rattle.arena_base.specs.Generation.{first_generation, next_generation};
-ghost use Rattle.chain_base.specs.Chain.{greatest_index};
+ghost use Rattle.triple_ord.specs.PlainArena.{capacity_for};
+ghost use Rattle.triple_ord.specs.Generation.{first_generation, next_generation};
+ghost use Rattle.triple_ord.specs.Chain.{greatest_index};
 ghost use Rattle.sorted_arena.specs.Layout.{sorted_of, IsSortedArena, AreNumbered};
 ghost use Rattle.sorted_arena.specs.Sorted.{IsSound, count, pair_of, item_of, with_left};
 

@@ -3,7 +3,7 @@
 ghost use Rattle.std.specs.Prelude.{◌≡◌, ◌↔◌, ◌++◌, ℕ, true, List, Some, None, Err, IfOk, IfErr, OnErr, length};
 ghost use Rattle.std.specs.Option.{option_map};
 ghost use Rattle.std.specs.Ordering.{is_le, is_lt};
-ghost use Rattle.chain_base.specs.Chain.{Entry, last_pointer, chain_limit, IsSound};
+ghost use Rattle.triple_ord.specs.Chain.{Entry, last_pointer, chain_limit, IsSound};
 ghost use Rattle.triple_ord.specs.Gap.{last_of};
 ghost use Rattle.triple_ord.specs.Insertion.{reallocating, InsertsNew};
 ghost use Rattle.triple_ord.specs.{PastEquals.order_past_equals, Search.FindsSimilar};

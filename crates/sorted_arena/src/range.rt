@@ -34,7 +34,7 @@ pub struct Range<'a, K: Ord, V, P: BasePtr = P0, A: Allocator = Global> {
 impl<'a, K: Ord, V, P: BasePtr, A: Allocator> Model for Range<'a, K, V, P, A> {
     ghost use Rattle.std.specs.Prelude.{List};
     ghost use Rattle.std.specs.Option.{option_map};
-    ghost use Rattle.chain_base.specs.Chain.{Entry};
+    ghost use Rattle.triple_ord.specs.Chain.{Entry};
 
     ghost Value = { List (Entry (K × V)) };
 

@@ -1,6 +1,8 @@
 //! Every order of up to five keys, equal ones among them, and each change of such an arena, beside a plain vector.
-use crate::beside::{ORDERS, are_alike, are_found, start_of};
-use crate::changes::{Change, is_made};
+mod changes;
+
+use crate::support::{ORDERS, are_alike, are_found, start_of};
+use changes::{Change, is_made};
 use std::alloc::Global;
 
 /// The changes that take neither an entry nor a key, those that take a key, those that take an entry, and those that take both.
@@ -78,7 +80,7 @@ fn wrong_change(alloc: Global, start: Start) -> Option<Step> {
 }
 
 #[test]
-fn entries_stand_in_order_and_are_found(rt: HostRuntime) {
+fn entries_are_in_order_and_found_by_key(rt: HostRuntime) {
     for (n, orders) in &ORDERS {
         for number in 0..*orders {
             assert!(rt; is_right(rt.alloc(), (*n, number, false)));
@@ -88,7 +90,7 @@ fn entries_stand_in_order_and_are_found(rt: HostRuntime) {
 }
 
 #[test]
-fn each_change_does_what_a_vector_does(rt: HostRuntime) {
+fn each_change_acts_as_on_a_vector(rt: HostRuntime) {
     for (n, orders) in &ORDERS {
         for number in 0..*orders {
             assert_eq!(rt; wrong_change(rt.alloc(), (*n, number, false)), None);
@@ -97,7 +99,7 @@ fn each_change_does_what_a_vector_does(rt: HostRuntime) {
 }
 
 #[test]
-fn each_change_of_a_compact_arena_does_what_a_vector_does(rt: HostRuntime) {
+fn each_change_of_a_compact_arena_acts_as_on_a_vector(rt: HostRuntime) {
     for (n, orders) in &ORDERS {
         for number in 0..*orders {
             assert_eq!(rt; wrong_change(rt.alloc(), (*n, number, true)), None);

@@ -3,24 +3,28 @@
 #![tactic(auto)]
 
 #[cfg(test)]
-mod beside;
+mod append;
 #[cfg(test)]
-mod changes;
+mod capacity;
 #[cfg(test)]
-mod comparisons;
+mod clone;
+#[cfg(test)]
+mod compare;
+#[cfg(test)]
+mod debug;
+#[cfg(test)]
+mod drain;
 #[cfg(test)]
 mod every_order;
 #[cfg(test)]
-mod merges;
+mod extend;
 #[cfg(test)]
-mod pairs;
-#[cfg(test)]
-mod parts;
-#[cfg(test)]
-mod ranges;
+mod range;
 #[cfg(test)]
 mod refusals;
 #[cfg(test)]
-mod retained;
+mod retain;
 #[cfg(test)]
-mod room;
+mod split;
+#[cfg(test)]
+mod support;

@@ -1,7 +1,7 @@
 //! Arenas on a heap of which little is left: what is refused changes nothing, and the same call succeeds once there is memory.
 mod many;
 
-use crate::beside::{Entry, Numbers, are_alike, are_found, put};
+use crate::support::{Entry, Numbers, are_alike, are_found, put};
 use linked_list_allocator::LocalHeap;
 use sorted_arena::{P0, ReallocationError, SortedError, UniqueInsertionError};
 use std::alloc::Global;
@@ -182,7 +182,7 @@ fn refusals(alloc: Global, call: Call) -> Option<[bool; 10]> {
 }
 
 #[test]
-fn what_is_refused_changes_nothing_and_succeeds_with_memory(rt: HostRuntime) {
+fn a_refused_call_changes_nothing_and_succeeds_with_memory(rt: HostRuntime) {
     for call in &CALLS {
         let met = refusals(rt.alloc(), *call).expect(&rt, "the right answers");
         // each growth was refused in turn: from nothing, from 4, from 8

@@ -2,10 +2,10 @@
 #![tactic(auto)]
 
 #[cfg(test)]
-mod crashes;
+mod log;
 #[cfg(test)]
-mod logs;
+mod rewrite;
 #[cfg(test)]
-mod rewriting;
+mod store;
 #[cfg(test)]
-mod torn;
+mod support;

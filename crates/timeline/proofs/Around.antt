@@ -2,9 +2,9 @@
 use Rattle.std.proofs.Common.{◌≡◌, ◌≢◌, ℕ, ◌+◌, ◌<◌, ◌≤◌, List, [], ◌∷◌, ◌++◌, map, Option, Some, None, refl, sym, ap, subst, ◌∙◌, arith, append_assoc}
 use Rattle.std.proofs.lemmas.List.{map-append}
 use Rattle.std.specs.{List.AllByRecursion, Option.option_map, Option.option_and_then}
-use Rattle.chain_base.specs.Chain.{Entry, IsDistinct, item_of}
-use Rattle.triple_ord.specs.Gap.{first_of, last_of}
-use Rattle.triple_ord.proofs.CallerLemmas.{ends}
+use Rattle.sorted_arena.specs.Chain.{Entry, IsDistinct, item_of}
+use Rattle.sorted_arena.specs.Gap.{first_of, last_of}
+use Rattle.sorted_arena.proofs.OrdLemmas.{ends}
 use Rattle.timeline.specs.Timeline.{Change, value_at, IsRising, IsJoinedAfter, AreChanges, IsNextChange, IsWholeSpan}
 use Rattle.timeline.specs.Layout.{change, last_value, valued, IsAround}
 use Rattle.timeline.proofs.Cutting.{AreUntil, AreAfter, all-append, all-weaker, all-back, rising-front, rising-back, joined-back, last-append}

@@ -3,9 +3,9 @@ use Rattle.std.proofs.Common.{◌≡◌, ◌≢◌, ℕ, ◌<◌, ◌≤◌, Lis
 use Rattle.std.proofs.{lemmas.Grind.common_steps, lemmas.Bool.Decides.leb_tells, lemmas.Bool.Decides.nat_tests, lemmas.List.append-nil, lemmas.List.Elements.recursion_from_All}
 use Rattle.std.specs.{List.AllByRecursion, Option.option_map, Option.option_and_then, Ordering.nat_cmp, Ordering.is_lt}
 use Rattle.std.specs.declared.cmp.Ordering.TheVariants.{Greater}
-use Rattle.chain_base.specs.Chain.{Entry, times, IsDistinct, item_of, without, last_pointer}
-use Rattle.triple_ord.specs.Gap.{first_of, last_of}
-use Rattle.triple_ord.proofs.CallerLemmas.{ends, not_before}
+use Rattle.sorted_arena.specs.Chain.{Entry, times, IsDistinct, item_of, without, last_pointer}
+use Rattle.sorted_arena.specs.Gap.{first_of, last_of}
+use Rattle.sorted_arena.proofs.OrdLemmas.{ends, not_before}
 use Rattle.sorted_arena.specs.Sorted.{pointer_of, key_of, first_where, next_of, prev_from, prev_of, AreSorted}
 use Rattle.sorted_arena.proofs.CallerLemmas.{next-here, found-here}
 use Rattle.timeline.specs.Timeline.{Change}

@@ -3,8 +3,8 @@ use Rattle.std.proofs.Common.{◌≡◌, ◌≢◌, ℕ, List, [], ◌∷◌, �
 use Rattle.std.proofs.{lemmas.Bool.Decides.leb_tells, lemmas.Bool.Decides.nat_tests, lemmas.List.map-append, lemmas.List.Elements.recursion_from_All}
 use Rattle.std.specs.{List.AllByRecursion, Option.option_map, Ordering.nat_cmp}
 use Rattle.std.specs.declared.cmp.Ordering.TheVariants.{Greater}
-use Rattle.chain_base.specs.Chain.{IsDistinct, item_of, without}
-use Rattle.triple_ord.specs.Gap.{first_of, last_of}
+use Rattle.sorted_arena.specs.Chain.{IsDistinct, item_of, without}
+use Rattle.sorted_arena.specs.Gap.{first_of, last_of}
 use Rattle.sorted_arena.specs.Sorted.{key_of, next_of, prev_of, AreSorted}
 use Rattle.timeline.specs.Timeline.{Change}
 use Rattle.timeline.specs.Layout.{change, last_taken, or_else, IsAt, IsReached, IsBeyond, TakesNext, TakesBehind, TakesSame, TakesOver}

@@ -2,9 +2,9 @@
 use Rattle.std.proofs.Common.{◌≡◌, ◌≢◌, ℕ, ◌<◌, ◌≤◌, List, [], ◌∷◌, ◌++◌, map, Option, Some, None, IsSome, refl, sym, ap, subst, ◌∙◌, arith, inl, inr, append_assoc}
 use Rattle.std.proofs.{lemmas.Grind.common_steps, lemmas.Bool.le-leb, lemmas.Bool.lt-leb, lemmas.Bool.Decides.leb_tells}
 use Rattle.std.specs.Option.{option_map, option_and_then}
-use Rattle.chain_base.specs.Chain.{times, IsDistinct, item_of, from_index}
-use Rattle.triple_ord.specs.Gap.{first_of}
-use Rattle.triple_ord.proofs.CallerLemmas.{not_before}
+use Rattle.sorted_arena.specs.Chain.{times, IsDistinct, item_of, from_index}
+use Rattle.sorted_arena.specs.Gap.{first_of}
+use Rattle.sorted_arena.proofs.OrdLemmas.{not_before}
 use Rattle.sorted_arena.specs.Sorted.{pointer_of, next_of, item_of as entry_item}
 use Rattle.sorted_arena.proofs.CallerLemmas.{next-here, found-here}
 use Rattle.timeline.specs.Timeline.{Change, value_after, value_at, IsRising, IsJoinedAfter, AreChanges, HasNone, AreSpans, HasValues, AreGaps}

@@ -1,8 +1,8 @@
 -- How a timeline lies in its arena, and what its private calls leave (layout).
 use Rattle.std.specs.Prelude.{◌≡◌, ◌≢◌, ℕ, ◌≤◌, ◌<◌, leb, if◌then◌else◌, List, [], ◌∷◌, ◌++◌, map, Option, Some, None, ◌⊎◌, IfSome}
 use Rattle.std.specs.{List.AllByRecursion, Option.option_map, Borrow.Bor}
-use Rattle.chain_base.specs.Chain.{Entry, from_index}
-use Rattle.triple_ord.specs.Gap.{first_of, last_of}
+use Rattle.sorted_arena.specs.Chain.{Entry, from_index}
+use Rattle.sorted_arena.specs.Gap.{first_of, last_of}
 use Rattle.sorted_arena.specs.Sorted.{Sorted, pointer_of}
 use Rattle.timeline.specs.{Timeline.Change, Timeline.Timeline, Timeline.value_at, Timeline.IsRising, Timeline.IsSet, Timeline.IsSetFrom, Timeline.HoldsRefusable, Timeline.roomy_capacity, Timeline.capacity_set, declared.walk.Piece.Piece, declared.span.Span.Span}
 use Rattle.timeline.specs.declared.span.Gap.{Gap as FreeTime}

@@ -1,7 +1,7 @@
 -- What a timeline is: the value that holds at each time, told by the times at which it changes.
 use Rattle.std.specs.Prelude.{◌≡◌, ◌≢◌, ℕ, ◌+◌, ◌*◌, ◌<◌, ◌≤◌, ◌⊎◌, leb, nat_lt, if◌then◌else◌, List, [], ◌∷◌, length, Option, Some, None, IsSome, IfSome}
 use Rattle.std.specs.{List.AllByRecursion, Option.option_map, Borrow.Bor}
-use Rattle.arena_base.specs.Arena.{capacity_for}
+use Rattle.sorted_arena.specs.PlainArena.{capacity_for}
 use Rattle.timeline.specs.declared.span.{Span.Span, WholeSpan.WholeSpan, Gap.Gap}
 
 -- a change: from this time on the value is this one, or there is none

@@ -2,7 +2,7 @@
 
 ghost use Rattle.std.specs.Prelude.{◌≡◌, true, false, ◌<◌, ◌+◌, ◌*◌, ◌↔◌, ◌⊎◌, [], Some, None, Err, OnOk, OnErr, IfSome, IfNone, length};
 ghost use Rattle.std.specs.Option.{option_copied};
-ghost use Rattle.arena_base.specs.Arena.{capacity_for};
+ghost use Rattle.sorted_arena.specs.PlainArena.{capacity_for};
 ghost use Rattle.timeline.specs.Timeline.{most_changes, roomy_capacity, capacity_set, value_at, shown_whole, IsTimeline, HasRoomFor};
 ghost use Rattle.timeline.specs.Timeline.{IsSet, IsSetFrom, IsWholeSpan, IsNextChange, HoldsRefusable};
 ghost use Rattle.timeline.specs.Layout.{pieces_of, capacity_put, Sets, CannotEnd, IsEmptyTime};

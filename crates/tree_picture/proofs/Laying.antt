@@ -1,6 +1,6 @@
 -- The steps of a layout.
 use Rattle.std.proofs.Common.{◌≡◌, ℕ, ◌+◌, Option, Some, List, [], ◌∷◌, ◌++◌, Result, Ok, Err, OnOk, length, ap, ◌∙◌, arith, append_assoc, length-append}
-use Rattle.ord_tree.specs.Shape.{Shape, node, rank_of, size_of}
+use Rattle.triple_ord.specs.Shape.{Shape, node, rank_of, size_of}
 use Rattle.tree_picture.specs.declared.place.{Kind.Kind, Place.Place}
 use Rattle.tree_picture.specs.Layout.{laid, kind_of}
 use Rattle.tree_picture.proofs.LayoutLaws.{length-laid}

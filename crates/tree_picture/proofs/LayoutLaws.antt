@@ -2,8 +2,8 @@
 use Rattle.std.proofs.Common.{◌≡◌, ℕ, zero, suc, ◌+◌, ◌<◌, ◌≤◌, ◌⊎◌, Option, Some, None, List, [], ◌∷◌, ◌++◌, length, refl, sym, ap, ◌∙◌, arith, inl, inr, append_assoc, append-nil, length-append, max}
 use Rattle.std.specs.Prelude.{All, slice_get, IsSomeAnd, MatchOption, option_and_then}
 use Rattle.std.proofs.lemmas.List.Elements.{All-append, All-cons, All-nil, All-weaker}
-use Rattle.ord_tree.specs.{Parents.HasParentUnder, Ranks.HasRank}
-use Rattle.ord_tree.specs.Shape.{Shape, missing, node, rank_of, size_of, height, walk}
+use Rattle.triple_ord.specs.{Parents.HasParentUnder, Ranks.HasRank}
+use Rattle.triple_ord.specs.Shape.{Shape, missing, node, rank_of, size_of, height, walk}
 use Rattle.tree_picture.specs.declared.place.{Place.Place}
 use Rattle.tree_picture.specs.Layout.{laid, kind_of}
 use Rattle.tree_picture.specs.Laws.{layout, ColumnsLaw, ShowsNode, NodesLaw, IsBelowParent, LevelsLaw, SidesLaw, ApartLaw, IsInside, InsideLaw}

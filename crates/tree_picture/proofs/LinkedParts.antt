@@ -3,10 +3,10 @@ use Rattle.std.proofs.Common.{◌≡◌, ◌≢◌, ℕ, ◌+◌, ◌≤◌, Lis
 use Rattle.std.proofs.lemmas.Bool.Decides.{nat_tests}
 use Rattle.std.proofs.lemmas.Grind.{common_steps}
 use Rattle.std.proofs.lemmas.List.{length-map}
-use Rattle.chain_base.specs.Chain.{Entry, IsDistinct, times as entry_times, link_at, link_between}
-use Rattle.ord_tree.specs.{Parents.HasParent, Slots.times, Slots.times_in, Tree.Tree, Tree.IsSoundTree}
-use Rattle.ord_tree.specs.Shape.{Shape, missing, node, root_of, size_of, height}
-use Rattle.ord_tree.proofs.CallerLemmas.{times-indexes, times-walk, size_of-walk, height-le-size}
+use Rattle.triple_ord.specs.Chain.{Entry, IsDistinct, times as entry_times, link_at, link_between}
+use Rattle.triple_ord.specs.{Parents.HasParent, Slots.times, Slots.times_in, Tree.Tree, Tree.IsSoundTree}
+use Rattle.triple_ord.specs.Shape.{Shape, missing, node, root_of, size_of, height}
+use Rattle.triple_ord.proofs.TreeLemmas.{times-indexes, times-walk, size_of-walk, height-le-size}
 use Rattle.triple_ord.specs.Node.{IsNodeIn}
 use Rattle.tree_picture.specs.Below.{part_at, part_below}
 use Rattle.tree_picture.proofs.Parts.{IsOnceIn, node-found, none-found, root-occurs, root-alone, root-has-none}

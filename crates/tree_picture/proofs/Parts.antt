@@ -1,7 +1,7 @@
 -- The parts of a shape below its links.
 use Rattle.std.proofs.Common.{◌≡◌, ℕ, ◌≤◌, Option, Some, None, refl, sym, ap, ◌∙◌, arith, inl, inr}
 use Rattle.std.proofs.lemmas.Bool.Decides.{nat_tests}
-use Rattle.ord_tree.specs.{Parents.HasParentUnder, Shape.Shape, Shape.missing, Shape.node, Shape.root_of, Slots.here, Slots.times_in}
+use Rattle.triple_ord.specs.{Parents.HasParentUnder, Shape.Shape, Shape.missing, Shape.node, Shape.root_of, Slots.here, Slots.times_in}
 use Rattle.triple_ord.specs.Node.{IsPart}
 use Rattle.tree_picture.specs.Below.{part_at, part_below}
 

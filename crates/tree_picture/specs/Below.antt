@@ -1,6 +1,6 @@
 -- The parts of a shape below its links. No public clause cites this file.
 use Rattle.std.specs.Prelude.{ℕ, ◌==◌, nat_lt, if◌then◌else◌, Option, None, Some}
-use Rattle.ord_tree.specs.{Shape.Shape, Shape.missing, Shape.node, Slots.times_in}
+use Rattle.triple_ord.specs.{Shape.Shape, Shape.missing, Shape.node, Slots.times_in}
 
 -- the part of the shape whose root has this index; nothing, if no node has it
 abbrev pub part_at : Shape → ℕ → Shape

@@ -1,7 +1,7 @@
 -- Laws of every layout.
 use Rattle.std.specs.Prelude.{◌≡◌, ℕ, ◌+◌, ◌<◌, ◌≤◌, Option, Some, None, option_and_then, MatchOption, IsSomeAnd, List, All, slice_get}
-use Rattle.ord_tree.specs.{Parents.HasParent, Ranks.HasRank}
-use Rattle.ord_tree.specs.Shape.{Shape, walk, size_of, height}
+use Rattle.triple_ord.specs.{Parents.HasParent, Ranks.HasRank}
+use Rattle.triple_ord.specs.Shape.{Shape, walk, size_of, height}
 use Rattle.tree_picture.specs.declared.place.{Place.Place}
 use Rattle.tree_picture.specs.declared.place.TheConstants.{MARGIN, BOX_WIDTH, BOX_HEIGHT}
 use Rattle.tree_picture.specs.Layout.{laid, left_of, top_of, width_of, height_of}

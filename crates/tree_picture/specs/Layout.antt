@@ -1,7 +1,7 @@
 -- Where the nodes of a tree stand in its picture.
 use Rattle.std.specs.Prelude.{ℕ, ◌+◌, ◌*◌, ◌==◌, ◌&&◌, if◌then◌else◌, min, max, Option, Some, List, [], ◌∷◌, ◌++◌, length}
 use Rattle.std.specs.Str.{chars}
-use Rattle.ord_tree.specs.Shape.{Shape, missing, node, rank_of, size_of}
+use Rattle.triple_ord.specs.Shape.{Shape, missing, node, rank_of, size_of}
 use Rattle.tree_picture.specs.declared.place.{Kind.Kind, Kind.TheVariants.Full, Kind.TheVariants.Uneven, Kind.TheVariants.Slack, Place.Place}
 use Rattle.tree_picture.specs.declared.sheet.TheConstants.{CAPTION_CHARS, CHARACTER_WIDTH}
 use Rattle.tree_picture.specs.declared.place.TheConstants.{COLUMN_WIDTH, LEVEL_HEIGHT, MARGIN}

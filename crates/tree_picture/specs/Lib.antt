@@ -1,5 +1,6 @@
--- What contracts speak of.
-pub mod Below
+-- What public clauses cite.
 pub mod Layout
-pub mod Laws
 pub mod Text
+pub mod Laws
+-- The parts of a shape. No public clause cites these files.
+pub mod Below

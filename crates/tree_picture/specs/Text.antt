@@ -1,7 +1,7 @@
 -- The texts of a picture: keys cut to what fits, and characters as XML has them.
 use Rattle.std.specs.Prelude.{◌≡◌, ⊤, Option, Some, None, ℕ, Bool, not, ◌-◌, ◌==◌, ◌||◌, ◌&&◌, nat_lt, nat_le, if◌then◌else◌, List, [], ◌∷◌, ◌++◌, length, codes, encode_utf8, take, flat_map}
 use Rattle.std.specs.Str.{chars}
-use Rattle.chain_base.specs.Chain.{Entry}
+use Rattle.triple_ord.specs.Chain.{Entry}
 use Rattle.tree_picture.specs.declared.picture.TheConstants.{KEY_CHARS}
 
 -- the bytes of `…`

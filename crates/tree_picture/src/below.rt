@@ -1,6 +1,6 @@
 //! The tree below a link of the arena.
 ghost use Rattle.std.specs.Prelude.{◌≡◌, ◌≢◌, ◌≤◌, true, false, Some, MatchOption, option_map};
-ghost use Rattle.ord_tree.specs.Shape.{missing, node, rank_of, size_of, height, root_of};
+ghost use Rattle.triple_ord.specs.Shape.{missing, node, rank_of, size_of, height, root_of};
 ghost use Rattle.triple_ord.specs.Arena.{count};
 ghost use Rattle.tree_picture.specs.Below.{part_at, part_below};
 ghost use Rattle.tree_picture.specs.declared.picture.TheConstants.{MOST_ENTRIES};

@@ -1,6 +1,6 @@
 //! The layout of an arena's tree.
 ghost use Rattle.std.specs.Prelude.{◌≡◌, ◌<◌, ◌≤◌, ◌+◌, ◌++◌, ◌↔◌, None, IfOk, OnOk, IsErrOf, option_map, map, length, string_bytes};
-ghost use Rattle.ord_tree.specs.Shape.{size_of, height};
+ghost use Rattle.triple_ord.specs.Shape.{size_of, height};
 ghost use Rattle.triple_ord.specs.Arena.{count, pointers};
 ghost use Rattle.tree_picture.specs.Below.{part_below};
 ghost use Rattle.tree_picture.specs.Layout.{kind_of, laid};

@@ -1,6 +1,6 @@
 -- A chain of nodes and the list of its items: a look-up in one reads what the other has.
 use Rattle.std.specs.Prelude.{IsNone}
-use Rattle.chain_base.specs.Chain.{item_of}
+use Rattle.ord_tree.specs.Chain.{item_of}
 use Rattle.ord_tree.specs.{Node.bare_entry, Node.links_in, Node.slots_of, Node.indexes, Parents.HasParentUnder, Slots.Slots, Slots.Holds, Slots.Among, declared.tree_links.TreeLinks.TreeLinks}
 use Rattle.triple_ord.proofs.Words.{◌≡◌, ℕ, ◌↔◌, length, List, [], ◌∷◌, ◌++◌, Option, Some, None, IsSome, IfSome, is_some, refl, sym, ap, subst, ◌∙◌, inl, inr, ◌⊎◌, map, length-map, nil_from_length, option_map, Arena, slot, item_if, Link}
 use Rattle.triple_ord.proofs.Words.{IsSoundTree, IsPart, IsNodeIn, IsNodeAt, entry_at-link, entry_at-bare, arith, common_steps, is_some-bare, IsLastIndex, IsArenaOf, SimpleOrdArenaNode, Shape, missing, node, root_of, walk, Tree, IsChainOf}

@@ -1,9 +1,9 @@
 -- For callers: what pointers find after each change of an ordered arena.
 use Rattle.std.specs.declared.alloc.AllocError.{AllocError}
-use Rattle.arena_base.specs.{Clone.Grants, Clone.IsShown, declared.error.ReallocationError.ReallocationError, declared.invalidation.InvalidationOption.InvalidationOption}
-use Rattle.arena_base.specs.declared.error.ReallocationError.TheVariants.{BeyondMaxCapacity, AllocError as NoMemory}
+use Rattle.ord_tree.specs.{ArenaClone.Grants, ArenaClone.IsShown, ReallocationError.ReallocationError, InvalidationOption.InvalidationOption}
+use Rattle.ord_tree.specs.ReallocationError.TheVariants.{BeyondMaxCapacity, AllocError as NoMemory}
 use Rattle.std.specs.Option.{IsSomeAnd}
-use Rattle.chain_base.specs.{Chain.entry_at as entry_among, Chain.item_of as item_among, Chain.without, Clone.taken_over}
+use Rattle.ord_tree.specs.{Chain.entry_at as entry_among, Chain.item_of as item_among, Chain.without, ChainClone.taken_over}
 use Rattle.ord_tree.specs.Clone.{ShowsItem, IsClone, IsRefusedClone}
 use Rattle.triple_ord.proofs.Words.{OrdInsertionError, ◌≡◌, ◌≢◌, ℕ, ◌+◌, ◌≤◌, List, [], ◌∷◌, ◌++◌, length, Option, Some, None, IsSome, is_some, slice_get, map, length-append, IfSome, IfNone, OnSome, Ok, refl, sym, ap, subst, ◌∙◌, arith, inl}
 use Rattle.triple_ord.proofs.Words.{inr, beside, Place, into, over, IsPlace, aim_of, Growth, with_room_by, InsertsBy, told, OrdEntryKind, New, Tree, IsGrown, with_item, Gap, with_between, Equal, pointer, FindsKey, FindsSimilar, Aim, at_key}
@@ -13,7 +13,7 @@ use Rattle.triple_ord.proofs.Words.{renewed, after-insertion, IsInsertion, moved
 use Rattle.triple_ord.proofs.Words.{entry_at-between_other, entry_at-between, length-between, entry_at-numbered, entry_at-without, length-without, entry_at-with_item_among_other, entry_at-with_item_among, length-with_item_among}
 use Rattle.triple_ord.proofs.Words.{entry_at-with_generation_other, entry_at-with_generation, common_steps, refused-found, Shape, within, reallocating, next_index, true}
 use Rattle.triple_ord.proofs.Inserting.{entry_at-after, similar-here, IsInsertion-same}
-use Rattle.chain_base.proofs.CallerLemmas.{with_new, roomy_capacity, capacity-vacant, capacity-with_room}
+use Rattle.ord_tree.proofs.ChainLemmas.{with_new, roomy_capacity, capacity-vacant, capacity-with_room}
 use Rattle.triple_ord.specs.{Arena.entry_at, Clone.cloned, Clone.refused_clone, Clone.FindsFallible, Entry.InsertsThere, Entry.Awaits, Entry.IsEntryFor}
 use Rattle.triple_ord.specs.{EntryKind.pointer_of_kind, Rekey.Rekeys, Insertion.InsertsNew, Place.behind_key, declared.insert_kind.OrdInsertKind.TheVariants.Normal}
 -- lists cut at an entry, and lists in the order of their keys

@@ -1,9 +1,9 @@
 -- The finite map of an ordered arena after changes of its capacity, compressions, removals and recasts; its first and last indexes.
 use Rattle.std.proofs.Common.{length-take}
-use Rattle.arena_base.specs.{Arena.item_of, Compression.CompressionStep, Compression.IsCompression, Compression.compressed}
-use Rattle.arena_base.specs.Walk.{entries_rising as arena_rising}
-use Rattle.chain_base.specs.Compression.{compressed as chain_compressed, IsCompression as IsChainCompression}
-use Rattle.chain_base.specs.Chain.{with_capacity as chain_with_capacity}
+use Rattle.ord_tree.specs.{PlainArena.item_of, ArenaCompression.CompressionStep, ArenaCompression.IsCompression, ArenaCompression.compressed}
+use Rattle.ord_tree.specs.ArenaWalk.{entries_rising as arena_rising}
+use Rattle.ord_tree.specs.ChainCompression.{compressed as chain_compressed, IsCompression as IsChainCompression}
+use Rattle.ord_tree.specs.Chain.{with_capacity as chain_with_capacity}
 use Rattle.triple_ord.proofs.Words.{◌≡◌, ℕ, zero, suc, ◌+◌, ◌-◌, ◌<◌, ◌≤◌, ◌↔◌, Option, Some, None, Result, Ok, Err, List, [], ◌∷◌, ◌++◌, length, map, get_or, take, drop, reverse, replicate, slice_get, is_some, Bool, true, false, max}
 use Rattle.triple_ord.proofs.Words.{IsSome, walk_rest, WalkSteps, Entry, Chain, entry_at, times, IsSound, greatest_index, IsFirstIndex, IsLastIndex, drop-set-lt, pointers, walk_from, removed, FindsNothing, content_removed, cases_eq}
 use Rattle.triple_ord.proofs.Words.{drop_more, drop_all, refl, sym, ap, subst, ◌∙◌, add-one, arith, option_map, FoldsTo, same_lists, get_or_default, length-append, take-map, drop-map, slice_get_past, Arena, HoldsSame, slot, item_if}

@@ -15,3 +15,6 @@ pub mod CallerLemmas
 pub mod Room
 pub mod Places
 pub mod Appending
+-- The lemmas of the layers below, for callers.
+pub use Rattle.ord_tree.proofs.ChainLemmas
+pub use Rattle.ord_tree.proofs.CallerLemmas as TreeLemmas

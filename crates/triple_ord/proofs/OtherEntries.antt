@@ -7,7 +7,7 @@ use Rattle.triple_ord.proofs.Without.{without-last, first-kept, last-kept}
 use Rattle.triple_ord.proofs.Descending.{cut_there, descent-empty, neighbours_shown}
 use Rattle.triple_ord.proofs.OrderLaws.{taken-less, taken-greater, passed-unequal}
 use Rattle.triple_ord.specs.Around.{last_item, order_behind, AnswersAround, EndsAround, FindsAround}
-use Rattle.chain_base.specs.Chain.{without}
+use Rattle.ord_tree.specs.Chain.{without}
 
 -- the property of each call, for calls that leave no state
 asked_all : {X : Type 0} (Q : X → Type 0) (xs : List X) (f g : Unit {0}) → FoldsTo {P = Unit {0}} (λ f s g. Q s) f xs g → AllByRecursion Q xs

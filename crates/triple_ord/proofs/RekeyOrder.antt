@@ -4,7 +4,7 @@ use Rattle.triple_ord.proofs.Words.{Entry, Tree, IsInOrder, before, after, with_
 use Rattle.triple_ord.proofs.Without.{without-written}
 use Rattle.triple_ord.proofs.{KeptOrder.in_order-between, OrderLaws.IsInOrder-rest, OrderLaws.in_order-one, OrderLaws.in_order-more}
 use Rattle.triple_ord.specs.Rekey.{Rekeys, RekeyOrderLaw}
-use Rattle.chain_base.specs.Chain.{without}
+use Rattle.ord_tree.specs.Chain.{without}
 
 module _ {T K : Type 0} (key : T → K) (cmp : K → K → Ordering) (total : IsTotalOrder cmp) where
   at_most_trans : (a b c : K) → cmp a b ≢ Greater → cmp b c ≢ Greater → cmp a c ≢ Greater

@@ -12,7 +12,7 @@ use Rattle.triple_ord.proofs.Inserting.{StandsAt, stands, IsLinked, link-read, n
 use Rattle.triple_ord.proofs.Stepping.{read_index}
 use Rattle.triple_ord.proofs.Without.{without-absent, without-append, without-last, without-first, first-kept, last-kept, without-written, times-without}
 use Rattle.triple_ord.specs.Around.{EndsAround, FindsAround}
-use Rattle.chain_base.specs.{Chain.without, Move.with_entry_moved, Move.list_with, Move.without_entry}
+use Rattle.ord_tree.specs.{Chain.without, ChainMove.with_entry_moved, ChainMove.list_with, ChainMove.without_entry}
 
 module _ {T K : Type 0} (key : T → K) (cmp : K → K → Ordering) (es : List (Entry T)) (k : K) (c : ℕ) where
   module _ (distinct : IsDistinct es) (p : ℕ × ℕ) (was : T) (there : entry_at es p.0 ≡ Some (p.1, was)) (item : T) (e : Entry T) (o : Ordering) (m : EndsAround key cmp es p.0 k c e o) where

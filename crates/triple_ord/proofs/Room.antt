@@ -1,9 +1,9 @@
 -- What a change of the capacity leaves.
 use Rattle.std.proofs.lemmas.Bool.{lt-ltb, le-ltb}
 use Rattle.std.proofs.Common.{refl, ◌≡◌, ℕ, ◌<◌, ◌≤◌, ap, subst, ◌∙◌, arith, Result, Ok, Err, OnOk, OnErr, Option, max}
-use Rattle.arena_base.specs.Arena.{doubled_capacity}
-use Rattle.chain_base.specs.Chain.{chain_limit, with_capacity, greatest_index, IsSound}
-use Rattle.chain_base.proofs.CallerLemmas.{greatest-within}
+use Rattle.ord_tree.specs.PlainArena.{doubled_capacity}
+use Rattle.ord_tree.specs.Chain.{chain_limit, with_capacity, greatest_index, IsSound}
+use Rattle.ord_tree.proofs.ChainLemmas.{greatest-within}
 use Rattle.ord_tree.specs.Tree.{Tree}
 use Rattle.triple_ord.specs.Arena.{with_room_for}
 

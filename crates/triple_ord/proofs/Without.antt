@@ -2,7 +2,7 @@
 use Rattle.triple_ord.proofs.Words.{◌≡◌, ◌≢◌, ℕ, ◌+◌, ◌≤◌, List, [], ◌∷◌, ◌++◌, Some, None, refl, sym, ap, ◌∙◌, arith, common_steps, eqb_tells, inl, inr}
 use Rattle.triple_ord.proofs.Words.{Entry, times, times-append, with_item_among, first_of, last_of}
 use Rattle.triple_ord.proofs.Inserting.{ends, last_of-append}
-use Rattle.chain_base.specs.Chain.{without}
+use Rattle.ord_tree.specs.Chain.{without}
 
 module _ {T : Type 0} (i : ℕ) where
   pub without-absent : (es : List (Entry T)) → times i es ≡ 0 → without i es ≡ es

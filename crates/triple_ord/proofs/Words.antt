@@ -17,23 +17,23 @@ pub use Rattle.std.specs.{List.All, List.AllByRecursion, List.Contains, List.Fol
 pub use Rattle.std.specs.Ordering.{is_eq, ordering_then, ordering_reverse, is_gt, ordering_index}
 pub use Rattle.std.specs.{Result.IsErrAnd, declared.cmp.Ordering.Ordering}
 pub use Rattle.std.specs.declared.cmp.Ordering.TheVariants.{Less, Equal, Greater}
-pub use Rattle.arena_base.proofs.CallerLemmas.{limit_of-below}
-pub use Rattle.arena_base.specs.Arena.{Arena, slot, item_if, HoldsSame, greatest_occupied, with_capacity, resized, IsFirstEntry}
-pub use Rattle.arena_base.specs.{Arena.IsLastEntry, Arena.arena_len, Generation.next_generation, Generation.overflows_after}
-pub use Rattle.arena_base.specs.Walk.{Walk, pointers_from, entries_from, walk_rest, WalkSteps, pointers, walk_from}
-pub use Rattle.chain_base.proofs.CallerLemmas.{entry_at-link, entry_at-absent, entry_at-without_other, entry_at-without, length-without}
-pub use Rattle.chain_base.proofs.CallerLemmas.{entry_at-with_item_among_other, entry_at-with_item_among, length-with_item_among}
-pub use Rattle.chain_base.proofs.CallerLemmas.{entry_at-with_generation_other, entry_at-with_generation, length-with_generation}
-pub use Rattle.chain_base.proofs.CallerLemmas.{entry_at-between_other, entry_at-between, length-between, entry_at-numbered}
-pub use Rattle.chain_base.proofs.CallerLemmas.{entry_at-numbered_before, generation-numbered, items-numbered, generation-moved}
-pub use Rattle.chain_base.proofs.CallerLemmas.{generation-relocated, clone-same, refused-found, length-entries, compressed-at}
-pub use Rattle.chain_base.proofs.CallerLemmas.{compressed-length, entry_at-compressed, occurs-entry, below-greatest, greatest-or_none}
-pub use Rattle.chain_base.proofs.CallerLemmas.{times-greatest, below-greatest_index, times-append, relocated-items, after-insertion}
-pub use Rattle.chain_base.specs.Chain.{Entry, Chain, entry_at, first_or, link_between, link_at, last_pointer, times, generation_at}
-pub use Rattle.chain_base.specs.Chain.{IsFirstIndex, IsLastIndex, IsArenaOf, IsSound, IsDistinct, removed, renewed, next_index}
-pub use Rattle.chain_base.specs.Chain.{greatest_index, from_index, insert_after, insert_before, with_item_among, new_chain}
-pub use Rattle.chain_base.specs.Compression.{moved, at_compressed_index, numbered, Transferring, TransferStep, IsTransfer, entry_before}
-pub use Rattle.chain_base.specs.{Compression.rising_among, Compression.entries_rising, Insert.IsInsertion, Link.Link}
+pub use Rattle.ord_tree.proofs.ArenaLemmas.{limit_of-below}
+pub use Rattle.ord_tree.specs.PlainArena.{Arena, slot, item_if, HoldsSame, greatest_occupied, with_capacity, resized, IsFirstEntry}
+pub use Rattle.ord_tree.specs.{PlainArena.IsLastEntry, PlainArena.arena_len, Generation.next_generation, Generation.overflows_after}
+pub use Rattle.ord_tree.specs.ArenaWalk.{Walk, pointers_from, entries_from, walk_rest, WalkSteps, pointers, walk_from}
+pub use Rattle.ord_tree.proofs.ChainLemmas.{entry_at-link, entry_at-absent, entry_at-without_other, entry_at-without, length-without}
+pub use Rattle.ord_tree.proofs.ChainLemmas.{entry_at-with_item_among_other, entry_at-with_item_among, length-with_item_among}
+pub use Rattle.ord_tree.proofs.ChainLemmas.{entry_at-with_generation_other, entry_at-with_generation, length-with_generation}
+pub use Rattle.ord_tree.proofs.ChainLemmas.{entry_at-between_other, entry_at-between, length-between, entry_at-numbered}
+pub use Rattle.ord_tree.proofs.ChainLemmas.{entry_at-numbered_before, generation-numbered, items-numbered, generation-moved}
+pub use Rattle.ord_tree.proofs.ChainLemmas.{generation-relocated, clone-same, refused-found, length-entries, compressed-at}
+pub use Rattle.ord_tree.proofs.ChainLemmas.{compressed-length, entry_at-compressed, occurs-entry, below-greatest, greatest-or_none}
+pub use Rattle.ord_tree.proofs.ChainLemmas.{times-greatest, below-greatest_index, times-append, relocated-items, after-insertion}
+pub use Rattle.ord_tree.specs.Chain.{Entry, Chain, entry_at, first_or, link_between, link_at, last_pointer, times, generation_at}
+pub use Rattle.ord_tree.specs.Chain.{IsFirstIndex, IsLastIndex, IsArenaOf, IsSound, IsDistinct, removed, renewed, next_index}
+pub use Rattle.ord_tree.specs.Chain.{greatest_index, from_index, insert_after, insert_before, with_item_among, new_chain}
+pub use Rattle.ord_tree.specs.ChainCompression.{moved, at_compressed_index, numbered, Transferring, TransferStep, IsTransfer, entry_before}
+pub use Rattle.ord_tree.specs.{ChainCompression.rising_among, ChainCompression.entries_rising, Insert.IsInsertion, Link.Link}
 pub use Rattle.ord_tree.proofs.CallerLemmas.{entry_at-bare, is_some-bare, times-bare, indexes-bare, size_of-walk, height-le-size}
 pub use Rattle.ord_tree.specs.{Numbers.fib, Numbers.IsTop, declared.node.SimpleOrdArenaNode.SimpleOrdArenaNode}
 pub use Rattle.ord_tree.specs.Shape.{Shape, missing, node, root_of, walk, size_of, rank_of, height}

@@ -1,8 +1,8 @@
 -- An ordered arena as its callers see it: what pointers find in it, and its entries in order. A pointer is the pair of its index and its
 -- generation.
 use Rattle.std.specs.{Prelude.◌≡◌, Prelude.◌≢◌, Prelude.ℕ, Prelude.◌+◌, Prelude.List, Prelude.max, Prelude.nat_lt, Prelude.if◌then◌else◌, Prelude.Option, Prelude.None, Prelude.IsSomeAnd, Prelude.length, Prelude.map, Prelude.slice_get, declared.cmp.Ordering.Ordering}
-use Rattle.arena_base.specs.Arena.{doubled_capacity}
-use Rattle.chain_base.specs.Chain.{Chain, chain_limit, with_capacity, entry_at as entry_among, item_of as item_among}
+use Rattle.ord_tree.specs.PlainArena.{doubled_capacity}
+use Rattle.ord_tree.specs.Chain.{Chain, chain_limit, with_capacity, entry_at as entry_among, item_of as item_among}
 use Rattle.ord_tree.specs.Tree.{Tree}
 use Rattle.triple_ord.specs.Search.{pointer}
 

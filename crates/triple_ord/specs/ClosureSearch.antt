@@ -2,7 +2,7 @@
 use Rattle.std.specs.{Borrow.Bor, List.All, List.FoldsTo, Option.option_map, Ordering.is_eq, Prelude.map, declared.cmp.Ordering.Ordering}
 use Rattle.std.specs.Prelude.{◌≡◌, ◌≢◌, ℕ, ◌⊎◌, if◌then◌else◌, List, [], ◌∷◌, Option, Some, None, IfSome, MatchOption, Contains, length}
 use Rattle.std.specs.declared.cmp.Ordering.TheVariants.{Less, Equal, Greater}
-use Rattle.chain_base.specs.Chain.{Entry, IsDistinct}
+use Rattle.ord_tree.specs.Chain.{Entry, IsDistinct}
 use Rattle.triple_ord.specs.{Gap.Gap, Gap.before, Gap.after, Gap.last_of, Search.pointer}
 
 -- an entry that was shown, with its answer

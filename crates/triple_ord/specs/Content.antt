@@ -1,7 +1,7 @@
 -- An ordered arena as an arena: a finite map from pointers to items, with slots by index.
 use Rattle.std.specs.Prelude.{ℕ, zero, suc, ◌+◌, Option, None, List, [], ◌∷◌}
-use Rattle.arena_base.specs.Arena.{Arena}
-use Rattle.chain_base.specs.Chain.{Entry, entry_at}
+use Rattle.ord_tree.specs.PlainArena.{Arena}
+use Rattle.ord_tree.specs.Chain.{Entry, entry_at}
 use Rattle.ord_tree.specs.Tree.{Tree}
 
 module _ {T : Type 0} where

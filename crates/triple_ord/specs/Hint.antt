@@ -1,6 +1,6 @@
 -- The distance of a hint: the number of entries from the hint to the gap where a key belongs.
 use Rattle.std.specs.{Prelude.◌≡◌, Prelude.Option, Option.option_map, Option.option_or, Prelude.ℕ, Prelude.◌+◌, Prelude.◌-◌, Prelude.◌≤◌, Prelude.◌==◌, Prelude.nat_lt, Prelude.if◌then◌else◌, Prelude.List, Prelude.[], Prelude.◌∷◌, Prelude.length, Prelude.IsSome, declared.cmp.Ordering.Ordering}
-use Rattle.chain_base.specs.Chain.{Entry, entry_at}
+use Rattle.ord_tree.specs.Chain.{Entry, entry_at}
 use Rattle.triple_ord.specs.{Gap.Gap, Gap.before, Gap.after, Gap.present, Order.IsInOrder, Search.Fits, Search.pointer, Search.order_to}
 
 module _ {T : Type 0} where

@@ -1,6 +1,6 @@
 -- Lists in the order of their keys.
 use Rattle.std.specs.{declared.cmp.Ordering.Ordering, declared.cmp.Ordering.TheVariants.Greater, Prelude.◌≡◌, Prelude.◌≢◌, Prelude.List, Prelude.◌∷◌, Prelude.◌++◌}
-use Rattle.chain_base.specs.Chain.{Entry}
+use Rattle.ord_tree.specs.Chain.{Entry}
 
 -- no entry's key is greater than that of the entry directly after it
 abbrev pub IsInOrder : {T K : Type 0} → (T → K) → (K → K → Ordering) → List (Entry T) → Type 0

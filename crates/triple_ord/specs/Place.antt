@@ -1,7 +1,7 @@
 -- The place of an insertion in the list.
 use Rattle.std.specs.{declared.cmp.Ordering.Ordering, declared.cmp.Ordering.TheVariants.Less, declared.cmp.Ordering.TheVariants.Equal, declared.cmp.Ordering.TheVariants.Greater, Borrow.Bor}
 use Rattle.std.specs.Prelude.{◌≡◌, ◌≢◌, ℕ, List, [], Option, Some, None, IfSome, IsSomeAnd}
-use Rattle.chain_base.specs.Chain.{Entry, entry_at}
+use Rattle.ord_tree.specs.Chain.{Entry, entry_at}
 use Rattle.triple_ord.specs.declared.insert_kind.OrdInsertKind.TheVariants.{Empty, Normal, Nonhereditary, Linear, NonhereditaryLinear, Manual}
 use Rattle.triple_ord.specs.{Search.order_to, Search.Fits, Search.IsFirstEqual, declared.insert_kind.OrdInsertKind.OrdInsertKind, Gap.Gap, Gap.before, Gap.after}
 

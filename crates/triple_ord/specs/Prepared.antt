@@ -1,7 +1,7 @@
 -- The place of an insertion as the arena stores it: beside an entry, or the pointer of an entry. No public clause cites this file.
 use Rattle.std.specs.Prelude.{◌≡◌, ◌≢◌, ℕ, Option, Some, None, IsSome, length}
 use Rattle.std.{proofs.Props.props, specs.declared.cmp.Ordering.Ordering, specs.declared.cmp.Ordering.TheVariants.Equal}
-use Rattle.chain_base.specs.Chain.{Entry, Chain, entry_at, next_index}
+use Rattle.ord_tree.specs.Chain.{Entry, Chain, entry_at, next_index}
 use Rattle.ord_tree.specs.Tree.{Tree, put_at}
 use Rattle.triple_ord.specs.declared.insert_kind.OrdInsertKind.TheVariants.{Normal, Nonhereditary, Linear, NonhereditaryLinear}
 use Rattle.triple_ord.specs.{declared.prepared.InsertPlace.InsertPlace, declared.prepared.InsertPlace.TheVariants.New, declared.prepared.InsertPlace.TheVariants.Replacing, EntryVisits.HasSeen, EntryVisits.VisitsFor, Gap.with_between}

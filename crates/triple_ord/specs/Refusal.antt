@@ -1,8 +1,8 @@
 -- The errors of insertions, by those of the tree.
-use Rattle.arena_base.specs.declared.error.InsertionError.{InsertionError}
+use Rattle.ord_tree.specs.InsertionError.{InsertionError}
 use Rattle.triple_ord.specs.declared.error.OrdInsertionError.TheVariants.{NotWithinCapacity, BeyondMaxCapacity, AllocError}
 use Rattle.triple_ord.specs.declared.error.OrdInsertionError.{OrdInsertionError}
-use Rattle.arena_base.specs.declared.error.InsertionError.TheVariants as tree
+use Rattle.ord_tree.specs.InsertionError.TheVariants as tree
 
 -- the insertion's error for an error of the tree
 abbrev pub refusal_of : InsertionError → OrdInsertionError

@@ -1,6 +1,6 @@
 -- An entry that moves to the place of its key, with a new item or its own.
 use Rattle.std.specs.{Prelude.◌≡◌, Prelude.ℕ, Prelude.◌≤◌, Prelude.◌⊎◌, declared.cmp.Ordering.Ordering}
-use Rattle.chain_base.specs.Chain.{without}
+use Rattle.ord_tree.specs.Chain.{without}
 use Rattle.ord_tree.specs.{Tree.Tree, Tree.with_item, Move.IsRearranged}
 use Rattle.triple_ord.specs.{Gap.Gap, Gap.with_between, Gap.neighbour_count, Place.LiesBehind, Order.IsInOrder}
 

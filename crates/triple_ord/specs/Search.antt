@@ -1,7 +1,7 @@
 -- The result of a search by key on a list of entries: an equal entry that is the first of its group, or a gap that fits the key.
 use Rattle.std.specs.declared.cmp.Ordering.{Ordering, TheVariants.Less, TheVariants.Equal, TheVariants.Greater}
 use Rattle.std.specs.Prelude.{◌≡◌, ℕ, ◌≤◌, ◌⊎◌, List, [], Option, Some, None, IfSome}
-use Rattle.chain_base.specs.Chain.{Entry}
+use Rattle.ord_tree.specs.Chain.{Entry}
 use Rattle.triple_ord.specs.Gap.{Gap, before, after, neighbour_count}
 
 -- the pointer of an entry: its index and its generation

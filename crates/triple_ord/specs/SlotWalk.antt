@@ -1,6 +1,6 @@
 -- A walk over an ordered arena in index order, whatever its list order.
 use Rattle.std.specs.Prelude.{ℕ, Option, IfSome, IsSome}
-use Rattle.arena_base.specs.Walk.{Walk, WalkSteps}
+use Rattle.ord_tree.specs.ArenaWalk.{Walk, WalkSteps}
 use Rattle.ord_tree.specs.Tree.{Tree}
 use Rattle.triple_ord.specs.{Arena.item_of, Content.content_of}
 

@@ -1,7 +1,7 @@
 -- The state of the steps from a hint. No public clause cites this file.
 use Rattle.std.specs.Prelude.{◌≡◌, ℕ, ◌+◌, ◌<◌, ◌≤◌, List, ◌∷◌, ◌++◌, Option, Some, None, IfSome, MatchOption, length}
 use Rattle.std.specs.declared.cmp.Ordering.{Ordering, TheVariants.Less, TheVariants.Equal, TheVariants.Greater}
-use Rattle.chain_base.specs.{Chain.Entry, Link.Link}
+use Rattle.ord_tree.specs.{Chain.Entry, Link.Link}
 use Rattle.std.specs.Option.{option_map}
 use Rattle.triple_ord.specs.{Hint.way_end, Search.pointer, Search.order_to, Search.Fits, Search.FindsSimilar, Gap.Gap, Gap.first_of, Gap.last_of, Hint.position_of, Hint.way_length, Order.IsInOrder}
 

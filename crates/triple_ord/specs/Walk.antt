@@ -1,6 +1,6 @@
 -- Walking through a list of entries.
 use Rattle.std.specs.Prelude.{◌≡◌, ℕ, List, [], Option, Some, None, length}
-use Rattle.chain_base.specs.Chain.{Entry, IsDistinct, from_index}
+use Rattle.ord_tree.specs.Chain.{Entry, IsDistinct, from_index}
 
 -- the entries from the one with this index on; none without an index
 abbrev pub entries_left : {T : Type 0} → List (Entry T) → Option ℕ → List (Entry T)

@@ -1,8 +1,8 @@
 //! `SimpleOrdArena`: an arena in the order of keys.
 ghost use Rattle.std.specs.Prelude.{◌≡◌, ◌==◌, length};
-ghost use Rattle.arena_base.specs.Generation.{IsLawfulGeneration, overflows_after};
-ghost use Rattle.arena_base.specs.Invalidation.{is_overflow};
-ghost use Rattle.chain_base.specs.Chain.{raised, IsSound};
+ghost use Rattle.ord_tree.specs.Generation.{IsLawfulGeneration, overflows_after};
+ghost use Rattle.ord_tree.specs.Invalidation.{is_overflow};
+ghost use Rattle.ord_tree.specs.Chain.{raised, IsSound};
 ghost use Rattle.ord_tree.specs.Tree.{IsSoundTree};
 
 mod access;

@@ -5,7 +5,7 @@
 //! place isn't on the greater side.
 ghost use Rattle.std.specs.Prelude.{◌≡◌, ◌+◌, ◌-◌, ◌^◌, ◌<◌, ◌≤◌, IsSome, length};
 ghost use Rattle.std.specs.Option.{option_map, option_copied};
-ghost use Rattle.chain_base.specs.Chain.{entry_at, IsDistinct};
+ghost use Rattle.ord_tree.specs.Chain.{entry_at, IsDistinct};
 ghost use Rattle.triple_ord.specs.Around.{order_behind, FindsAround, IsAnsweredAround};
 ghost use Rattle.triple_ord.specs.VisitBounds.{IsWithinBounds};
 

@@ -1,7 +1,7 @@
 //! The descent from the root.
 ghost use Rattle.std.specs.Prelude.{◌≡◌, ℕ, Some, IsSome, ◌+◌, ◌-◌, ◌^◌, ◌<◌, ◌≤◌, length};
 ghost use Rattle.std.specs.Option.{option_map};
-ghost use Rattle.chain_base.specs.Chain.{entry_at, IsDistinct};
+ghost use Rattle.ord_tree.specs.Chain.{entry_at, IsDistinct};
 ghost use Rattle.ord_tree.specs.Shape.{height};
 ghost use Rattle.triple_ord.specs.ClosureSearch.{Asks, FindsSimilarWith};
 ghost use Rattle.triple_ord.specs.Descent.{met_next, side_of, IsCompared, HasDescendedByKey, HasEndedByKey};

@@ -1,7 +1,7 @@
 //! `Probe`: how a search sees an arena, one entry at a time, each counted.
 ghost use Rattle.std.specs.Prelude.{◌≡◌, ◌+◌, ◌<◌, ◌^◌, List, ◌∷◌, ◌++◌, Some, IsSome};
 ghost use Rattle.std.specs.Option.{option_map, option_copied};
-ghost use Rattle.chain_base.specs.Chain.{Entry, entry_at, link_at, IsDistinct};
+ghost use Rattle.ord_tree.specs.Chain.{Entry, entry_at, link_at, IsDistinct};
 ghost use Rattle.ord_tree.specs.Shape.{root_of, height};
 ghost use Rattle.ord_tree.specs.Tree.{IsSoundTree};
 ghost use Rattle.triple_ord.specs.Around.{last_item};

@@ -1,7 +1,7 @@
 //! Steps along the list from a hint.
 ghost use Rattle.std.specs.Prelude.{◌≡◌, ◌≤◌, IsSome, length};
 ghost use Rattle.std.specs.Option.{option_map};
-ghost use Rattle.chain_base.specs.Chain.{entry_at, IsDistinct};
+ghost use Rattle.ord_tree.specs.Chain.{entry_at, IsDistinct};
 ghost use Rattle.triple_ord.specs.Steps.{neighbour_towards, Settles, IsNear, EndsNear};
 ghost use Rattle.triple_ord.specs.Ties.{taken};
 

@@ -78,7 +78,7 @@ fn has_the_third_alone(jobs: &mut Jobs) -> bool {
 }
 
 #[test]
-fn rounds_go_on_over_changes(rt: HostRuntime) {
+fn a_round_continues_after_changes(rt: HostRuntime) {
     let (mut jobs, first) = three_jobs(rt.alloc(), false).expect(&rt, "memory");
     let mut round = round_from(&jobs, first).expect(&rt, "the first job");
     assert!(rt; goes_on_behind(&mut round, &mut jobs, first));
@@ -107,7 +107,7 @@ fn has_the_second_first(jobs: &mut Jobs) -> bool {
 }
 
 #[test]
-fn jobs_are_met_by_index(rt: HostRuntime) {
+fn walks_and_drains_by_index_follow_the_slots(rt: HostRuntime) {
     let (mut jobs, late) = three_jobs(rt.alloc(), true).expect(&rt, "memory");
     let mut walk = jobs.advancer();
     assert!(rt; goes_by_index(&mut walk, &jobs, late));
@@ -182,7 +182,7 @@ fn are_refused(jobs: &mut Jobs) -> bool {
 }
 
 #[test]
-fn jobs_come_back_where_they_are_refused(rt: HostRuntime) {
+fn a_refused_job_comes_back(rt: HostRuntime) {
     let mut jobs = Jobs::new(rt.alloc());
     let second = two_jobs(&mut jobs).expect(&rt, "two jobs");
     assert!(rt; are_told(&mut jobs, second).expect(&rt, "memory"));

@@ -1,7 +1,7 @@
 //! Capacity, clearing and clones.
 
 ghost use Rattle.std.specs.Prelude.{◌≡◌, ◌↔◌, ◌+◌, ◌<◌, [], Err, IfOk, IsOk, OnOk, OnErr};
-ghost use Rattle.arena_base.specs.Arena.{capacity_for};
+ghost use Rattle.triple_ord.specs.PlainArena.{capacity_for};
 ghost use Rattle.agenda.specs.Agenda.{most_jobs, count, with_left, HasRoomFor};
 ghost use Rattle.agenda.specs.Tickets.{IsStep};
 

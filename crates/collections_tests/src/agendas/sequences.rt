@@ -235,7 +235,7 @@ fn is_plain(alloc: Global, number: usize) -> bool {
 }
 
 #[test]
-fn every_sequence_of_five_calls(rt: HostRuntime) {
+fn every_sequence_of_five_calls_agrees_with_a_plain_list(rt: HostRuntime) {
     for number in 0..59_049usize {
         assert!(rt; is_plain(rt.alloc(), number));
     }

@@ -137,7 +137,7 @@ fn sell_all(
 }
 
 #[test]
-fn a_trading_day(rt: HostRuntime) {
+fn a_day_of_orders_trades_as_worked_out_by_hand(rt: HostRuntime) {
     let mut book = OrderBook::new(rt.alloc());
     let (mut names, mut trades) = (Vec::new(rt.alloc()), Vec::new(rt.alloc()));
     for row in DAY {

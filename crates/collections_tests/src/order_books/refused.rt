@@ -228,7 +228,7 @@ fn a_bid_is_placed_or_refused_as_a_whole(rt: HostRuntime) {
 }
 
 #[test]
-fn an_ask_is_refused_where_its_side_has_to_grow(rt: HostRuntime) {
+fn an_ask_is_refused_only_if_its_side_has_to_grow(rt: HostRuntime) {
     for asks in &[0usize, 4, 8, 16] {
         let refused = refusals(rt.alloc(), Order::New(Side::Sell), *asks, 0);
         assert!(rt; is_sometimes(refused));

@@ -69,7 +69,7 @@ fn goes_behind_its_equals(book: &mut OrderBook, trades: &mut Vec<Trade>) -> Opti
 }
 
 #[test]
-fn an_order_that_is_replaced_stands_behind_its_equals(rt: HostRuntime) {
+fn a_replaced_order_goes_behind_its_equals(rt: HostRuntime) {
     let alloc: Global = rt.alloc();
     let (mut book, mut trades) = (OrderBook::new(alloc), Vec::new(alloc));
     assert!(rt; goes_behind_its_equals(&mut book, &mut trades) == Some(true));
@@ -95,7 +95,7 @@ fn trades_when_it_is_raised(book: &mut OrderBook, trades: &mut Vec<Trade>) -> Op
 }
 
 #[test]
-fn a_bid_that_is_raised_trades(rt: HostRuntime) {
+fn a_raised_bid_trades_at_once(rt: HostRuntime) {
     let alloc: Global = rt.alloc();
     let (mut book, mut trades) = (OrderBook::new(alloc), Vec::new(alloc));
     assert!(rt; trades_when_it_is_raised(&mut book, &mut trades) == Some(true));
@@ -114,7 +114,7 @@ fn is_gone(book: &mut OrderBook, id: OrderId, trades: &mut Vec<Trade>) -> bool {
 }
 
 #[test]
-fn an_order_that_was_cancelled_is_gone(rt: HostRuntime) {
+fn a_cancelled_order_is_gone(rt: HostRuntime) {
     let alloc: Global = rt.alloc();
     let (mut book, mut trades) = (OrderBook::new(alloc), Vec::new(alloc));
     let bid = put(&mut book, (Side::Buy, 40, 7), &mut trades).expect(&rt, "an order that rests");

@@ -285,7 +285,7 @@ fn is_plain(alloc: Global, number: u32) -> bool {
 }
 
 #[test]
-fn every_sequence_of_four_orders_and_reductions(rt: HostRuntime) {
+fn every_sequence_of_four_orders_and_reductions_agrees_with_a_plain_list(rt: HostRuntime) {
     for number in 0..10_000u32 {
         assert!(rt; is_plain(rt.alloc(), number));
     }

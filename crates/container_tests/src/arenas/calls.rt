@@ -1,6 +1,6 @@
-//! Calls in a row, with the result and the state after each, and overflows of generations.
-use super::{Counts, counts, numbers, p0};
-use arena_base::{Arena, BasePtr, InvalidationOption, InvalidationResult, ItemsMut, P0, P8};
+//! Calls in a row, with the result and the state after each.
+use super::support::{Counts, counts, numbers, p0};
+use arena_base::{Arena, InvalidationOption, ItemsMut, P0};
 
 /// A call on an arena of numbers.
 #[derive(Clone, Copy)]
@@ -80,30 +80,10 @@ const ROWS: [Row; 26] = [
 ];
 
 #[test]
-fn calls_give_and_leave(rt: HostRuntime) {
+fn each_call_gives_its_result_and_leaves_its_counts(rt: HostRuntime) {
     let mut arena = Arena::new(rt.alloc());
     for (call, wanted, left) in &ROWS {
         assert!(rt; given(&mut arena, *call) == *wanted);
         assert!(rt; counts(&arena) == *left);
     }
-}
-
-#[test]
-fn generations_begin_again(rt: HostRuntime) {
-    let mut arena: Arena<P8, u64> = Arena::new(rt.alloc());
-    for generation in 2..=255u8 {
-        let wanted = if generation == 255 {
-            InvalidationResult::GenerationOverflow(7)
-        } else {
-            InvalidationResult::Success(7)
-        };
-        assert!(rt; put_and_take(&mut arena) == Some(((1, generation), wanted)));
-    }
-    assert!(rt; arena.generation() == 2);
-}
-
-/// Inserts the item 7 and removes it. Returns the numbers of its pointer, and the result of the removal.
-fn put_and_take(arena: &mut Arena<P8, u64>) -> Option<((u8, u8), InvalidationResult<u64>)> {
-    let p = arena.insert_reallocating(7).ok()?;
-    Some(((p.inx(), p.generation()), arena.remove(p)))
 }

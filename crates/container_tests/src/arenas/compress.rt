@@ -1,5 +1,5 @@
 //! Compressions.
-use super::{Counts, counts, p0};
+use super::support::{counts, p0};
 use arena_base::{Arena, BasePtr, InvalidationOption, P0};
 use std::alloc::Global;
 

@@ -30,7 +30,7 @@ const WORDS: &str =
     "{P0[1](2): \"test\", P0[2](2): \"hello\"} {\n    P0[1](2): \"test\",\n    P0[2](2): \"hello\",\n}";
 
 #[test]
-fn texts_of_an_arena(rt: HostRuntime) {
+fn an_arena_prints_as_a_map(rt: HostRuntime) {
     assert!(rt; is_text(text_of(rt.alloc(), &words(rt.alloc())), WORDS));
 }
 
@@ -42,7 +42,7 @@ fn text_of_pointers(alloc: Global) -> Option<String> {
 }
 
 #[test]
-fn texts_of_pointers(rt: HostRuntime) {
+fn pointers_print_their_index_and_generation(rt: HostRuntime) {
     let wanted = "P0[4294967295](1) Q0[7](3) P8[255](1) PN[1](())";
     assert!(rt; is_text(text_of_pointers(rt.alloc()), wanted));
 }
@@ -72,7 +72,7 @@ fn text_of_reductions(alloc: Global) -> Option<String> {
 }
 
 #[test]
-fn texts_of_refusals(rt: HostRuntime) {
+fn errors_print_their_reason(rt: HostRuntime) {
     let reallocations =
         "the capacity would go beyond its maximum, BeyondMaxCapacity; out of memory, AllocError";
     assert!(rt; is_text(text_of_reallocations(rt.alloc()), reallocations));

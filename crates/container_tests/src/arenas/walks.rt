@@ -1,49 +1,6 @@
-//! Walks by index and drains.
-use super::p0;
-use arena_base::{Advancer, Arena, InvalidationOption, P0};
-use std::alloc::Global;
-use std::mem;
-
-/// Returns entries with generation 2 at the indexes from 1 to 3, whose items are their indexes.
-fn three(alloc: Global) -> Arena<P0, u32> {
-    let mut arena: Arena<P0, u32> = Arena::new(alloc);
-    for item in 1..4u32 {
-        let _ = arena.insert_reallocating(item);
-    }
-    arena
-}
-
-/// How a drain ends.
-enum End {
-    Dropped,
-    Forgotten,
-    KeepsRest,
-}
-
-/// Takes one entry by a drain, and ends the drain. Returns what is left.
-fn left_by_drain(mut arena: Arena<P0, u32>, end: &End) -> Option<(usize, bool)> {
-    let mut drain = arena.drain();
-    let first = drain.next()?;
-    match end {
-        End::Dropped => drop(drain),
-        End::Forgotten => mem::forget(drain),
-        End::KeepsRest => drain.keep_rest(),
-    }
-    let is_right = first == InvalidationOption::Success((p0(1, 2), 1));
-    Some((arena.len(), is_right))
-}
-
-#[test]
-fn drains_are_dropped_and_forgotten_and_keep_the_rest(rt: HostRuntime) {
-    for (end, left) in &[
-        (End::Dropped, 0usize),
-        (End::Forgotten, 2),
-        (End::KeepsRest, 2),
-    ] {
-        let found = left_by_drain(three(rt.alloc()), end);
-        assert!(rt; found == Some((*left, true)));
-    }
-}
+//! Walks by index.
+use super::support::{p0, three};
+use arena_base::{Advancer, Arena, P0};
 
 /// Changes the arena before a step of both walks: two entries leave before the third step, and one comes before the last.
 fn come_and_go(arena: &mut Arena<P0, u32>, step: usize) {

@@ -1,5 +1,5 @@
 //! Calls in a row, with the result and the state after each.
-use super::{Entry, Letters, Place, insert, is_listed};
+use super::support::{Entry, Letters, Place, insert, is_listed};
 use arena_base::{BasePtr, InvalidationOption};
 
 /// A call on a chain of letters.
@@ -141,7 +141,7 @@ fn is_right(chain: &mut Letters, row: &Row) -> bool {
 }
 
 #[test]
-fn calls_give_and_leave(rt: HostRuntime) {
+fn each_call_gives_its_result_and_leaves_its_list(rt: HostRuntime) {
     let mut chain = Letters::with_min_capacity(rt.alloc(), 3).expect(&rt, "memory");
     for row in ROWS {
         assert!(rt; is_right(&mut chain, row));

@@ -1,5 +1,5 @@
 //! The amortized bound is exact: an insertion and a removal need their whole allowance.
-use super::{Keys, Place, places, potential, rank_changes, toggle};
+use super::support::{Keys, Place, places, potential, rank_changes, toggle};
 use std::alloc::Global;
 
 /// A key and its rank.
@@ -83,7 +83,7 @@ fn is_exact(alloc: Global, step: &Step) -> bool {
 }
 
 #[test]
-fn allowances_are_needed_whole(rt: HostRuntime) {
+fn a_step_can_need_its_whole_allowance(rt: HostRuntime) {
     assert!(rt; is_exact(rt.alloc(), &INSERTION));
     assert!(rt; is_exact(rt.alloc(), &REMOVAL));
 }

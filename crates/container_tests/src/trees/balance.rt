@@ -1,5 +1,5 @@
 //! Insertions, removals and moves in every order, compared with a plain vector.
-use super::{
+use super::support::{
     Keys, Place, index_of, moved, place_around, places, potential, rank_changes, steps, toggle,
 };
 use arena_base::ItemsMut;
@@ -184,7 +184,7 @@ fn agree_on_all(alloc: Global, keys: &[u8], mix: Mix) -> bool {
 }
 
 #[test]
-fn keeps_the_balance_in_every_order(rt: HostRuntime) {
+fn insertions_in_every_order_keep_the_balance(rt: HostRuntime) {
     let mut orders: usize = 1;
     for count in 1..=7u8 {
         orders = orders.saturating_mul(usize::from(count));
@@ -197,14 +197,14 @@ fn keeps_the_balance_in_every_order(rt: HostRuntime) {
 }
 
 #[test]
-fn inserts_and_removes_in_every_mix(rt: HostRuntime) {
+fn insertions_and_removals_in_every_mix_keep_the_balance(rt: HostRuntime) {
     for word in 0..78_125usize {
         assert!(rt; agree_on_all(rt.alloc(), &digits_of(word), Mix::Removals));
     }
 }
 
 #[test]
-fn moves_in_every_mix(rt: HostRuntime) {
+fn moves_in_every_mix_keep_the_balance(rt: HostRuntime) {
     for word in 0..78_125usize {
         assert!(rt; agree_on_all(rt.alloc(), &digits_of(word), Mix::Moves));
     }

@@ -1,5 +1,5 @@
 //! Refused memory, and calls that take none.
-use super::{Keys, Place, insert_at, place_of, places, toggle};
+use super::support::{Keys, Place, insert_at, place_of, places, toggle};
 use arena_base::{BasePtr, InsertionError, P0};
 use linked_list_allocator::LocalHeap;
 use std::alloc::Global;
@@ -37,7 +37,7 @@ fn inserted(alloc: Global, heap: &LocalHeap) -> Option<usize> {
 }
 
 #[test]
-fn keeps_all_where_memory_is_refused(rt: HostRuntime) {
+fn a_refused_growth_keeps_every_entry(rt: HostRuntime) {
     let mut is_met = [false; 10];
     for units in 1..120 {
         let heap = LocalHeap::new(rt.alloc(), 16 * units).expect(&rt, "a heap");
@@ -80,7 +80,7 @@ fn end_entries(alloc: Global, tree: &mut OnHeap) -> bool {
 }
 
 #[test]
-fn takes_no_memory_to_end_entries(rt: HostRuntime) {
+fn removals_invalidations_and_clear_take_no_memory(rt: HostRuntime) {
     let heap = LocalHeap::new(rt.alloc(), 4096).expect(&rt, "a heap");
     let mut tree = Keys::with_min_capacity(&heap, 3).expect(&rt, "memory");
     assert!(&rt; tree.reallocate_min_capacity(5).is_ok());

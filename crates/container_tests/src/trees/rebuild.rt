@@ -1,5 +1,5 @@
 //! Rebuilt trees, compared place by place with a recursive function of the length.
-use super::{Keys, Place, insert_at, places};
+use super::support::{Keys, Place, insert_at, places};
 use arena_base::{BasePtr, InvalidationOption, P0, ReallocationError};
 use std::alloc::{AllocError, Global};
 use std::cmp::Ordering;
@@ -91,7 +91,7 @@ fn rebuild(alloc: Global, tree: &mut Keys, len: u32) -> bool {
 }
 
 #[test]
-fn rebuilds_in_halves(rt: HostRuntime) {
+fn a_rebuilt_tree_divides_into_halves(rt: HostRuntime) {
     let powers = [
         511, 512, 513, 1023, 1024, 1025, 2047, 2048, 2049, 4095, 4096, 4097,
     ];
@@ -124,7 +124,7 @@ fn has_ranks(places: &[Place], wanted: &[u8]) -> bool {
 }
 
 #[test]
-fn ranks_after_a_rebuild(rt: HostRuntime) {
+fn a_rebuilt_tree_has_the_ranks_of_its_length(rt: HostRuntime) {
     for (len, ranks) in RANKS {
         let mut tree = Keys::new(rt.alloc());
         assert!(rt; rebuild(rt.alloc(), &mut tree, *len));
@@ -163,7 +163,7 @@ fn taken(
 }
 
 #[test]
-fn transfers_at_the_limit(rt: HostRuntime) {
+fn a_transfer_succeeds_exactly_within_the_maximum(rt: HostRuntime) {
     for len in 1..40u32 {
         let found = taken(rt.alloc(), len, len as usize);
         assert!(&rt; found == (Ok(()), len, 0, true));

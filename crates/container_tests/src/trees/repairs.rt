@@ -1,5 +1,5 @@
 //! Repairs by a table. Its rows were worked out independently of the code.
-use super::{Keys, Place, moved, places, toggle};
+use super::support::{Keys, Place, moved, places, toggle};
 use std::alloc::Global;
 
 /// A key, its rank and its parent's key; 0 for the root's parent.
@@ -366,14 +366,14 @@ fn is_repaired(alloc: Global, row: &Row) -> bool {
 }
 
 #[test]
-fn repairs_by_the_table(rt: HostRuntime) {
+fn insertions_are_repaired_by_the_table(rt: HostRuntime) {
     for row in INSERTIONS {
         assert!(rt; is_repaired(rt.alloc(), row));
     }
 }
 
 #[test]
-fn repairs_removals_by_the_table(rt: HostRuntime) {
+fn removals_are_repaired_by_the_table(rt: HostRuntime) {
     for row in REMOVALS {
         assert!(rt; is_repaired(rt.alloc(), row));
     }

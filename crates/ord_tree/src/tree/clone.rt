@@ -3,7 +3,7 @@
 ghost use Rattle.std.specs.Prelude.{◌≡◌, ◌<◌, ◌↔◌, ◌⊎◌, OnOk, OnErr};
 ghost use Rattle.chain_base.specs.Chain.{chain_limit, greatest_index};
 ghost use Rattle.chain_base.specs.Clone.{IsClone as IsClonedList};
-ghost use Rattle.arena_base.specs.Clone.{IsShown};
+ghost use Rattle.chain_base.specs.ArenaClone.{IsShown};
 ghost use Rattle.ord_tree.specs.Clone.{IsClone, IsRefusedClone, ShowsItem};
 
 use super::OrdTree;

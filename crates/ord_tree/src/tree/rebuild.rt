@@ -2,9 +2,9 @@
 
 ghost use Rattle.std.specs.Prelude.{◌≡◌, ◌<◌, ◌↔◌, OnOk, OnErr, length};
 ghost use Rattle.std.specs.Option.{option_map};
-ghost use Rattle.arena_base.specs.Compression.{compressed_generation, compression_overflows};
-ghost use Rattle.arena_base.specs.Generation.{IsLawfulGeneration};
-ghost use Rattle.arena_base.specs.Invalidation.{is_overflow};
+ghost use Rattle.chain_base.specs.ArenaCompression.{compressed_generation, compression_overflows};
+ghost use Rattle.chain_base.specs.Generation.{IsLawfulGeneration};
+ghost use Rattle.chain_base.specs.Invalidation.{is_overflow};
 ghost use Rattle.chain_base.specs.Chain.{chain_limit};
 ghost use Rattle.chain_base.specs.Compression.{canonical, relocated, IsCompression, IsTransfer};
 ghost use Rattle.ord_tree.specs.Shape.{missing};

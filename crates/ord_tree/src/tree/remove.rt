@@ -2,8 +2,8 @@
 
 ghost use Rattle.std.specs.Prelude.{◌≡◌, Some, OnSome, is_some};
 ghost use Rattle.std.specs.Option.{option_map};
-ghost use Rattle.arena_base.specs.Generation.{overflows_after};
-ghost use Rattle.arena_base.specs.Invalidation.{valid_value, IsRemoval, IsRenewal, allowed_value, is_overflow};
+ghost use Rattle.chain_base.specs.Generation.{overflows_after};
+ghost use Rattle.chain_base.specs.Invalidation.{valid_value, IsRemoval, IsRenewal, allowed_value, is_overflow};
 ghost use Rattle.chain_base.specs.Chain.{IsOccupied, entry_at, item_of, removed, renewed, cleared};
 ghost use Rattle.ord_tree.specs.Shape.{missing};
 ghost use Rattle.ord_tree.specs.Tree.{IsShrunk};

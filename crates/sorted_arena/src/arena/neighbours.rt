@@ -4,7 +4,7 @@ ghost use Rattle.std.specs.Prelude.{◌≡◌, ◌≢◌, IfSome, IfNone, IsSome
 ghost use Rattle.std.specs.List.{All};
 ghost use Rattle.std.specs.Option.{option_map};
 ghost use Rattle.std.specs.declared.cmp.Ordering.TheVariants.{Greater};
-ghost use Rattle.chain_base.specs.Chain.{first_pointer, last_pointer};
+ghost use Rattle.triple_ord.specs.Chain.{first_pointer, last_pointer};
 ghost use Rattle.sorted_arena.specs.Sorted.{pair_of, count, key_of, next_of, prev_of, IsSound};
 
 use super::SortedArena;

@@ -3,7 +3,7 @@
 ghost use Rattle.std.specs.Prelude.{◌≡◌, ◌≤◌, Some, IsSome};
 ghost use Rattle.std.specs.Option.{option_map};
 ghost use Rattle.std.specs.List.Retain.{IsFiltered};
-ghost use Rattle.chain_base.specs.Chain.{Entry};
+ghost use Rattle.triple_ord.specs.Chain.{Entry};
 ghost use Rattle.sorted_arena.specs.Answer.{AnswersFor};
 ghost use Rattle.sorted_arena.specs.Taking.{IsCutAt, AsksFor};
 ghost use Rattle.sorted_arena.specs.Sorted.{pair_of, count, with_rest, IsSound};

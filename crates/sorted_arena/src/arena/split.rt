@@ -2,7 +2,7 @@
 
 ghost use Rattle.std.specs.Prelude.{◌≡◌, ◌+◌, [], map, IfOk, IsOk, OnOk, OnErr};
 ghost use Rattle.std.specs.declared.ops.Bound.TheVariants.{Included, Excluded, Unbounded};
-ghost use Rattle.arena_base.specs.Generation.{first_generation};
+ghost use Rattle.triple_ord.specs.Generation.{first_generation};
 ghost use Rattle.sorted_arena.specs.Range.{entries_between};
 ghost use Rattle.sorted_arena.specs.Sorted.{count, item_of, with_rest};
 

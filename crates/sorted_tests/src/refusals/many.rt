@@ -1,6 +1,6 @@
 //! Calls that take or give many pairs, where memory is refused.
 use super::{OnHeap, leave, new_heap};
-use crate::beside::Numbers;
+use crate::support::Numbers;
 use linked_list_allocator::LocalHeap;
 use sorted_arena::SortedError;
 use std::alloc::Global;
@@ -87,7 +87,7 @@ fn refusals(alloc: Global) -> Option<[bool; 10]> {
 }
 
 #[test]
-fn pairs_before_a_refused_one_are_there_and_the_rest_follows_with_memory(rt: HostRuntime) {
+fn a_refused_extension_keeps_the_pairs_before_it_and_can_be_resumed(rt: HostRuntime) {
     let met = refusals(rt.alloc()).expect(&rt, "the right answers");
     assert_eq!(rt;
         met,

@@ -1,6 +1,6 @@
 //! Clones of an arena: the same pointers, in the same order and in a tree of the same shape.
 ghost use Rattle.std.specs.Prelude.{◌≡◌, ◌<◌, ◌↔◌, ◌⊎◌, IfOk, IsOk, OnOk};
-ghost use Rattle.chain_base.specs.Chain.{new_chain, chain_limit, greatest_index};
+ghost use Rattle.ord_tree.specs.Chain.{new_chain, chain_limit, greatest_index};
 ghost use Rattle.ord_tree.specs.Shape.{missing};
 ghost use Rattle.triple_ord.specs.Arena.{count, FindSame};
 ghost use Rattle.triple_ord.specs.Clone.{cloned, refused_clone, FindsFallible};

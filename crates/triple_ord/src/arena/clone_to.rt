@@ -1,9 +1,9 @@
 //! Clones of an arena into arenas of other kinds, with items made by a closure.
 ghost use Rattle.std.specs.Prelude.{◌≡◌, ◌<◌, ◌↔◌, OnOk, OnErr};
-ghost use Rattle.arena_base.specs.Arena.{HoldsSame, arena_capacity, arena_limit, greatest_occupied};
-ghost use Rattle.arena_base.specs.Clone.{IsClone, IsShown};
-ghost use Rattle.chain_base.specs.Chain.{chain_limit, greatest_index};
-ghost use Rattle.chain_base.specs.Clone.{IsClone as IsClonedList};
+ghost use Rattle.ord_tree.specs.PlainArena.{HoldsSame, arena_capacity, arena_limit, greatest_occupied};
+ghost use Rattle.ord_tree.specs.ArenaClone.{IsClone, IsShown};
+ghost use Rattle.ord_tree.specs.Chain.{chain_limit, greatest_index};
+ghost use Rattle.ord_tree.specs.ChainClone.{IsClone as IsClonedList};
 ghost use Rattle.ord_tree.specs.Clone.{ShowsItem};
 ghost use Rattle.triple_ord.specs.Content.{content_of};
 

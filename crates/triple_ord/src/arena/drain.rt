@@ -2,7 +2,7 @@
 ghost use Rattle.std.specs.Prelude.{◌≡◌, Some, IfSome, length};
 ghost use Rattle.std.specs.Iterator.{item_count, UpTo, YieldsFirstBy};
 ghost use Rattle.std.specs.Iterator.SizeHint.{IsWithinCount};
-ghost use Rattle.chain_base.specs.Chain.{cleared};
+ghost use Rattle.ord_tree.specs.Chain.{cleared};
 ghost use Rattle.ord_tree.specs.Shape.{missing};
 ghost use Rattle.triple_ord.specs.OrderedDrain.{ordered_drain_arena, ordered_drain_lender, ordered_drain_rest, OrderedDrainSteps};
 
@@ -80,7 +80,7 @@ pub struct CapacityDrain<P: BasePtr, T, A: Allocator = Global> {
 impl<P: BasePtr, T, A: Allocator> Model for CapacityDrain<P, T, A> {
     ghost use Rattle.std.specs.Prelude.{List};
     ghost use Rattle.std.specs.Coded.{coded_list};
-    ghost use Rattle.chain_base.specs.Chain.{Entry};
+    ghost use Rattle.ord_tree.specs.Chain.{Entry};
     ghost use Rattle.ord_tree.specs.Tree.{entry_code};
 
     ghost Value = { List (Entry T) };

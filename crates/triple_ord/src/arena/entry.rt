@@ -2,8 +2,8 @@
 ghost use Rattle.std.specs.Prelude.{◌≡◌, ◌+◌, ◌<◌, ◌↔◌, Some, IsSome, IsNone, IfOk, IfErr, IfSome, OnErr, is_some, if◌then◌else◌, length};
 ghost use Rattle.std.specs.Option.{option_map};
 ghost use Rattle.std.specs.Borrow.{sem};
-ghost use Rattle.chain_base.specs.Chain.{next_index};
-ghost use Rattle.chain_base.specs.Insert.{IsInsertion};
+ghost use Rattle.ord_tree.specs.Chain.{next_index};
+ghost use Rattle.ord_tree.specs.Insert.{IsInsertion};
 ghost use Rattle.ord_tree.specs.Tree.{CanPutAt, IsGrown, put_at};
 ghost use Rattle.triple_ord.specs.Arena.{item_of, count, Updates, FindSame};
 ghost use Rattle.triple_ord.specs.Entry.{InsertsThere, IsEntryFor};

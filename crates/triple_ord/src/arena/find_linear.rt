@@ -1,7 +1,7 @@
 //! Searches by key from a hint, which is an entry near which the key may be.
 ghost use Rattle.std.specs.Prelude.{◌≡◌, ℕ, IfSome, length, IfNone};
 ghost use Rattle.std.specs.Option.{option_map};
-ghost use Rattle.chain_base.specs.Chain.{entry_at, item_of};
+ghost use Rattle.ord_tree.specs.Chain.{entry_at, item_of};
 ghost use Rattle.triple_ord.specs.Hint.{AnswersNear, IsNearHint};
 ghost use Rattle.std.specs.declared.cmp.Ordering.TheVariants.{Equal};
 ghost use Rattle.triple_ord.specs.Arena.{FindsBy};

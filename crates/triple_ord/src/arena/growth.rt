@@ -1,7 +1,7 @@
 //! Creating an arena, and changing its capacity.
 ghost use Rattle.std.specs.Prelude.{◌≡◌, ◌+◌, ◌≤◌, ◌<◌, ◌↔◌, Some, Err, max, IsOk, IsErr, IfOk, OnOk, OnErr};
-ghost use Rattle.arena_base.specs.Arena.{capacity_for};
-ghost use Rattle.chain_base.specs.Chain.{new_chain, with_capacity, greatest_index, chain_limit};
+ghost use Rattle.ord_tree.specs.PlainArena.{capacity_for};
+ghost use Rattle.ord_tree.specs.Chain.{new_chain, with_capacity, greatest_index, chain_limit};
 ghost use Rattle.ord_tree.specs.Shape.{missing};
 ghost use Rattle.triple_ord.specs.Arena.{count, with_room_for, FindSame};
 

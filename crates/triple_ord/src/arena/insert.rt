@@ -2,9 +2,9 @@
 ghost use Rattle.std.specs.Prelude.{◌≡◌, ◌≢◌, ◌+◌, ℕ, Ok, Some, None, IfOk, OnOk, IfErr, OnErr, is_some, if◌then◌else◌};
 ghost use Rattle.std.specs.Option.{option_map};
 ghost use Rattle.std.specs.declared.cmp.Ordering.TheVariants.{Equal};
-ghost use Rattle.chain_base.specs.Chain.{IsOccupied};
+ghost use Rattle.ord_tree.specs.Chain.{IsOccupied};
 ghost use Rattle.triple_ord.specs.Arena.{item_of, entry_at, count, Updates};
-ghost use Rattle.chain_base.specs.Insert.{IsInsertion};
+ghost use Rattle.ord_tree.specs.Insert.{IsInsertion};
 ghost use Rattle.ord_tree.specs.Tree.{CanPutAt, IsGrown, put_at};
 ghost use Rattle.triple_ord.specs.Insertion.{reallocating, with_room_by, LacksSlot, Inserts, InsertsWithin, InsertsBeside};
 

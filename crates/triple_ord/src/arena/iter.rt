@@ -22,7 +22,7 @@ impl<'a, P: BasePtr, T, A: Allocator> Model for Iter<'a, P, T, A> {
     ghost use Rattle.std.specs.Prelude.{List};
     ghost use Rattle.std.specs.Option.{option_map};
     ghost use Rattle.std.specs.Coded.{coded_list};
-    ghost use Rattle.chain_base.specs.Chain.{Entry};
+    ghost use Rattle.ord_tree.specs.Chain.{Entry};
     ghost use Rattle.ord_tree.specs.Tree.{entry_code};
 
     ghost Value = { List (Entry T) };

@@ -1,7 +1,7 @@
 //! The ends of the list, and the neighbours of an entry in the list and in the tree.
 ghost use Rattle.std.specs.Prelude.{◌≡◌, ◌↔◌, IfSome, IsNone};
 ghost use Rattle.std.specs.Option.{option_map};
-ghost use Rattle.chain_base.specs.Chain.{link_at, first_pointer, last_pointer};
+ghost use Rattle.ord_tree.specs.Chain.{link_at, first_pointer, last_pointer};
 ghost use Rattle.triple_ord.specs.Arena.{count};
 ghost use Rattle.triple_ord.specs.Node.{IsNodeIn};
 

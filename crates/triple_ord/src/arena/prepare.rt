@@ -1,8 +1,8 @@
 //! What an entry of an insertion needs: the place with its pointer and its slot, and the insertion there.
 ghost use Rattle.std.specs.Prelude.{◌≡◌, ◌+◌, Some, IsSome, IfOk, OnOk, IfErr, IfSome, OnErr, is_some, if◌then◌else◌};
 ghost use Rattle.std.specs.Option.{option_map};
-ghost use Rattle.chain_base.specs.Chain.{next_index, IsOccupied};
-ghost use Rattle.chain_base.specs.Insert.{IsInsertion};
+ghost use Rattle.ord_tree.specs.Chain.{next_index, IsOccupied};
+ghost use Rattle.ord_tree.specs.Insert.{IsInsertion};
 ghost use Rattle.ord_tree.specs.Tree.{IsGrown, put_at, with_item};
 ghost use Rattle.triple_ord.specs.Arena.{item_of, entry_at, count, Updates, FindSame};
 ghost use Rattle.triple_ord.specs.Entry.{InsertsThere, IsEntryFor};

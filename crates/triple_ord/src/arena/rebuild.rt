@@ -1,11 +1,11 @@
 //! Moving all entries to the least indexes, or over from another arena. Afterwards the tree is rebuilt: no search visits more entries
 //! than their number has binary digits.
 ghost use Rattle.std.specs.Prelude.{◌≡◌, ◌<◌, ◌↔◌, OnOk, OnErr, map};
-ghost use Rattle.arena_base.specs.Compression.{compressed_generation, compression_overflows};
-ghost use Rattle.arena_base.specs.Generation.{IsLawfulGeneration};
-ghost use Rattle.arena_base.specs.Invalidation.{is_overflow};
-ghost use Rattle.chain_base.specs.Chain.{chain_limit};
-ghost use Rattle.chain_base.specs.Compression.{canonical, relocated, IsCompression, IsTransfer};
+ghost use Rattle.ord_tree.specs.ArenaCompression.{compressed_generation, compression_overflows};
+ghost use Rattle.ord_tree.specs.Generation.{IsLawfulGeneration};
+ghost use Rattle.ord_tree.specs.Invalidation.{is_overflow};
+ghost use Rattle.ord_tree.specs.Chain.{chain_limit};
+ghost use Rattle.ord_tree.specs.ChainCompression.{canonical, relocated, IsCompression, IsTransfer};
 ghost use Rattle.ord_tree.specs.Half.{IsRebuilt};
 ghost use Rattle.ord_tree.specs.Shape.{missing};
 ghost use Rattle.triple_ord.specs.Arena.{items, count, IsOfGeneration, IsNumbered, FindsNothing};

@@ -3,8 +3,8 @@ ghost use Rattle.std.specs.Prelude.{◌≡◌, ◌≢◌, ◌↔◌, ◌⊎◌, 
 ghost use Rattle.std.specs.Bool.{OnFalse};
 ghost use Rattle.std.specs.declared.cmp.Ordering.TheVariants.{Equal};
 ghost use Rattle.std.specs.Option.{option_map};
-ghost use Rattle.chain_base.specs.Chain.{IsOccupied};
-ghost use Rattle.chain_base.specs.Move.{with_entry_moved, without_entry};
+ghost use Rattle.ord_tree.specs.Chain.{IsOccupied};
+ghost use Rattle.ord_tree.specs.ChainMove.{with_entry_moved, without_entry};
 ghost use Rattle.ord_tree.specs.Move.{IsRearranged};
 ghost use Rattle.ord_tree.specs.Tree.{CanPutAt, put_on, with_item};
 ghost use Rattle.triple_ord.specs.Arena.{item_of, entry_at, count, Updates, FindSame};

@@ -1,9 +1,9 @@
 //! Removing entries and invalidating pointers. None of these calls takes memory.
 ghost use Rattle.std.specs.Prelude.{◌≡◌, ◌+◌, None, IfSome, OnSome, is_some};
 ghost use Rattle.std.specs.Option.{option_map};
-ghost use Rattle.arena_base.specs.Generation.{overflows_after};
-ghost use Rattle.arena_base.specs.Invalidation.{valid_value, has_overflowed, is_overflow, IsRemoval, IsRenewal};
-ghost use Rattle.chain_base.specs.Chain.{removed, renewed, cleared};
+ghost use Rattle.ord_tree.specs.Generation.{overflows_after};
+ghost use Rattle.ord_tree.specs.Invalidation.{valid_value, has_overflowed, is_overflow, IsRemoval, IsRenewal};
+ghost use Rattle.ord_tree.specs.Chain.{removed, renewed, cleared};
 ghost use Rattle.ord_tree.specs.Shape.{missing};
 ghost use Rattle.ord_tree.specs.Tree.{IsShrunk};
 ghost use Rattle.triple_ord.specs.Arena.{item_of, entry_at, count, Updates, Renews, FindsNothing};

@@ -1,8 +1,8 @@
 //! Draining an arena in index order.
 ghost use Rattle.std.specs.Prelude.{◌≡◌};
 ghost use Rattle.std.specs.Iterator.{item_count};
-ghost use Rattle.arena_base.specs.Walk.{pointers};
-ghost use Rattle.chain_base.specs.Chain.{cleared};
+ghost use Rattle.ord_tree.specs.ArenaWalk.{pointers};
+ghost use Rattle.ord_tree.specs.Chain.{cleared};
 ghost use Rattle.ord_tree.specs.Shape.{missing};
 ghost use Rattle.triple_ord.specs.Content.{content_of};
 ghost use Rattle.triple_ord.specs.SlotDrain.{drain_arena, drain_lender, drain_rest, DrainSteps};

@@ -1,7 +1,7 @@
 //! Walking through the entries in index order.
 ghost use Rattle.std.specs.Prelude.{◌≡◌, ◌↔◌, true, false, if◌then◌else◌, IfSome, IsNone};
-ghost use Rattle.arena_base.specs.Walk.{pointers, rising_from, falling_from, rising_walk, falling_walk, walk_rest, HasEnded};
-ghost use Rattle.chain_base.specs.Chain.{IsFirstIndex, IsLastIndex};
+ghost use Rattle.ord_tree.specs.ArenaWalk.{pointers, rising_from, falling_from, rising_walk, falling_walk, walk_rest, HasEnded};
+ghost use Rattle.ord_tree.specs.Chain.{IsFirstIndex, IsLastIndex};
 ghost use Rattle.triple_ord.specs.Arena.{count};
 ghost use Rattle.triple_ord.specs.Content.{content_of};
 ghost use Rattle.triple_ord.specs.SlotWalk.{SlotWalkSteps};

@@ -88,7 +88,7 @@ fn each_way_holds(rt: &impl Abort, alloc: Global, n: u64, number: u64) {
 }
 
 #[test]
-fn every_call_in_every_order(rt: HostRuntime) {
+fn every_call_has_an_allowed_effect_in_every_order(rt: HostRuntime) {
     for n in 0u64..=6 {
         for number in 0..ORDERS[n as usize % 7] {
             each_way_holds(&rt, rt.alloc(), n, number);

@@ -77,7 +77,7 @@ const SOUGHT: [(u64, u8, Ordering, u128); 7] = [
 ];
 
 #[test]
-fn keys_find_pointers(rt: HostRuntime) {
+fn a_deadline_finds_its_pointer_or_a_neighbour(rt: HostRuntime) {
     let a = five(rt.alloc());
     for (deadline, index, order, visits) in &SOUGHT {
         let p = at(*index);
@@ -113,7 +113,7 @@ fn neighbours_of(a: &Jobs, i: u8) -> Option<(u64, Option<u8>, Option<u8>)> {
 }
 
 #[test]
-fn pointers_find_items(rt: HostRuntime) {
+fn a_pointer_finds_its_item(rt: HostRuntime) {
     let a = five(rt.alloc());
     for (index, deadline) in &[(5u8, 10u64), (2, 30), (1, 50), (4, 60), (3, 70)] {
         let p = at(*index);
@@ -152,7 +152,7 @@ fn taken_at_index(a: &mut Jobs, i: u8) -> Option<(u8, u64)> {
 }
 
 #[test]
-fn each_call_answers(rt: HostRuntime) {
+fn a_pointer_reads_what_each_call_writes(rt: HostRuntime) {
     let mut a = five(rt.alloc());
     let p = at(4);
     assert!(rt; put(&mut a, 60, 8) == Some((p, 6)) && mark_of(&a, p) == 8);

@@ -1,10 +1,9 @@
 //! Groups of entries with equal keys, compared with a plain vector.
+use super::support::Marks;
 use arena_base::{BasePtr, P0};
 use std::alloc::Global;
 use std::cmp::Ordering;
-use triple_ord::{OrdInsertKind, OrdPair, SimpleOrdArena};
-
-type Marks = SimpleOrdArena<P0, OrdPair<u64, u64>>;
+use triple_ord::{OrdInsertKind, OrdPair};
 
 /// An arena and the vector of its pairs of key and mark.
 #[derive(Drop)]
@@ -145,7 +144,7 @@ fn goes_behind(beside: &mut Beside, kind: OrdInsertKind<P0, &u64>) -> bool {
 
 /// Groups of up to six entries, between up to two smaller and up to two greater ones.
 #[test]
-fn groups_of_every_size(rt: HostRuntime) {
+fn the_first_of_equal_keys_is_found_and_replaced(rt: HostRuntime) {
     for number in 0..54usize {
         let mut beside = group(rt.alloc(), number);
         assert!(rt; beside.arena.len() == number / 9 + 1 + number / 3 % 3 + number % 3);
@@ -165,7 +164,7 @@ fn goes_by_hint(alloc: Global, number: usize, p_init: u32) -> bool {
 }
 
 #[test]
-fn groups_from_hints(rt: HostRuntime) {
+fn insertions_from_hints_replace_the_first_or_go_behind_the_last(rt: HostRuntime) {
     for number in 0..54usize {
         for p_init in 0u32..12 {
             assert!(rt; goes_by_hint(rt.alloc(), number, p_init));

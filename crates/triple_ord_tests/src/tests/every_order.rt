@@ -1,7 +1,6 @@
 //! Insertions and removals in every order of up to five keys, and in some orders of six, compared with a plain vector of the removed
 //! keys.
-use super::removal::remove_key;
-use super::{Keys, keys, rank_at};
+use super::support::{Keys, keys, rank_at, remove_key};
 use arena_base::BasePtr;
 use std::alloc::Global;
 
@@ -110,7 +109,7 @@ const ORDERS: [(u64, u64, u64); 6] = [
 ];
 
 #[test]
-fn every_order(rt: HostRuntime) {
+fn insertions_and_removals_in_every_order_keep_the_rules(rt: HostRuntime) {
     for (n, orders, stride) in &ORDERS {
         assert!(rt; every_so_many(rt.alloc(), *n, *orders, *stride));
     }

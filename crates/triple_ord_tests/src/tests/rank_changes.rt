@@ -1,5 +1,5 @@
 //! The amortized bound over a long random run, and the bounds on new parents. Ranks and parents are read from the outside at each step.
-use super::Keys;
+use super::support::Keys;
 use std::alloc::Global;
 use triple_ord::OrdPair;
 

@@ -1,8 +1,8 @@
 //! Compressions, the canonical order and transfers.
-use super::{Keys, at, has_keys, has_ranks, keys};
+use super::support::{Keys, SmallKeys, at, has_ranks, keys};
 use arena_base::{BasePtr, InvalidationOption, P0, P8};
 use std::alloc::Global;
-use triple_ord::{OrdPair, SimpleOrdArena};
+use triple_ord::OrdPair;
 
 /// Compresses an arena by a closure that keeps each item. Returns how often it is called.
 fn calls_of_a_compression(a: &mut Keys) -> u64 {
@@ -23,7 +23,7 @@ fn a_compression_shows_each_entry(rt: HostRuntime) {
 }
 
 #[test]
-fn ranks_of_three_keys(rt: HostRuntime) {
+fn the_canonical_order_numbers_the_entries_by_position(rt: HostRuntime) {
     let mut three = keys(rt.alloc(), &[2, 1, 3]);
     three.compress_canonical(false).allow();
     assert!(rt; has_ranks(&three, &[(1, 1), (2, 3), (3, 1)]));
@@ -34,46 +34,11 @@ fn ranks_of_three_keys(rt: HostRuntime) {
 const SEVEN: [(u32, u8); 7] = [(1, 1), (2, 3), (3, 1), (4, 4), (5, 1), (6, 3), (7, 1)];
 
 #[test]
-fn ranks_of_seven_keys(rt: HostRuntime) {
+fn a_compression_of_seven_keys_gives_a_complete_tree(rt: HostRuntime) {
     let mut seven = keys(rt.alloc(), &[1, 2, 3, 4, 5, 6, 7]);
     seven.compress(true).allow();
     assert!(rt; has_ranks(&seven, SEVEN.as_slice()));
 }
-
-/// Appends keys, each with a value that says nothing. Answers how many came back.
-fn appended(a: &mut Keys, alloc: Global, list: &[u64]) -> usize {
-    let mut pairs = Vec::new(alloc);
-    for key in list {
-        let _ = pairs.push((*key, ()));
-    }
-    match a.append_pairs_within_capacity(pairs) {
-        Ok(()) => 0,
-        Err(given) => given.len(),
-    }
-}
-
-#[test]
-fn four_keys_behind_three(rt: HostRuntime) {
-    let mut a = keys(rt.alloc(), &[1, 2, 9, 3]);
-    let _ = a.remove(at(3));
-    assert!(rt; appended(&mut a, rt.alloc(), &[4, 5]) == 2 && has_keys(&a, &[1, 2, 3]));
-    let _ = a.reallocate_min_capacity(7);
-    // the freed slot first, then those that were never used; the generation rose once
-    assert!(rt; appended(&mut a, rt.alloc(), &[4, 5, 6, 7]) == 0);
-    assert!(rt;
-        has_ranks(
-            &a,
-            &[(1, 1), (2, 3), (4, 1), (3, 4), (5, 1), (6, 3), (7, 1)]
-        )
-    );
-    assert!(rt; a.find_key(&4) == Some(P0::_from_raw(3, 3)) && a.find_key(&2) == Some(at(2)));
-    // none: the tree stays as it is
-    assert!(rt; appended(&mut a, rt.alloc(), &[]) == 0 && a.len() == 7);
-    assert!(rt; appended(&mut a, rt.alloc(), &[8]) == 1 && a.len() == 7);
-}
-
-/// Keys with 8-bit pointers, which name 254 entries.
-type SmallKeys = SimpleOrdArena<P8, OrdPair<u64, ()>>;
 
 /// Transfers the keys from 1 to `len` to 8-bit pointers, with generation 255, the greatest one.
 fn shrunk(alloc: Global, len: u64) -> SmallKeys {
@@ -109,7 +74,7 @@ fn compressed(a: &mut SmallKeys, is_canonical: bool, reset: bool) -> Invalidatio
 
 /// The generation overflows, which is reported unless it is reset.
 #[test]
-fn compressions_overflow(rt: HostRuntime) {
+fn a_compression_reports_an_overflow_unless_it_resets(rt: HostRuntime) {
     let mut a = shrunk(rt.alloc(), 1);
     for (is_canonical, reset) in &[(false, false), (true, false), (false, true)] {
         let told = compressed(&mut a, *is_canonical, *reset);

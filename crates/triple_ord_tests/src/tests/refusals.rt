@@ -2,79 +2,20 @@
 mod clones;
 mod entries;
 mod growths;
+mod support;
 
 use linked_list_allocator::LocalHeap;
 use std::alloc::Global;
-use std::fmt::{Debug, Write};
 use std::process::Abort;
-use triple_ord::{BasePtr, OrdInsertionError, OrdPair, P0, SimpleOrdArena};
-
-/// An arena on a heap.
-type OnHeap<'h, T> = SimpleOrdArena<P0, T, &'h LocalHeap>;
+use support::{OnHeap, leave, new_heap};
+use triple_ord::{BasePtr, OrdInsertionError, OrdPair};
 
 /// Keys on a heap, each with a number.
 type Numbers<'h> = OnHeap<'h, OrdPair<u64, u64>>;
 
-/// A heap with enough room for a whole test.
-fn new_heap(rt: &impl Abort, alloc: Global) -> LocalHeap {
-    LocalHeap::new(alloc, 1 << 14).expect(rt, "a heap")
-}
-
-/// A block that takes all the room of a heap except `units` units of 16 bytes. The heap's room is in one piece.
-fn leave<'h>(rt: &impl Abort, heap: &'h LocalHeap, units: usize) -> Vec<u8, &'h LocalHeap> {
-    let room = heap.free().saturating_sub(units.saturating_mul(16));
-    Vec::with_capacity(heap, room).expect(rt, "room")
-}
-
-/// The rank of the node at an index.
-fn rank_at<T>(a: &OnHeap<T>, index: u32) -> u8 {
-    match a.get_inx_node(index) {
-        Some((_, node)) => node.t.rank,
-        None => 0,
-    }
-}
-
-/// An arena's counts: length, capacity, maximum and generation.
-type Counts = (usize, usize, Option<usize>, u64);
-
-/// The counts of an arena.
-fn counts<T>(a: &OnHeap<T>) -> Counts {
-    (a.len(), a.capacity(), a.max_capacity(), a.generation())
-}
-
-/// These counts as text.
-fn text_of(rt: &impl Abort, alloc: Global, counts: Counts) -> String {
-    format!(in alloc; "{counts:?}").expect(rt, "memory")
-}
-
-/// Writes an entry with the rank of its node.
-fn write_entry<T: Debug>(rt: &impl Abort, text: &mut String, p: P0, item: &T, rank: u8) {
-    write!(text, " {p:?}={item:?}:{rank}").expect(rt, "memory");
-}
-
-/// Everything visible of an arena: its counts, and the entries in order, each with the rank of its node.
-fn look<T: Debug>(rt: &impl Abort, alloc: Global, a: &OnHeap<T>) -> String {
-    let mut text = text_of(rt, alloc, counts(a));
-    for (p, item) in a {
-        write_entry(rt, &mut text, p, item, rank_at(a, p.inx()));
-    }
-    text
-}
-
 /// The first text if this is so, else the second.
 fn text_if(is_so: bool, first: &'static str, second: &'static str) -> &'static str {
     if is_so { first } else { second }
-}
-
-/// Whether two texts are equal.
-fn is_same(now: &str, text: &str) -> bool {
-    now == text
-}
-
-/// Asserts that the arena looks like this.
-fn looks_like<T: Debug>(rt: &impl Abort, alloc: Global, a: &OnHeap<T>, text: &str) {
-    let now = look(rt, alloc, a);
-    assert!(rt; is_same(now.as_str(), text));
 }
 
 /// The key inserted at a turn. The keys below 20 each come once, not in their order.
@@ -190,7 +131,7 @@ fn each_request_of(rt: &impl Abort, alloc: Global, call: Call) {
 }
 
 #[test]
-fn each_request_of_a_call(rt: HostRuntime) {
+fn a_call_without_memory_changes_nothing_and_succeeds_with_it(rt: HostRuntime) {
     each_request_of(&rt, rt.alloc(), Call::Insertions);
     each_request_of(&rt, rt.alloc(), Call::Reserve);
     each_request_of(&rt, rt.alloc(), Call::Transfer);

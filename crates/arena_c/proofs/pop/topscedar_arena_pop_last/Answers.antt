@@ -1,5 +1,5 @@
 use Rattle.std.proofs.Common.{◌≡◌, ◌∙◌, ap, subst, OnSome, IfNone}
-use Rattle.chain_base.specs.Chain.{IsDistinct, last_pointer}
+use Rattle.sorted_arena.specs.Chain.{IsDistinct, last_pointer}
 use Rattle.sorted_arena.specs.Sorted.{with_left, before_last, last_item}
 use Rattle.arena_c.specs.Shown.{Arena, entry_found, greatest}
 use Rattle.arena_c.proofs.Answers.{changes, found-at, popped-last}

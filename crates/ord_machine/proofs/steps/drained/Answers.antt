@@ -1,8 +1,8 @@
 use Rattle.std.proofs.Common.{◌≡◌, ◌<◌, ◌++◌, ◌∷◌, [], length, min, map, take, refl, sym, ap, ◌∙◌, arith, rules}
 use Rattle.std.proofs.{lemmas.Grind.common_steps, lemmas.List.length-map}
-use Rattle.arena_base.specs.Invalidation.{allowed_value}
-use Rattle.chain_base.specs.Chain.{cleared}
-use Rattle.ord_tree.specs.Shape.{missing}
+use Rattle.triple_ord.specs.Invalidation.{allowed_value}
+use Rattle.triple_ord.specs.Chain.{cleared}
+use Rattle.triple_ord.specs.Shape.{missing}
 use Rattle.ord_machine.specs.Machine.{entry_of, removed_each}
 use Rattle.ord_machine.proofs.Draining.{cut_drained, taken_drained, first_are, next_there}
 use Rattle.ord_machine.proofs.steps.drained.Goals as goal

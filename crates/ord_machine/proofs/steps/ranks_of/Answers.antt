@@ -1,5 +1,5 @@
 use Rattle.std.proofs.Common.{◌≡◌, [], ◌∷◌, ◌++◌}
-use Rattle.ord_tree.specs.Ranks.{HasRank}
+use Rattle.triple_ord.specs.Ranks.{HasRank}
 use Rattle.ord_machine.proofs.{Ranking.link_next, Ranking.HaveRanks-more, Lists.cut_more}
 use Rattle.ord_machine.proofs.steps.ranks_of.Goals as goal
 

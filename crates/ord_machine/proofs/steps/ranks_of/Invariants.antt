@@ -1,5 +1,5 @@
 use Rattle.std.proofs.Common.{◌≡◌, List, ◌++◌}
-use Rattle.chain_base.specs.Chain.{Entry}
+use Rattle.triple_ord.specs.Chain.{Entry}
 use Rattle.ord_machine.specs.Machine.{HaveRanks}
 use Rattle.ord_machine.proofs.steps.ranks_of.Given as goal
 

@@ -1,5 +1,5 @@
 use Rattle.std.proofs.Common.{arith, ap}
-use Rattle.ord_tree.specs.Shape.{size_of, height}
+use Rattle.triple_ord.specs.Shape.{size_of, height}
 use Rattle.tree_picture.proofs.LinkedParts.{size-listed, size-part, height-part, max-fits}
 use Rattle.tree_picture.proofs.below.+extent_below.Goals as goal
 

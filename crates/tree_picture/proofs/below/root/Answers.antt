@@ -1,5 +1,5 @@
 use Rattle.std.proofs.Common.{◌++◌, ◌∷◌, [], sym, ap, ◌∙◌, append-nil}
-use Rattle.chain_base.specs.Chain.{times}
+use Rattle.triple_ord.specs.Chain.{times}
 use Rattle.tree_picture.proofs.LinkedParts.{none-more, rootless}
 use Rattle.tree_picture.proofs.Listing.{cut_more}
 use Rattle.tree_picture.proofs.below.root.Goals as goal

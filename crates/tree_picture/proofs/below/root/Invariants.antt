@@ -1,6 +1,6 @@
 use Rattle.std.proofs.Common.{◌≡◌, ℕ, List, ◌++◌, Some}
-use Rattle.chain_base.specs.Chain.{Entry, times}
-use Rattle.ord_tree.specs.Shape.{root_of}
+use Rattle.triple_ord.specs.Chain.{Entry, times}
+use Rattle.triple_ord.specs.Shape.{root_of}
 use Rattle.tree_picture.proofs.below.root.Given as goal
 
 -- none of the entries so far is the root

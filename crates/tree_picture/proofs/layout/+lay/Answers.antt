@@ -1,5 +1,5 @@
 use Rattle.std.proofs.Common.{◌≡◌, ◌+◌, option_map, length, ap, arith, rules}
-use Rattle.ord_tree.specs.Shape.{rank_of, size_of, height}
+use Rattle.triple_ord.specs.Shape.{rank_of, size_of, height}
 use Rattle.tree_picture.specs.{Below.part_below, Layout.kind_of}
 use Rattle.tree_picture.proofs.Laying.{laid-node, length-node, on_ok}
 use Rattle.tree_picture.proofs.layout.+lay.Goals as goal

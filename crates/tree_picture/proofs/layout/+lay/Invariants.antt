@@ -1,5 +1,5 @@
 use Rattle.std.proofs.Common.{option_map}
-use Rattle.ord_tree.specs.Shape.{height}
+use Rattle.triple_ord.specs.Shape.{height}
 use Rattle.tree_picture.specs.Below.{part_below}
 use Rattle.tree_picture.proofs.layout.+lay.Given as goal
 

@@ -1,5 +1,5 @@
 use Rattle.std.proofs.Common.{◌≡◌, List, ◌++◌, map, length, take, string_bytes}
-use Rattle.chain_base.specs.Chain.{Entry}
+use Rattle.triple_ord.specs.Chain.{Entry}
 use Rattle.triple_ord.specs.Search.{pointer}
 use Rattle.tree_picture.specs.Text.{ShowEach}
 use Rattle.tree_picture.proofs.layout.nodes_at.Given as goal

@@ -1,5 +1,5 @@
 use Rattle.std.proofs.Common.{None, length, arith, ap, ◌∙◌}
-use Rattle.ord_tree.specs.Shape.{height}
+use Rattle.triple_ord.specs.Shape.{height}
 use Rattle.triple_ord.specs.Search.{pointer}
 use Rattle.tree_picture.specs.Below.{part_below}
 use Rattle.tree_picture.proofs.LayoutLaws.{length-laid}

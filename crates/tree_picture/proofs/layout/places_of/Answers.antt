@@ -1,5 +1,5 @@
 use Rattle.std.proofs.Common.{arith}
-use Rattle.ord_tree.proofs.CallerLemmas.{height-le-size}
+use Rattle.triple_ord.proofs.TreeLemmas.{height-le-size}
 use Rattle.tree_picture.proofs.LinkedParts.{size-listed}
 use Rattle.tree_picture.proofs.Parts.{whole-found}
 use Rattle.tree_picture.proofs.layout.places_of.Goals as goal

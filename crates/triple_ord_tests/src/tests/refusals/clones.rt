@@ -1,7 +1,7 @@
 //! Clones of items that own text, into all kinds of receivers.
 ghost use Rattle.std.specs.Prelude.{◌≡◌};
 
-use super::{OnHeap, leave, look, looks_like, new_heap};
+use super::support::{OnHeap, leave, look, looks_like, new_heap};
 use linked_list_allocator::LocalHeap;
 use std::alloc::{AllocError, Global};
 use std::marker::Model;
@@ -330,7 +330,7 @@ fn each_request_on(rt: &impl Abort, alloc: Global, heap: &LocalHeap) {
 }
 
 #[test]
-fn each_request_of_a_clone(rt: HostRuntime) {
+fn a_failed_clone_leaves_its_receiver_unchanged_or_empty(rt: HostRuntime) {
     let heap = new_heap(&rt, rt.alloc());
     each_request_on(&rt, rt.alloc(), &heap);
 }

@@ -1,5 +1,6 @@
 //! Entries of a full arena.
-use super::{Call, Numbers, looks_like, text_if};
+use super::support::looks_like;
+use super::{Call, Numbers, text_if};
 use linked_list_allocator::LocalHeap;
 use std::alloc::Global;
 use std::process::Abort;

@@ -1,5 +1,6 @@
 //! Growing by twenty insertions, by a reservation, and by a transfer.
-use super::{FULL, Numbers, is_put, look, looks_like, text_if};
+use super::support::{look, looks_like};
+use super::{FULL, Numbers, is_put, text_if};
 use linked_list_allocator::LocalHeap;
 use std::alloc::Global;
 use std::process::Abort;

@@ -1,5 +1,5 @@
 use Rattle.std.proofs.Common.{◌∙◌, ◌+◌, refl, sym, ap, subst, drop, arith}
-use Rattle.chain_base.specs.Chain.{IsDistinct, first_pointer, from_index}
+use Rattle.sorted_arena.specs.Chain.{IsDistinct, first_pointer, from_index}
 use Rattle.sorted_arena.specs.Sorted.{next_of}
 use Rattle.arena_c.specs.Shown.{Arena, entry_found, shown_entry}
 use Rattle.arena_c.proofs.Answers.{own-numbers}

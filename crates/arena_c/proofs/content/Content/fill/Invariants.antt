@@ -1,5 +1,5 @@
 use Rattle.std.proofs.Common.{◌≡◌, ◌≤◌, ◌++◌, map, length, take, drop}
-use Rattle.chain_base.specs.Chain.{first_pointer, from_index}
+use Rattle.sorted_arena.specs.Chain.{first_pointer, from_index}
 use Rattle.arena_c.specs.Shown.{shown_entry}
 use Rattle.arena_c.proofs.content.Content.fill.Given as goal
 

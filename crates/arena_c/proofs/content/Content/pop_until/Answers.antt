@@ -1,6 +1,6 @@
 use Rattle.std.proofs.Common.{◌≡◌, ◌∙◌, ◌+◌, ◌++◌, ◌∷◌, [], refl, sym, ap, Some, List, ℤ, ℕ, take, drop, append_assoc, arith, w64, to_z, of_z}
 use Rattle.std.specs.Ordering.{int_cmp}
-use Rattle.chain_base.specs.Chain.{Entry, first_pointer}
+use Rattle.sorted_arena.specs.Chain.{Entry, first_pointer}
 use Rattle.sorted_arena.specs.Sorted.{behind_first, entries_until, first_item_until}
 use Rattle.arena_c.specs.Shown.{Arena, entry_found, shown_entry}
 use Rattle.arena_c.proofs.Answers.{found-at}

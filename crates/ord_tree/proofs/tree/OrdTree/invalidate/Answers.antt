@@ -1,5 +1,5 @@
 use Rattle.std.proofs.{Common.◌∙◌, Common.arith, Common.sym, Common.option_map, lemmas.Grind.common_steps}
-use Rattle.arena_base.specs.Invalidation.{valid_value}
+use Rattle.chain_base.specs.Invalidation.{valid_value}
 use Rattle.ord_tree.proofs.Renewed.{item_of-bare, call_laid_out, call_renewed}
 use Rattle.ord_tree.proofs.tree.OrdTree.invalidate.Goals as goal
 

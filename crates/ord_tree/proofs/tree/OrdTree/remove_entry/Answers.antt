@@ -1,5 +1,5 @@
 use Rattle.std.proofs.Common.{◌∙◌, sym, rules, option_map}
-use Rattle.arena_base.specs.Invalidation.{allowed_value}
+use Rattle.chain_base.specs.Invalidation.{allowed_value}
 use Rattle.ord_tree.proofs.{Shrunk.detachable, Shrunk.still_there, Shrunk.removal, Trees.is_some-bare}
 use Rattle.ord_tree.proofs.tree.OrdTree.remove_entry.Goals as goal
 

@@ -1,6 +1,6 @@
 use Rattle.std.proofs.Common.{◌∙◌, sym, ap, subst, ℕ, None, is_some}
 use Rattle.std.specs.Option.{option_map}
-use Rattle.chain_base.specs.Chain.{IsDistinct}
+use Rattle.sorted_arena.specs.Chain.{IsDistinct}
 use Rattle.sorted_arena.specs.Sorted.{Sorted}
 use Rattle.order_queue.specs.{Layout.IsLawful, declared.order.Lot.Lot}
 use Rattle.order_queue.proofs.Naming.{order_under, order_of-found, queue-without, recursion-without, updates-found}

@@ -1,5 +1,5 @@
 use Rattle.std.proofs.Common.{◌≡◌, ◌∙◌, ◌+◌, [], List, map, ap, arith}
-use Rattle.chain_base.specs.Chain.{Entry}
+use Rattle.triple_ord.specs.Chain.{Entry}
 use Rattle.sorted_arena.specs.Merge.{merged}
 use Rattle.sorted_arena.specs.Sorted.{Sorted, item_of, behind_first}
 use Rattle.sorted_arena.proofs.Merging.{keeps-more, first-taken, merges-more}

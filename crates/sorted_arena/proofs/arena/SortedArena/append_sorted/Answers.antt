@@ -1,5 +1,5 @@
 use Rattle.std.proofs.Common.{◌∙◌}
-use Rattle.ord_tree.proofs.CallerLemmas.{numbers-appended}
+use Rattle.triple_ord.proofs.TreeLemmas.{numbers-appended}
 use Rattle.sorted_arena.proofs.{Changing.owed-appended, Extending.sorted-listed, Numbering.compact-appended}
 use Rattle.sorted_arena.proofs.arena.SortedArena.append_sorted.Goals as goal
 

@@ -1,5 +1,5 @@
 use Rattle.std.proofs.Common.{◌∙◌, [], ◌++◌, List, map, sym, ap}
-use Rattle.chain_base.specs.Chain.{Entry}
+use Rattle.triple_ord.specs.Chain.{Entry}
 use Rattle.sorted_arena.specs.Sorted.{item_of}
 use Rattle.sorted_arena.proofs.Cutting.{append-nil}
 use Rattle.sorted_arena.proofs.arena.SortedArena.extend_sorted.Goals as goal

@@ -1,6 +1,6 @@
 use Rattle.std.proofs.Common.{◌≡◌, ◌∙◌, ◌++◌, List, map, length, sym, ap, subst, arith}
 use Rattle.std.specs.{List.All, declared.cmp.Ordering.TheVariants.Greater}
-use Rattle.chain_base.specs.Chain.{Entry}
+use Rattle.triple_ord.specs.Chain.{Entry}
 use Rattle.sorted_arena.specs.Sorted.{Sorted, key_of, item_of, with_rest}
 use Rattle.sorted_arena.proofs.Cutting.{OnOk-followed}
 use Rattle.sorted_arena.proofs.Outside.{until-between, outside-above, above-greater}

@@ -1,5 +1,5 @@
 use Rattle.std.specs.Option.{option_map}
-use Rattle.chain_base.specs.Chain.{IsDistinct}
+use Rattle.triple_ord.specs.Chain.{IsDistinct}
 use Rattle.sorted_arena.specs.Answer.{AnswersFor}
 use Rattle.sorted_arena.proofs.Retaining.{Retains, left-from}
 use Rattle.sorted_arena.proofs.arena.SortedArena.retain.Given as goal

@@ -1,8 +1,8 @@
 use Rattle.std.proofs.Common.{◌≡◌, ◌∙◌, List, Err, map, length, ap, subst, arith}
 use Rattle.std.specs.declared.ops.Bound.TheVariants.{Included, Unbounded}
-use Rattle.arena_base.specs.declared.error.ReallocationError.{ReallocationError}
-use Rattle.arena_base.specs.declared.error.ReallocationError.TheVariants.{BeyondMaxCapacity, AllocError as NoMemory}
-use Rattle.chain_base.specs.Chain.{Entry}
+use Rattle.triple_ord.specs.ReallocationError.{ReallocationError}
+use Rattle.triple_ord.specs.ReallocationError.TheVariants.{BeyondMaxCapacity, AllocError as NoMemory}
+use Rattle.triple_ord.specs.Chain.{Entry}
 use Rattle.sorted_arena.specs.Range.{entries_between}
 use Rattle.sorted_arena.specs.Sorted.{item_of, with_rest, AreSorted}
 use Rattle.sorted_arena.proofs.Merging.{moves-more, sorted-back, sorted-front}

@@ -1,6 +1,6 @@
 use Rattle.sorted_arena.proofs.Cutting.{written-found}
 use Rattle.sorted_arena.proofs.Numbering.{compact-written}
-use Rattle.chain_base.proofs.CallerLemmas.{length-with_item_among}
+use Rattle.triple_ord.proofs.ChainLemmas.{length-with_item_among}
 use Rattle.sorted_arena.proofs.arena.SortedArena.value_mut.Goals as goal
 
 pub invariant_of-self-lent : goal.invariant_of-self-lent

@@ -1,6 +1,6 @@
 use Rattle.std.proofs.Common.{◌≡◌, ◌+◌, ◌-◌, [], length, sym, ap, arith, ◌∙◌, Bor}
 use Rattle.std.specs.Option.{option_map}
-use Rattle.chain_base.specs.Link.{Link}
+use Rattle.triple_ord.specs.Link.{Link}
 use Rattle.sorted_arena.proofs.Stretching.{stretch-same, first-linked, steps-first, StepsFirst}
 use Rattle.sorted_arena.proofs.Placing.{left-linked, place-linked, linked-place, left-numbered, place-numbered, yields-front}
 use Rattle.sorted_arena.proofs.range.RangeIterator.next.Goals as goal

@@ -1,4 +1,4 @@
-use Rattle.chain_base.proofs.CallerLemmas.{compression-keeps}
+use Rattle.ord_tree.proofs.ChainLemmas.{compression-keeps}
 use Rattle.triple_ord.proofs.arena.SimpleOrdArena.compress_keeping_keys.Goals as goal
 
 pub returns-clause-keys : goal.returns-clause-keys

@@ -1,7 +1,7 @@
 use Rattle.std.proofs.Common.{◌≡◌, ◌+◌, ◌≤◌, ℕ, length, refl, arith}
 use Rattle.std.proofs.lemmas.Bool.Decides.{nat_tests}
-use Rattle.arena_base.specs.Arena.{capacity_for}
-use Rattle.chain_base.specs.Chain.{chain_limit}
+use Rattle.ord_tree.specs.PlainArena.{capacity_for}
+use Rattle.ord_tree.specs.Chain.{chain_limit}
 use Rattle.triple_ord.proofs.Room.{resizing-keeps, resizing-makes, reserved-room, reserved-grown}
 use Rattle.triple_ord.proofs.arena.SimpleOrdArena.reserve.Goals as goal
 

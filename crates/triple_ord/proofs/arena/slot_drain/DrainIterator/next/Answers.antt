@@ -1,6 +1,6 @@
 use Rattle.triple_ord.proofs.Words.{◌≡◌, ◌∷◌, OnSome, length, rules, refl, sym, ap, ◌∙◌, subst, arith, overflows_after, Walk, walk_rest, removed, IsShrunk, content_of}
 use Rattle.triple_ord.proofs.Content.{rest-removed, whole-removed, nothing-left}
-use Rattle.arena_base.specs.Invalidation.{allowed_value, has_overflowed}
+use Rattle.ord_tree.specs.Invalidation.{allowed_value, has_overflowed}
 use Rattle.triple_ord.proofs.arena.slot_drain.DrainIterator.next.Goals as goal
 
 pub returns-in_err-p-clause-steps : goal.returns-in_err-p-clause-steps
