@@ -1,8 +1,8 @@
 //! Numbers as words of a line.
 
-ghost use Rattle.std.specs.Prelude.{◌≡◌, ◌↔◌, Err, None};
+ghost use Rattle.std.specs.Prelude.{◌≡◌, ◌↔◌, ◌<◌, ◌^◌, Err, None, IfOk, IfSome, IsOk, IsSomeAnd};
+ghost use Rattle.std.specs.Str.Parse.{IsNumeral, digits_value};
 
-use std::num::IntErrorKind;
 use thiserror::Error;
 
 /// Why a word is no number.
@@ -24,20 +24,27 @@ pub enum NumberError {
 /// # Errors
 ///
 /// - `Missing`: there is no word.
-/// - `NotDecimal`: the word has something else in it than digits. `+1` has.
+/// - `NotDecimal`: the word is empty or has something else in it than digits, as `+1` has.
 /// - `TooLarge`: the number has more than 64 bits.
 pub fn number(word: Option<&str>) -> Result<u64, NumberError>
-    ensures { (result ≡ Err NumberError.Missing) ↔ (word.entry ≡ None) }
+    ensures missing { (result ≡ Err NumberError.Missing) ↔ (word.entry ≡ None) }
+    ensures value { IfOk result (λ n.
+        IsSomeAnd word.entry (λ w. IsNumeral 10 w.now × (n ≡ digits_value 10 w.now))) }
+    ensures ok { IfSome word.entry (λ w.
+        IsNumeral 10 w.now → digits_value 10 w.now < 2 ^ 64 → IsOk result) }
 {
     let Some(word) = word else {
         return Err(NumberError::Missing);
     };
-    if !word.bytes().all(|byte| byte.is_ascii_digit()) {
+    // `parse` would accept a plus sign.
+    if let [b'+', ..] = word.as_bytes() {
         return Err(NumberError::NotDecimal);
     }
     match word.parse::<u64>() {
         Ok(number) => Ok(number),
-        Err(error) if *error.kind() == IntErrorKind::PosOverflow => Err(NumberError::TooLarge),
+        Err(_) if !word.is_empty() && word.bytes().all(|byte| byte.is_ascii_digit()) => {
+            Err(NumberError::TooLarge)
+        }
         Err(_) => Err(NumberError::NotDecimal),
     }
 }
