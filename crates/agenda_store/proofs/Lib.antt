@@ -6,4 +6,5 @@ mod Links
 mod Replays
 mod Runs
 mod Snapshots
+mod Sound
 mod Spellings

@@ -7,7 +7,7 @@ use Rattle.std.proofs.lemmas.Bool.Decides.{nat_tests}
 use Rattle.agenda.specs.Agenda.{Scheduled}
 use Rattle.agenda.specs.Agenda as list
 use Rattle.record_log.specs.Format.{Fits}
-use Rattle.agenda_store.specs.Plan.{Job, Plan, empty, put, job_at, IsInOrder, HasDistinctNumbers, IsLawful}
+use Rattle.agenda_store.specs.Plan.{Job, Plan, put, job_at, IsInOrder, HasDistinctNumbers, IsLawful}
 use Rattle.agenda_store.specs.Change.{Change, schedules, cancels, moves, counts, keeps, keeping, snapshot, after, spelling, AdmitsAll, IsWritten}
 use Rattle.agenda_store.specs.Planner.{Entry, Each, plan_of, job_in, IsLinked}
 use Rattle.agenda_store.specs.Replay.{IsReplayed}

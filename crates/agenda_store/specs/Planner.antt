@@ -50,6 +50,16 @@ ticket_at planner id = tree.get nat_cmp planner.tickets id
 abbrev pub IsLinked : Planner → Type 0
 IsLinked planner = IsLinkedBy (ticket_at planner) planner.next planner.agenda.jobs
 
+-- The jobs of the planner are linked, and this is its plan.
+pub record HasPlan (planner : Planner) (plan : Plan) : Type 0 where
+  pub linked : IsLinked planner
+  pub plan_is : plan_of planner ≡ plan
+
+-- The jobs of the planner are linked, and a job of these bytes isn't too long.
+pub record Takes (planner : Planner) (bytes : List ℕ) : Type 0 where
+  pub linked : IsLinked planner
+  pub short : length bytes ≤ MAX_BYTES
+
 -- a deadline and the bytes of a vector
 abbrev pub taken : ℕ × Vec ℕ Global → ℕ × List ℕ
 taken x = (x.0, x.1.items)

@@ -1,11 +1,13 @@
 -- A store, and the plan that its file stands for.
-use Rattle.std.specs.Prelude.{ℕ, Bool, IsTrue, List, Vec}
+use Rattle.std.specs.Prelude.{◌≡◌, ◌↔◌, ℕ, Bool, false, IsTrue, List, Vec, Result, OnOk, OnErr, IsErrOf}
 use Rattle.std.specs.Borrow.{Bor}
 use Rattle.record_log.specs.Device.{LeavesOnly}
 use Rattle.record_log.specs.Log.{Keeps, device_of}
 use Rattle.agenda_store.specs.Plan.{Plan, Job}
 use Rattle.agenda_store.specs.Planner.{plan_of, IsLinked}
 use Rattle.agenda_store.specs.Replay.{IsReplayed, StandsFor, StandsForEither}
+use Rattle.agenda_store.specs.declared.error.StoreError.{StoreError}
+use Rattle.agenda_store.specs.declared.error.StoreError.TheVariants.{Closed}
 use Rattle.agenda_store.specs.declared.store.JobId.{JobId}
 use Rattle.agenda_store.specs.declared.store.Store.{Store}
 use Rattle.std.specs.declared.alloc.Global.{Global}
@@ -41,6 +43,16 @@ module _ {D : Type 0} where
   pub record IsSound (is_modelled : Bool) (seen : D → List ℕ) (may_leave : D → List ℕ → Type 0) (store : Store D) : Type 0 where
     pub linked : IsOpen store → IsLinked store.planner
     pub consistent : IsTrue is_modelled → IsOpen store → IsConsistent seen may_leave store
+
+  module _ (is_modelled : Bool) (seen : D → List ℕ) (may_leave : D → List ℕ → Type 0) (old new : Store D) where
+    -- A call leaves a sound store, and returns `Closed` exactly if the store wasn't open. After `Ok` the store is open and has this plan.
+    -- If it is open after an error, it has the plan that it had.
+    pub record StaysSound {T : Type 0} (result : Result T StoreError) (plan : Plan) : Type 0 where
+      pub sound : IsSound is_modelled seen may_leave new
+      pub is_open : OnOk result (IsOpen new)
+      pub closed : IsErrOf result Closed ↔ (old.is_open ≡ false)
+      pub plan_is : OnOk result (plan_in new ≡ plan)
+      pub err : OnErr result (IsOpen new → plan_in new ≡ plan_in old)
 
   module _ (is_modelled : Bool) (moment : D → ℕ) (left_since : D → ℕ → List ℕ → Type 0) (old new : Store D) where
     -- While a store on a modelled device is open, a crash at any moment of a call leaves a file that stands for the old plan.

@@ -5,8 +5,7 @@ ghost use Rattle.std.specs.Option.{option_map};
 ghost use Rattle.agenda_store.specs.Change.{counts, keeps, Admits};
 ghost use Rattle.agenda_store.specs.Plan.{empty, scheduled, cancelled, moved, counted, kept};
 ghost use Rattle.agenda_store.specs.Plan.{first_deadline, first_due, job_at, told, IsLawful};
-ghost use Rattle.agenda_store.specs.Planner.{plan_of, taken, IsLinked};
-ghost use Rattle.agenda_store.specs.declared.store.TheConstants.{MAX_BYTES};
+ghost use Rattle.agenda_store.specs.Planner.{plan_of, taken, IsLinked, HasPlan, Takes};
 
 use crate::error::StoreError;
 use agenda::{Agenda, ReallocationError, Ticket};
@@ -23,8 +22,7 @@ pub(crate) struct Planner {
 
 impl Planner {
     pub(crate) fn new(alloc: Global) -> Planner
-        ensures linked { IsLinked result }
-        ensures plan { plan_of result ≡ empty }
+        ensures { HasPlan result empty }
     {
         Planner {
             agenda: Agenda::new(alloc),
@@ -74,11 +72,9 @@ impl Planner {
     ///
     /// The planner is of no more use.
     pub(crate) fn schedule(&mut self, deadline: u64, bytes: Vec<u8>) -> Result<u64, StoreError>
-        requires linked { IsLinked self.old }
-        requires size { length bytes.items ≤ MAX_BYTES }
-        ensures linked { OnOk result (IsLinked self.new) }
+        requires { Takes self.old bytes.items }
         ensures id { IfOk result (λ id. id ≡ (plan_of self.old).next) }
-        ensures plan { OnOk result (plan_of self.new ≡ scheduled deadline bytes.items (plan_of self.old)) }
+        ensures plan { OnOk result (HasPlan self.new (scheduled deadline bytes.items (plan_of self.old))) }
         ensures err { IfErr result (λ e. (e ≡ StoreError.Full) ⊎ (e ≡ StoreError.OutOfMemory)) }
     {
         let id = self.next;
@@ -92,12 +88,10 @@ impl Planner {
 
     // Puts a job under a number that was given and names no job.
     fn put(&mut self, id: u64, deadline: u64, bytes: Vec<u8>) -> Result<(), StoreError>
-        requires linked { IsLinked self.old }
-        requires size { length bytes.items ≤ MAX_BYTES }
+        requires job { Takes self.old bytes.items }
         requires admitted { Admits (plan_of self.old) (keeps id deadline bytes.items) }
-        ensures linked { OnOk result (IsLinked self.new) }
-        ensures plan { OnOk result (plan_of self.new
-            ≡ kept (record { id = id; deadline = deadline; bytes = bytes.items }) (plan_of self.old)) }
+        ensures plan { OnOk result (HasPlan self.new
+            (kept (record { id = id; deadline = deadline; bytes = bytes.items }) (plan_of self.old))) }
         ensures err { IfErr result (λ e. (e ≡ StoreError.Full) ⊎ (e ≡ StoreError.OutOfMemory)) }
     {
         let ticket = match self.agenda.schedule(deadline, (id, bytes)) {
@@ -134,12 +128,10 @@ impl Planner {
     ///
     /// The planner is of no more use. `NotAnAgenda`: the number was not given, or names a job.
     pub(crate) fn keep(&mut self, id: u64, deadline: u64, bytes: Vec<u8>) -> Result<(), StoreError>
-        requires linked { IsLinked self.old }
-        requires size { length bytes.items ≤ MAX_BYTES }
-        ensures linked { OnOk result (IsLinked self.new) }
+        requires { Takes self.old bytes.items }
         ensures admitted { OnOk result (Admits (plan_of self.old) (keeps id deadline bytes.items)) }
-        ensures plan { OnOk result (plan_of self.new
-            ≡ kept (record { id = id; deadline = deadline; bytes = bytes.items }) (plan_of self.old)) }
+        ensures plan { OnOk result (HasPlan self.new
+            (kept (record { id = id; deadline = deadline; bytes = bytes.items }) (plan_of self.old))) }
         ensures refused { IsErrOf result StoreError.NotAnAgenda
             → Admits (plan_of self.old) (keeps id deadline bytes.items) → ⊥ }
     {
@@ -152,9 +144,8 @@ impl Planner {
     /// Removes the job of a number, and returns its deadline and its bytes.
     pub(crate) fn cancel(&mut self, id: u64) -> Option<(u64, Vec<u8>)>
         requires { IsLinked self.old }
-        ensures linked { IsLinked self.new }
         ensures value { option_map taken result ≡ option_map told (job_at id (plan_of self.old).jobs) }
-        ensures plan { plan_of self.new ≡ cancelled id (plan_of self.old) }
+        ensures plan { HasPlan self.new (cancelled id (plan_of self.old)) }
     {
         let _ = self.agenda.len();
         let ticket = *self.tickets.get(&id)?;
@@ -166,9 +157,8 @@ impl Planner {
     /// Gives the job of a number another deadline, and returns whether there is one.
     pub(crate) fn move_to(&mut self, id: u64, deadline: u64) -> bool
         requires { IsLinked self.old }
-        ensures linked { IsLinked self.new }
         ensures value { result ≡ is_some (job_at id (plan_of self.old).jobs) }
-        ensures plan { plan_of self.new ≡ moved id deadline (plan_of self.old) }
+        ensures plan { HasPlan self.new (moved id deadline (plan_of self.old)) }
     {
         let _ = self.agenda.len();
         match self.tickets.get(&id) {

@@ -3,7 +3,7 @@
 ghost use Rattle.std.specs.Prelude.{◌≡◌, IsTrue, OnOk};
 ghost use Rattle.record_log.specs.Device.{LeavesOnly};
 ghost use Rattle.agenda_store.specs.Requests.{answered, answered_all, StandsAfterSome};
-ghost use Rattle.agenda_store.specs.Store.{plan_in, disk_of, LeavesEither, IsOpen, IsSound};
+ghost use Rattle.agenda_store.specs.Store.{plan_in, disk_of, LeavesEither, IsOpen, IsSound, StaysSound};
 
 use crate::error::StoreError;
 use crate::store::{JobId, Store};
@@ -28,9 +28,8 @@ impl<D: Device> Store<D> {
     // Does what a request asks for.
     fn answer(&mut self, request: &Request) -> Result<(), StoreError>
         requires { IsSound D.is_modelled D.seen D.may_leave self.old }
-        ensures sound { IsSound D.is_modelled D.seen D.may_leave self.new }
-        ensures open { OnOk result (IsOpen self.new) }
-        ensures plan { OnOk result (plan_in self.new ≡ answered request.now (plan_in self.old)) }
+        ensures sound { StaysSound D.is_modelled D.seen D.may_leave self.old self.new result
+            (answered request.now (plan_in self.old)) }
         ensures any_moment { LeavesEither D.is_modelled D.moment D.left_since self.old self.new
             (answered request.now (plan_in self.old)) }
     {

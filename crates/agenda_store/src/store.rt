@@ -1,7 +1,7 @@
 //! `Store`: an agenda on a log.
 
 ghost use Rattle.std.specs.Prelude.{◌≡◌, ◌<◌, ◌↔◌, false, is_some, length, map};
-ghost use Rattle.std.specs.Prelude.{IfOk, IfErr, OnOk, OnErr, IsErrOf, IsTrue};
+ghost use Rattle.std.specs.Prelude.{IfOk, IfErr, OnOk, IsErrOf, IsTrue};
 ghost use Rattle.std.specs.Option.{option_map};
 ghost use Rattle.record_log.specs.Device.{IsDurable, LeavesOnly};
 ghost use Rattle.record_log.specs.Format.{Holds};
@@ -10,7 +10,7 @@ ghost use Rattle.agenda_store.specs.Plan.{Plan, scheduled, cancelled, moved, wit
 ghost use Rattle.agenda_store.specs.Plan.{job_at, first_due, first_deadline, told, IsLawful};
 ghost use Rattle.agenda_store.specs.Planner.{taken};
 ghost use Rattle.agenda_store.specs.Replay.{StandsFor};
-ghost use Rattle.agenda_store.specs.Store.{plan_in, disk_of, popped, LeavesEither, LeavesPlan, IsOpen, IsSound};
+ghost use Rattle.agenda_store.specs.Store.{plan_in, disk_of, popped, LeavesEither, LeavesPlan, IsOpen, IsSound, StaysSound};
 ghost use Rattle.agenda_store.specs.declared.store.TheConstants.{MAX_BYTES};
 
 use crate::change::{Change, replay, snapshot_of, spell};
@@ -137,14 +137,11 @@ impl<D: Device> Store<D> {
     /// - Otherwise the store is closed, and its file stands for the agenda with the job or without.
     pub fn schedule(&mut self, deadline: u64, bytes: &[u8]) -> Result<JobId, StoreError>
         requires { IsSound D.is_modelled D.seen D.may_leave self.old }
-        ensures sound { IsSound D.is_modelled D.seen D.may_leave self.new }
-        ensures open { OnOk result (IsOpen self.new) }
-        ensures closed { IsErrOf result StoreError.Closed ↔ (self.old.is_open ≡ false) }
+        ensures sound { StaysSound D.is_modelled D.seen D.may_leave self.old self.new result
+            (scheduled deadline bytes.now (plan_in self.old)) }
         ensures too_long { IsErrOf result StoreError.TooLong ↔ (IsOpen self.old × (MAX_BYTES < length bytes.now)) }
         ensures unchanged { IsErrOf result StoreError.TooLong → self.new ≡ self.old }
         ensures id { IfOk result (λ id. id.0 ≡ (plan_in self.old).next) }
-        ensures plan { OnOk result (plan_in self.new ≡ scheduled deadline bytes.now (plan_in self.old)) }
-        ensures err { OnErr result (IsOpen self.new → plan_in self.new ≡ plan_in self.old) }
         ensures any_moment { LeavesEither D.is_modelled D.moment D.left_since self.old self.new
             (scheduled deadline bytes.now (plan_in self.old)) }
     {
@@ -170,13 +167,10 @@ impl<D: Device> Store<D> {
     /// As of [`schedule`](Self::schedule).
     pub fn cancel(&mut self, id: JobId) -> Result<Option<(u64, Vec<u8>)>, StoreError>
         requires { IsSound D.is_modelled D.seen D.may_leave self.old }
-        ensures sound { IsSound D.is_modelled D.seen D.may_leave self.new }
-        ensures open { OnOk result (IsOpen self.new) }
-        ensures closed { IsErrOf result StoreError.Closed ↔ (self.old.is_open ≡ false) }
+        ensures sound { StaysSound D.is_modelled D.seen D.may_leave self.old self.new result
+            (cancelled id.0 (plan_in self.old)) }
         ensures value { IfOk result (λ job.
             option_map taken job ≡ option_map told (job_at id.0 (plan_in self.old).jobs)) }
-        ensures plan { OnOk result (plan_in self.new ≡ cancelled id.0 (plan_in self.old)) }
-        ensures err { OnErr result (IsOpen self.new → plan_in self.new ≡ plan_in self.old) }
         ensures any_moment { LeavesEither D.is_modelled D.moment D.left_since self.old self.new
             (cancelled id.0 (plan_in self.old)) }
     {
@@ -202,12 +196,9 @@ impl<D: Device> Store<D> {
     /// As of [`schedule`](Self::schedule).
     pub fn move_to(&mut self, id: JobId, deadline: u64) -> Result<bool, StoreError>
         requires { IsSound D.is_modelled D.seen D.may_leave self.old }
-        ensures sound { IsSound D.is_modelled D.seen D.may_leave self.new }
-        ensures open { OnOk result (IsOpen self.new) }
-        ensures closed { IsErrOf result StoreError.Closed ↔ (self.old.is_open ≡ false) }
+        ensures sound { StaysSound D.is_modelled D.seen D.may_leave self.old self.new result
+            (moved id.0 deadline (plan_in self.old)) }
         ensures value { IfOk result (λ found. found ≡ is_some (job_at id.0 (plan_in self.old).jobs)) }
-        ensures plan { OnOk result (plan_in self.new ≡ moved id.0 deadline (plan_in self.old)) }
-        ensures err { OnErr result (IsOpen self.new → plan_in self.new ≡ plan_in self.old) }
         ensures any_moment { LeavesEither D.is_modelled D.moment D.left_since self.old self.new
             (moved id.0 deadline (plan_in self.old)) }
     {
@@ -232,12 +223,9 @@ impl<D: Device> Store<D> {
     /// As of [`schedule`](Self::schedule).
     pub fn pop_due(&mut self, now: u64) -> Result<Option<(JobId, u64, Vec<u8>)>, StoreError>
         requires { IsSound D.is_modelled D.seen D.may_leave self.old }
-        ensures sound { IsSound D.is_modelled D.seen D.may_leave self.new }
-        ensures open { OnOk result (IsOpen self.new) }
-        ensures closed { IsErrOf result StoreError.Closed ↔ (self.old.is_open ≡ false) }
+        ensures sound { StaysSound D.is_modelled D.seen D.may_leave self.old self.new result
+            (without_due now (plan_in self.old)) }
         ensures value { IfOk result (λ job. option_map popped job ≡ first_due now (plan_in self.old).jobs) }
-        ensures plan { OnOk result (plan_in self.new ≡ without_due now (plan_in self.old)) }
-        ensures err { OnErr result (IsOpen self.new → plan_in self.new ≡ plan_in self.old) }
         ensures any_moment { LeavesEither D.is_modelled D.moment D.left_since self.old self.new
             (without_due now (plan_in self.old)) }
     {
@@ -280,9 +268,8 @@ impl<D: Device> Store<D> {
     /// - Otherwise the store is closed, and its file stands for the agenda.
     pub fn compact(&mut self) -> Result<(), StoreError>
         requires { IsSound D.is_modelled D.seen D.may_leave self.old }
-        ensures sound { IsSound D.is_modelled D.seen D.may_leave self.new }
-        ensures open { OnOk result (IsOpen self.new) }
-        ensures closed { IsErrOf result StoreError.Closed ↔ (self.old.is_open ≡ false) }
+        ensures sound { StaysSound D.is_modelled D.seen D.may_leave self.old self.new result
+            (plan_in self.old) }
         ensures memory { IsErrOf result StoreError.OutOfMemory → IsOpen self.new × (self.new ≡ self.old) }
         ensures plan { plan_in self.new ≡ plan_in self.old }
         ensures compact { IsTrue D.is_modelled → OnOk result

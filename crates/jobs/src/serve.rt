@@ -47,44 +47,9 @@ pub enum Fault {
     Device(#[from] io::Error),
 }
 
-// Schedules a job, and answers its number.
-fn schedule<D: Device>(
-    rt: &impl Print,
-    store: &mut Store<D>,
-    deadline: u64,
-    name: &str,
-) -> Result<(), Fault>
-    requires { IsSound D.is_modelled D.seen D.may_leave store.old }
-    ensures { IsSound D.is_modelled D.seen D.may_leave store.new }
-{
-    let id = store.schedule(deadline, name.as_bytes())?;
-    println!(rt; "{}", id.0)?;
-    Ok(())
-}
-
-// Takes a job off.
-fn cancel<D: Device>(rt: &impl Print, store: &mut Store<D>, id: u64) -> Result<(), Fault>
-    requires { IsSound D.is_modelled D.seen D.may_leave store.old }
-    ensures { IsSound D.is_modelled D.seen D.may_leave store.new }
-{
-    match store.cancel(JobId(id))? {
-        Some(_) => println!(rt; "done")?,
-        None => return Err(Fault::NoSuchJob),
-    }
-    Ok(())
-}
-
-// Gives a job another deadline.
-fn move_to<D: Device>(
-    rt: &impl Print,
-    store: &mut Store<D>,
-    id: u64,
-    deadline: u64,
-) -> Result<(), Fault>
-    requires { IsSound D.is_modelled D.seen D.may_leave store.old }
-    ensures { IsSound D.is_modelled D.seen D.may_leave store.new }
-{
-    if !store.move_to(JobId(id), deadline)? {
+// Answers that a change is done, unless there was no such job.
+fn confirm(rt: &impl Print, is_found: bool) -> Result<(), Fault> {
+    if !is_found {
         return Err(Fault::NoSuchJob);
     }
     println!(rt; "done")?;
@@ -123,16 +88,6 @@ fn list<D: Device>(rt: &impl Print, store: &Store<D>) -> io::Result<()> {
     Ok(())
 }
 
-// Writes the file anew.
-fn compact<D: Device>(rt: &impl Print, store: &mut Store<D>) -> Result<(), Fault>
-    requires { IsSound D.is_modelled D.seen D.may_leave store.old }
-    ensures { IsSound D.is_modelled D.seen D.may_leave store.new }
-{
-    store.compact()?;
-    println!(rt; "done")?;
-    Ok(())
-}
-
 // Does what a line says, and answers it.
 fn obey<D: Device>(
     rt: &(impl Print + AllocGlobal),
@@ -143,16 +98,28 @@ fn obey<D: Device>(
     ensures { IsSound D.is_modelled D.seen D.may_leave store.new }
 {
     match Command::read(line)? {
-        Command::At(deadline, name) => schedule(rt, store, deadline, name)?,
-        Command::Cancel(id) => cancel(rt, store, id)?,
-        Command::Move(id, deadline) => move_to(rt, store, id, deadline)?,
+        Command::At(deadline, name) => {
+            let id = store.schedule(deadline, name.as_bytes())?;
+            println!(rt; "{}", id.0)?;
+        }
+        Command::Cancel(id) => {
+            let job = store.cancel(JobId(id))?;
+            confirm(rt, job.is_some())?;
+        }
+        Command::Move(id, deadline) => {
+            let is_found = store.move_to(JobId(id), deadline)?;
+            confirm(rt, is_found)?;
+        }
         Command::Due(now) => pop_due(rt, store, now)?,
         Command::Next => match store.next_deadline() {
             Some(deadline) => println!(rt; "{deadline}")?,
             None => println!(rt; "no job")?,
         },
         Command::List => list(rt, store)?,
-        Command::Compact => compact(rt, store)?,
+        Command::Compact => {
+            store.compact()?;
+            confirm(rt, true)?;
+        }
         Command::Help => print!(rt; "{HELP}")?,
     }
     Ok(())

@@ -1,9 +1,10 @@
 -- An open log.
-use Rattle.std.specs.Prelude.{◌≡◌, ◌≢◌, ◌⊎◌, ◌<◌, ◌≤◌, ℕ, List, [], ◌∷◌, ◌++◌, length, map, take, drop, Vec}
+use Rattle.std.specs.Prelude.{◌≡◌, ◌≢◌, ◌⊎◌, ◌<◌, ◌≤◌, ℕ, Bool, IsTrue, List, [], ◌∷◌, ◌++◌, length, map, take, drop, Vec, Result, IsErrOf}
 use Rattle.std.specs.List.{AllByRecursion}
 use Rattle.std.specs.declared.alloc.Global.{Global}
-use Rattle.record_log.specs.Device.{IsDurable, IsPartlyCut, IsTorn}
+use Rattle.record_log.specs.Device.{IsDurable, IsPartlyCut, IsTorn, IsQuiet, HasCause}
 use Rattle.record_log.specs.Format.{header, front, blocks, Fits, IsEnd, HasBlocks, Holds}
+use Rattle.record_log.specs.declared.device.DeviceError.TheVariants.{Failed}
 use Rattle.record_log.specs.declared.error.LogError.{LogError}
 use Rattle.record_log.specs.declared.error.LogError.TheVariants.{Device, Full, NotALog, Corrupt}
 use Rattle.record_log.specs.declared.log.Log.{Log}
@@ -45,6 +46,11 @@ pub record IsLaidOut (n : ℕ) (file : List ℕ) (records : List (List ℕ)) : T
   pub is_end : IsEnd (drop n file)
   pub fit : AllByRecursion Fits records
 
+-- The first n bytes of the new file are laid out with these records, and the old file holds them.
+pub record LaysOut (old new : List ℕ) (n : ℕ) (records : List (List ℕ)) : Type 0 where
+  pub laid : IsLaidOut n new records
+  pub held : Holds old records
+
 -- What a crash leaves while the file is cut to n bytes and a closed gate is put behind them.
 abbrev pub IsPartlySealed : ℕ → List ℕ → List ℕ → Type 0
 IsPartlySealed n old new = IsPartlyCut n old new ⊎ IsTorn n 1 (take n old) new
@@ -68,6 +74,20 @@ IsRefused file (Device error) = Unit {0}
 IsRefused file Full = ⊥
 IsRefused file NotALog = (8 < length file) × (take 8 file ≢ header)
 IsRefused file Corrupt = (take 8 file ≡ header) × HasNoBlocks (drop 8 file)
+
+module _ {D : Type 0} (is_modelled : Bool) (faults : D → ℕ) (old new : D) where
+  -- Why a call of a log failed: at `Failed` the device has failed since, and at `Full` this holds.
+  pub record SaysWhy {T : Type 0} (result : Result T LogError) (IsFull : Type 0) : Type 0 where
+    pub failed : IsTrue is_modelled → IsErrOf result (Device Failed) → faults old < faults new
+    pub full : IsErrOf result Full → IsFull
+
+module _ {D : Type 0} (is_modelled : Bool) (seen : D → List ℕ) (may_leave : D → List ℕ → Type 0) where
+  module _ (moment : D → ℕ) (left_since : D → ℕ → List ℕ → Type 0) (faults : D → ℕ) (old new : D) where
+    -- A call writes the file beside alone: nothing happens to the file, `Failed` has a cause, and at `Full` this holds.
+    pub record WritesBeside {T : Type 0} (result : Result T LogError) (IsFull : Type 0) : Type 0 where
+      pub quiet : IsTrue is_modelled → IsQuiet seen may_leave moment left_since old new
+      pub cause : IsTrue is_modelled → HasCause faults old new result (Device Failed)
+      pub full : IsErrOf result Full → IsFull
 
 -- Whatever records the old file holds, the new one holds.
 abbrev pub HoldsTheSame : List ℕ → List ℕ → Type 0

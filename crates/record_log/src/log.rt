@@ -1,10 +1,10 @@
 //! `Log`: an open log.
 
-ghost use Rattle.std.specs.Prelude.{◌≡◌, ◌⊎◌, ◌<◌, ◌≤◌, ◌^◌, [], ◌∷◌, ◌++◌, List, ℕ, IfOk, IfErr, OnOk, IsErrOf, IsTrue, length};
+ghost use Rattle.std.specs.Prelude.{◌≡◌, ◌⊎◌, ◌<◌, ◌≤◌, ◌^◌, [], ◌∷◌, ◌++◌, List, ℕ, IfOk, IfErr, OnOk, IsTrue, length};
 ghost use Rattle.std.specs.List.{AllByRecursion};
 ghost use Rattle.record_log.specs.Device.{IsDurable, LeavesOnly};
 ghost use Rattle.record_log.specs.Format.{front, Fits, Holds, HoldsBeforeOrAfter, HoldsEither};
-ghost use Rattle.record_log.specs.Log.{contents, device_of, Keeps, IsSettled, IsDeviceError, IsRefused, HoldsTheSame};
+ghost use Rattle.record_log.specs.Log.{contents, device_of, Keeps, IsSettled, IsDeviceError, IsRefused, HoldsTheSame, SaysWhy};
 
 use crate::device::{Device, DeviceError};
 use crate::error::LogError;
@@ -84,9 +84,8 @@ impl<D: Device> Log<D> {
             → OnOk result (Keeps D.seen D.may_leave self.new (records ++ bytes.now ∷ [])) }
         ensures any_moment { IsTrue D.is_modelled → (records : List (List ℕ)) → Keeps D.seen D.may_leave self.old records
             → LeavesOnly D.moment D.left_since (device_of self.old) (device_of self.new) (HoldsBeforeOrAfter records bytes.now) }
-        ensures failed { IsTrue D.is_modelled → IsErrOf result (LogError.Device DeviceError.Failed)
-            → D.faults (device_of self.old) < D.faults (device_of self.new) }
-        ensures full { IsErrOf result LogError.Full → 2 ^ 62 ≤ self.old.end }
+        ensures err { SaysWhy D.is_modelled D.faults (device_of self.old) (device_of self.new) result
+            (2 ^ 62 ≤ self.old.end) }
     {
         if self.end >= MAX_SIZE {
             return Err(LogError::Full);
@@ -114,9 +113,8 @@ impl<D: Device> Log<D> {
         ensures acknowledged { IsTrue D.is_modelled → OnOk result (Keeps D.seen D.may_leave self.new (contents records.now)) }
         ensures any_moment { IsTrue D.is_modelled → (old : List (List ℕ)) → Keeps D.seen D.may_leave self.old old
             → LeavesOnly D.moment D.left_since (device_of self.old) (device_of self.new) (HoldsEither old (contents records.now)) }
-        ensures failed { IsTrue D.is_modelled → IsErrOf result (LogError.Device DeviceError.Failed)
-            → D.faults (device_of self.old) < D.faults (device_of self.new) }
-        ensures full { IsErrOf result LogError.Full → 2 ^ 62 ≤ length (front (contents records.now)) }
+        ensures err { SaysWhy D.is_modelled D.faults (device_of self.old) (device_of self.new) result
+            (2 ^ 62 ≤ length (front (contents records.now))) }
     {
         let end = write_beside(alloc, &mut self.device, records)?;
         take_place_and_sync(&mut self.device)?;
@@ -137,9 +135,8 @@ impl<D: Device> Log<D> {
             → Keeps D.seen D.may_leave self.new records }
         ensures any_moment { IsTrue D.is_modelled → (records : List (List ℕ)) → Keeps D.seen D.may_leave self.old records
             → LeavesOnly D.moment D.left_since (device_of self.old) (device_of self.new) (λ c. Holds c records) }
-        ensures failed { IsTrue D.is_modelled → IsErrOf result (LogError.Device DeviceError.Failed)
-            → D.faults (device_of self.old) < D.faults (device_of self.new) }
-        ensures full { IsErrOf result LogError.Full → ⊥ }
+        ensures err { SaysWhy D.is_modelled D.faults (device_of self.old) (device_of self.new) result
+            ⊥ }
     {
         self.device.sync()?;
         Ok(())

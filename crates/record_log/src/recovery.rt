@@ -1,10 +1,9 @@
 //! Recovery: what a file holds that a crash may have left, and the repair of its end.
 
-ghost use Rattle.std.specs.Prelude.{◌≡◌, ◌⊎◌, ◌<◌, ◌≤◌, [], ◌∷◌, ◌++◌, List, ℕ, IfSome, IfNone, IfOk, IfErr, OnOk, IsErrOf, IsTrue, length, take, drop};
-ghost use Rattle.std.specs.List.{AllByRecursion};
-ghost use Rattle.record_log.specs.Device.{IsDurable, LeavesOnly};
-ghost use Rattle.record_log.specs.Format.{header, front, IsEnd, Holds};
-ghost use Rattle.record_log.specs.Log.{contents, IsReadTo, IsLaidOut, IsAtRest, IsDeviceError, IsRefused, HasNoBlocks, HoldsTheSame};
+ghost use Rattle.std.specs.Prelude.{◌≡◌, ◌⊎◌, ◌<◌, ◌≤◌, ◌∷◌, IfSome, IfNone, IfOk, IfErr, IsErrOf, IsTrue, length};
+ghost use Rattle.record_log.specs.Device.{IsDurable, LeavesOnly, IsOnDisk, EndsOnDisk};
+ghost use Rattle.record_log.specs.Format.{IsEnd, Holds};
+ghost use Rattle.record_log.specs.Log.{contents, IsReadTo, IsLaidOut, LaysOut, IsAtRest, IsDeviceError, IsRefused, HasNoBlocks, HoldsTheSame};
 
 use crate::device::{Device, DeviceError};
 use crate::error::LogError;
@@ -71,17 +70,12 @@ fn read_file(alloc: Global, bytes: &[u8]) -> Result<Recovered, LogError>
 
 /// Puts a header into a new file.
 fn begin<D: Device>(alloc: Global, device: &mut D) -> Result<Recovered, LogError>
-    requires range { IsTrue D.is_modelled → length (D.seen device.old) ≤ 8 }
-    requires durable { IsTrue D.is_modelled → IsDurable (D.seen device.old) (D.may_leave device.old) }
+    requires { IsTrue D.is_modelled → IsOnDisk D.seen D.may_leave device.old (λ file. length file ≤ 8) }
     ensures ok { IsTrue D.is_modelled → IfOk result
-        (λ found. IsLaidOut found.end (D.seen device.new) (contents found.records.items)) }
-    ensures records { IsTrue D.is_modelled → IfOk result (λ found. Holds (D.seen device.old) (contents found.records.items)) }
-    ensures durable { IsTrue D.is_modelled → OnOk result (IsDurable (D.seen device.new) (D.may_leave device.new)) }
-    ensures any_moment { IsTrue D.is_modelled → LeavesOnly D.moment D.left_since device.old device.new (λ c. length c ≤ 8) }
+        (λ found. LaysOut (D.seen device.old) (D.seen device.new) found.end (contents found.records.items)) }
+    ensures step { IsTrue D.is_modelled → EndsOnDisk D.seen D.may_leave D.moment D.left_since D.faults device.old device.new
+        result (LogError.Device DeviceError.Failed) (λ c. length c ≤ 8) }
     ensures refused { IfErr result IsDeviceError }
-    ensures later { IsTrue D.is_modelled → D.faults device.old ≤ D.faults device.new }
-    ensures failed { IsTrue D.is_modelled → IsErrOf result (LogError.Device DeviceError.Failed)
-        → D.faults device.old < D.faults device.new }
 {
     write_and_sync(device, 0, &HEADER)?;
     Ok(Recovered {
@@ -92,19 +86,13 @@ fn begin<D: Device>(alloc: Global, device: &mut D) -> Result<Recovered, LogError
 
 /// Reads the records of a file with these bytes. A new file gets a header.
 fn lay_out<D: Device>(alloc: Global, device: &mut D, bytes: &[u8]) -> Result<Recovered, LogError>
-    requires known { IsTrue D.is_modelled → bytes.now ≡ D.seen device.old }
-    requires durable { IsTrue D.is_modelled → IsDurable (D.seen device.old) (D.may_leave device.old) }
+    requires { IsTrue D.is_modelled → IsOnDisk D.seen D.may_leave device.old (λ file. bytes.now ≡ file) }
     ensures ok { IsTrue D.is_modelled → IfOk result
-        (λ found. IsLaidOut found.end (D.seen device.new) (contents found.records.items)) }
-    ensures records { IsTrue D.is_modelled → IfOk result (λ found. Holds (D.seen device.old) (contents found.records.items)) }
-    ensures durable { IsTrue D.is_modelled → OnOk result (IsDurable (D.seen device.new) (D.may_leave device.new)) }
-    ensures any_moment { IsTrue D.is_modelled → LeavesOnly D.moment D.left_since device.old device.new
-        (HoldsTheSame (D.seen device.old)) }
+        (λ found. LaysOut (D.seen device.old) (D.seen device.new) found.end (contents found.records.items)) }
+    ensures step { IsTrue D.is_modelled → EndsOnDisk D.seen D.may_leave D.moment D.left_since D.faults device.old device.new
+        result (LogError.Device DeviceError.Failed) (HoldsTheSame (D.seen device.old)) }
     ensures refused { IsTrue D.is_modelled → IfErr result (IsRefused (D.seen device.old)) }
     ensures unchanged { IfErr result (λ e. IsDeviceError e ⊎ (device.new ≡ device.old)) }
-    ensures later { IsTrue D.is_modelled → D.faults device.old ≤ D.faults device.new }
-    ensures failed { IsTrue D.is_modelled → IsErrOf result (LogError.Device DeviceError.Failed)
-        → D.faults device.old < D.faults device.new }
 {
     if bytes.len() <= HEADER.len() {
         begin(alloc, device)
@@ -119,15 +107,11 @@ pub(crate) fn recover<D: Device>(alloc: Global, device: &mut D) -> Result<Recove
     ensures records { IsTrue D.is_modelled → IfOk result (λ found. Holds (D.seen device.old) (contents found.records.items)) }
     ensures at_rest { IsTrue D.is_modelled → IfOk result
         (λ found. IsAtRest found.end (D.seen device.new) (contents found.records.items)) }
-    ensures durable { IsTrue D.is_modelled → OnOk result (IsDurable (D.seen device.new) (D.may_leave device.new)) }
-    ensures any_moment { IsTrue D.is_modelled → LeavesOnly D.moment D.left_since device.old device.new
-        (HoldsTheSame (D.seen device.old)) }
+    ensures step { IsTrue D.is_modelled → EndsOnDisk D.seen D.may_leave D.moment D.left_since D.faults device.old device.new
+        result (LogError.Device DeviceError.Failed) (HoldsTheSame (D.seen device.old)) }
     ensures refused { IsTrue D.is_modelled → IfErr result (IsRefused (D.seen device.old)) }
     ensures unchanged { IsTrue D.is_modelled → IfErr result (λ e. IsDeviceError e
         ⊎ LeavesOnly D.moment D.left_since device.old device.new (λ c. c ≡ D.seen device.old)) }
-    ensures later { IsTrue D.is_modelled → D.faults device.old ≤ D.faults device.new }
-    ensures failed { IsTrue D.is_modelled → IsErrOf result (LogError.Device DeviceError.Failed)
-        → D.faults device.old < D.faults device.new }
 {
     let bytes = read_durable(alloc, device)?;
     let found = lay_out(alloc, device, &bytes)?;

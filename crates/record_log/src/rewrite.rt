@@ -1,10 +1,10 @@
 //! Rewriting: a log is written anew beside the old one, and takes its place.
 
-ghost use Rattle.std.specs.Prelude.{◌≡◌, ◌⊎◌, ◌+◌, ◌<◌, ◌≤◌, ◌^◌, [], ◌∷◌, ◌++◌, length, IfOk, OnOk, IsErrOf, IsTrue};
+ghost use Rattle.std.specs.Prelude.{◌≡◌, ◌⊎◌, ◌+◌, ◌≤◌, ◌^◌, [], ◌∷◌, ◌++◌, length, IfOk, OnOk, IsTrue};
 ghost use Rattle.std.specs.List.{AllByRecursion};
-ghost use Rattle.record_log.specs.Device.{IsDurable, LeavesOnly, IsQuiet};
+ghost use Rattle.record_log.specs.Device.{IsDurable, IsQuiet, HasCause, EndsOnDisk};
 ghost use Rattle.record_log.specs.Format.{header, frame, front, Fits};
-ghost use Rattle.record_log.specs.Log.{contents};
+ghost use Rattle.record_log.specs.Log.{contents, WritesBeside};
 
 use crate::device::{Device, DeviceError};
 use crate::error::LogError;
@@ -16,8 +16,7 @@ use std::alloc::Global;
 fn begin<D: Device>(device: &mut D) -> Result<(), DeviceError>
     ensures begun { IsTrue D.is_modelled → OnOk result (D.beside device.new ≡ header) }
     ensures quiet { IsTrue D.is_modelled → IsQuiet D.seen D.may_leave D.moment D.left_since device.old device.new }
-    ensures later { IsTrue D.is_modelled → D.faults device.old ≤ D.faults device.new }
-    ensures failed { IsTrue D.is_modelled → IsErrOf result DeviceError.Failed → D.faults device.old < D.faults device.new }
+    ensures cause { IsTrue D.is_modelled → HasCause D.faults device.old device.new result DeviceError.Failed }
 {
     device.begin_beside()?;
     device.append_beside(&HEADER)
@@ -29,11 +28,8 @@ fn put<D: Device>(alloc: Global, device: &mut D, bytes: &[u8]) -> Result<usize, 
     ensures len { IfOk result (λ len. len ≡ length (frame bytes.now) + 1) }
     ensures appended { IsTrue D.is_modelled → OnOk result
         (D.beside device.new ≡ D.beside device.old ++ 1 ∷ frame bytes.now) }
-    ensures quiet { IsTrue D.is_modelled → IsQuiet D.seen D.may_leave D.moment D.left_since device.old device.new }
-    ensures later { IsTrue D.is_modelled → D.faults device.old ≤ D.faults device.new }
-    ensures failed { IsTrue D.is_modelled → IsErrOf result (LogError.Device DeviceError.Failed)
-        → D.faults device.old < D.faults device.new }
-    ensures full { IsErrOf result LogError.Full → ⊥ }
+    ensures beside { WritesBeside D.is_modelled D.seen D.may_leave D.moment D.left_since D.faults device.old device.new result
+        ⊥ }
 {
     let block = block_of(alloc, bytes)?;
     device.append_beside(&block)?;
@@ -46,11 +42,8 @@ fn put_all<D: Device>(alloc: Global, device: &mut D, records: &[Vec<u8>]) -> Res
     requires begun { IsTrue D.is_modelled → D.beside device.old ≡ header }
     ensures end { IfOk result (λ end. end ≡ length (front (contents records.now))) }
     ensures records { IsTrue D.is_modelled → OnOk result (D.beside device.new ≡ front (contents records.now)) }
-    ensures quiet { IsTrue D.is_modelled → IsQuiet D.seen D.may_leave D.moment D.left_since device.old device.new }
-    ensures later { IsTrue D.is_modelled → D.faults device.old ≤ D.faults device.new }
-    ensures failed { IsTrue D.is_modelled → IsErrOf result (LogError.Device DeviceError.Failed)
-        → D.faults device.old < D.faults device.new }
-    ensures full { IsErrOf result LogError.Full → 2 ^ 62 ≤ length (front (contents records.now)) }
+    ensures beside { WritesBeside D.is_modelled D.seen D.may_leave D.moment D.left_since D.faults device.old device.new result
+        (2 ^ 62 ≤ length (front (contents records.now))) }
 {
     let mut end = HEADER.len();
     for bytes in records {
@@ -72,11 +65,8 @@ pub(crate) fn write_beside<D: Device>(
     ensures end { IfOk result (λ end. end ≡ length (front (contents records.now))) }
     ensures records { IsTrue D.is_modelled → OnOk result (D.beside device.new ≡ front (contents records.now) ++ 0 ∷ []) }
     ensures durable { IsTrue D.is_modelled → OnOk result (IsDurable (D.beside device.new) (D.beside_may_leave device.new)) }
-    ensures quiet { IsTrue D.is_modelled → IsQuiet D.seen D.may_leave D.moment D.left_since device.old device.new }
-    ensures later { IsTrue D.is_modelled → D.faults device.old ≤ D.faults device.new }
-    ensures failed { IsTrue D.is_modelled → IsErrOf result (LogError.Device DeviceError.Failed)
-        → D.faults device.old < D.faults device.new }
-    ensures full { IsErrOf result LogError.Full → 2 ^ 62 ≤ length (front (contents records.now)) }
+    ensures beside { WritesBeside D.is_modelled D.seen D.may_leave D.moment D.left_since D.faults device.old device.new result
+        (2 ^ 62 ≤ length (front (contents records.now))) }
 {
     begin(device)?;
     let end = put_all(alloc, device, records)?;
@@ -90,11 +80,8 @@ pub(crate) fn take_place_and_sync<D: Device>(device: &mut D) -> Result<(), Devic
     requires durable { IsTrue D.is_modelled → IsDurable (D.seen device.old) (D.may_leave device.old) }
     requires beside { IsTrue D.is_modelled → IsDurable (D.beside device.old) (D.beside_may_leave device.old) }
     ensures taken { IsTrue D.is_modelled → OnOk result (D.seen device.new ≡ D.beside device.old) }
-    ensures durable { IsTrue D.is_modelled → OnOk result (IsDurable (D.seen device.new) (D.may_leave device.new)) }
-    ensures any_moment { IsTrue D.is_modelled → LeavesOnly D.moment D.left_since device.old device.new
-        (λ c. (c ≡ D.seen device.old) ⊎ (c ≡ D.beside device.old)) }
-    ensures later { IsTrue D.is_modelled → D.faults device.old ≤ D.faults device.new }
-    ensures failed { IsTrue D.is_modelled → IsErrOf result DeviceError.Failed → D.faults device.old < D.faults device.new }
+    ensures step { IsTrue D.is_modelled → EndsOnDisk D.seen D.may_leave D.moment D.left_since D.faults device.old device.new
+        result DeviceError.Failed (λ c. (c ≡ D.seen device.old) ⊎ (c ≡ D.beside device.old)) }
 {
     device.take_place()?;
     device.sync()?;

@@ -1,11 +1,14 @@
-use Rattle.std.proofs.Common.{◌≡◌, inl, inr, ⊎_elim, List, ℕ, sym, subst}
+use Rattle.std.proofs.Common.{◌≡◌, IsTrue, inl, inr, ⊎_elim, List, ℕ, sym, subst, arith, rules}
+use Rattle.std.proofs.lemmas.Grind.{common_steps}
 use Rattle.std.proofs.lemmas.Result.{err_from_is_err_and}
 use Rattle.record_log.specs.Device.{LeavesOnly}
 use Rattle.record_log.specs.Format.{Holds}
 use Rattle.record_log.specs.Log.{contents, IsLaidOut, IsPartlySealed, IsRefused, HoldsTheSame}
 use Rattle.record_log.proofs.Header.{sealed_holds, holds_one}
 use Rattle.record_log.proofs.CallerLemmas.{weaker, then}
+use Rattle.record_log.proofs.recovery.recover.Given.{Over}
 use Rattle.record_log.proofs.recovery.recover.Goals as goal
+use Rattle.record_log.proofs.recovery.recover.Goals.{After-seal}
 
 module _ {D : Type 0} (moment : D → ℕ) (left_since : D → ℕ → List ℕ → Type 0) (seen : D → List ℕ) where
   -- the reading, and the header
@@ -22,10 +25,13 @@ module _ {D : Type 0} (moment : D → ℕ) (left_since : D → ℕ → List ℕ 
       (weaker moment left_since laid new (IsPartlySealed n (seen laid)) (HoldsTheSame (seen old)) seal
       (λ c partly records held. subst (λ rs. Holds c rs) (holds_one (seen old) found records holds held) (sealed_holds n (seen laid) c found is partly)))
 
-pub returns-in_err-found-clause-any_moment : goal.returns-in_err-found-clause-any_moment
-returns-in_err-found-clause-any_moment g c = λ true.
-    two_steps g.D.Device.moment g.D.Device.left_since g.D.Device.seen c.args.device.now c.read_durable.new.device c.lay_out.new.device
-    (c.read_durable.ensures.seen true) (c.read_durable.ensures.any_moment true) (c.lay_out.ensures.any_moment true)
+pub returns-in_err-found-clause-step : goal.returns-in_err-found-clause-step
+returns-in_err-found-clause-step g c = λ true. record {
+  durable = search rules;
+  any_moment = two_steps g.D.Device.moment g.D.Device.left_since g.D.Device.seen c.args.device.now c.read_durable.new.device c.lay_out.new.device
+      (c.read_durable.ensures.seen true) (c.read_durable.ensures.step true).any_moment (c.lay_out.ensures.step true).any_moment;
+  cause = grind (arith, common_steps);
+}
 
 pub returns-in_err-found-clause-refused : goal.returns-in_err-found-clause-refused
 returns-in_err-found-clause-refused g c = λ true.
@@ -37,22 +43,29 @@ pub returns-in_err-found-clause-unchanged : goal.returns-in_err-found-clause-unc
 returns-in_err-found-clause-unchanged g c = λ true.
     let p = err_from_is_err_and c.from_residual-in_err-found.result c.from_residual-in_err-found.ensures.1 in
     let h = c.in_err-found.ensures in
-    rw (p.1, p.2) (⊎_elim (λ d. inl d) (λ same. inr (subst (λ d. LeavesOnly g.D.Device.moment g.D.Device.left_since c.args.device.now d (λ f. f ≡ g.D.Device.seen c.args.device.now)) (sym same) (c.read_durable.ensures.any_moment true))) h.unchanged)
+    rw (p.1, p.2) (⊎_elim (λ d. inl d) (λ same. inr (subst (λ d. LeavesOnly g.D.Device.moment g.D.Device.left_since c.args.device.now d (λ f. f ≡ g.D.Device.seen c.args.device.now)) (sym same) (c.read_durable.ensures.step true).any_moment)) h.unchanged)
 
-pub returns-in_err-seal-clause-any_moment : goal.returns-in_err-seal-clause-any_moment
-returns-in_err-seal-clause-any_moment g c = λ true.
-    let ok = c.in_ok-found.ensures in
+-- what a crash leaves during all of them
+moments : (g : Over) (c : After-seal g) → IsTrue g.D.Device.is_modelled
+    → LeavesOnly g.D.Device.moment g.D.Device.left_since c.args.device.now c.seal.new.device (HoldsTheSame (g.D.Device.seen c.args.device.now))
+moments g c true =
+    let ok = c.in_ok-found.ensures.ok true in
     let before = two_steps g.D.Device.moment g.D.Device.left_since g.D.Device.seen c.args.device.now c.read_durable.new.device c.lay_out.new.device
-    (c.read_durable.ensures.seen true) (c.read_durable.ensures.any_moment true) (c.lay_out.ensures.any_moment true) in
+    (c.read_durable.ensures.seen true) (c.read_durable.ensures.step true).any_moment (c.lay_out.ensures.step true).any_moment in
     let records = contents c.in_ok-found.found.records.items in
     three_steps g.D.Device.moment g.D.Device.left_since g.D.Device.seen c.args.device.now c.read_durable.new.device c.lay_out.new.device c.seal.new.device c.in_ok-found.found.end records before
-    (subst (λ (f : List ℕ). Holds f records) (c.read_durable.ensures.seen true) (ok.records true)) (ok.ok true) (c.seal.ensures.any_moment true)
+    (subst (λ (f : List ℕ). Holds f records) (c.read_durable.ensures.seen true) ok.held) ok.laid (c.seal.ensures.step true).any_moment
 
-pub returns-clause-any_moment : goal.returns-clause-any_moment
-returns-clause-any_moment g c = λ true.
-    let ok = c.in_ok-found.ensures in
-    let before = two_steps g.D.Device.moment g.D.Device.left_since g.D.Device.seen c.args.device.now c.read_durable.new.device c.lay_out.new.device
-    (c.read_durable.ensures.seen true) (c.read_durable.ensures.any_moment true) (c.lay_out.ensures.any_moment true) in
-    let records = contents c.in_ok-found.found.records.items in
-    three_steps g.D.Device.moment g.D.Device.left_since g.D.Device.seen c.args.device.now c.read_durable.new.device c.lay_out.new.device c.seal.new.device c.in_ok-found.found.end records before
-    (subst (λ (f : List ℕ). Holds f records) (c.read_durable.ensures.seen true) (ok.records true)) (ok.ok true) (c.seal.ensures.any_moment true)
+pub returns-in_err-seal-clause-step : goal.returns-in_err-seal-clause-step
+returns-in_err-seal-clause-step g c = λ true. record {
+  durable = search rules;
+  any_moment = moments g (goal.at.returns-in_err-seal-clause-step g c).After-seal true;
+  cause = grind (arith, common_steps);
+}
+
+pub returns-clause-step : goal.returns-clause-step
+returns-clause-step g c = λ true. record {
+  durable = search rules;
+  any_moment = moments g (goal.at.returns-clause-step g c).After-seal true;
+  cause = grind (arith, common_steps);
+}

@@ -17,7 +17,7 @@ pub returns-in_err-ticket-clause-plan : goal.returns-in_err-ticket-clause-plan
 returns-in_err-ticket-clause-plan c =
     let old = c.args.self.now in
     let none = absent old c.requires c.args.id (sym c.in_err-ticket.ensures.value) in
-    ap (with_jobs old.next) (sym none.1)
+    record { linked = c.requires; plan_is = ap (with_jobs old.next) (sym none.1) }
 
 pub returns-in_err-deadline-clause-value : goal.returns-in_err-deadline-clause-value
 returns-in_err-deadline-clause-value c =
@@ -31,14 +31,6 @@ returns-in_err-deadline-clause-plan c =
     let here = found c.args.self.now c.requires c.args.id ticket c.len.ensures.sound.distinct (sym c.in_ok-ticket.ensures.value) in
     let e = c.in_err-deadline.ensures.value ∙ here.job in absurd (cc)
 
-pub returns-clause-linked : goal.returns-clause-linked
-returns-clause-linked c =
-    let old = c.args.self.now in
-    let ticket = c.in_ok-ticket.field-0.now in
-    removed old c.requires c.args.id ticket c.len.ensures.sound.distinct (sym c.in_ok-ticket.ensures.value)
-    (tree.get nat_cmp c.remove.new.self) c.cancel.new.self.jobs (ap (λ a. a.jobs) c.in_ok-deadline.ensures.gone)
-    (λ n. c.remove.ensures.updates.0 n ∙ ap (λ (b : Bool). cond b None (ticket_at old n)) (alike c.args.id n))
-
 pub returns-clause-value : goal.returns-clause-value
 returns-clause-value c =
     let ticket = c.in_ok-ticket.field-0.now in
@@ -50,5 +42,12 @@ pub returns-clause-plan : goal.returns-clause-plan
 returns-clause-plan c =
     let old = c.args.self.now in
     let ticket = c.in_ok-ticket.field-0.now in
-    let others = without_is old c.requires c.args.id ticket c.len.ensures.sound.distinct (sym c.in_ok-ticket.ensures.value) in
-    ap (with_jobs old.next) (ap (λ (l : Entries). map job_in l) (ap (λ a. a.jobs) c.in_ok-deadline.ensures.gone) ∙ sym others)
+    let some = sym c.in_ok-ticket.ensures.value in
+    let others = without_is old c.requires c.args.id ticket c.len.ensures.sound.distinct some in
+    let gone = ap (λ a. a.jobs) c.in_ok-deadline.ensures.gone in
+    record {
+      linked = removed old c.requires c.args.id ticket c.len.ensures.sound.distinct some
+          (tree.get nat_cmp c.remove.new.self) c.cancel.new.self.jobs gone
+          (λ n. c.remove.ensures.updates.0 n ∙ ap (λ (b : Bool). cond b None (ticket_at old n)) (alike c.args.id n));
+      plan_is = ap (with_jobs old.next) (ap (λ (l : Entries). map job_in l) gone ∙ sym others);
+    }

@@ -6,16 +6,6 @@ use Rattle.agenda_store.specs.Planner.{job_in}
 use Rattle.agenda_store.proofs.Links.{absent, found, relocated, move_is, with_jobs}
 use Rattle.agenda_store.proofs.planner.Planner.move_to.Goals as goal
 
-pub returns-in-Some-clause-linked : goal.returns-in-Some-clause-linked
-returns-in-Some-clause-linked c =
-    let old = c.args.self.now in
-    let t = c.in-Some.ticket.now in
-    let some = sym c.in-Some.ensures.value in
-    let here = found old c.requires c.args.id t c.len.ensures.sound.distinct some in
-    let yes : c.reschedule.result ≡ true = c.reschedule.ensures.value ∙ ap is_some here.job in
-    let moves = subst (λ (b : Bool). OnTrue b (MovesDeadline old.agenda t c.args.deadline c.reschedule.new.self)) yes c.reschedule.ensures.moved in
-    relocated old c.requires c.args.id t c.len.ensures.sound.distinct some c.args.deadline c.reschedule.new.self moves
-
 pub returns-in-Some-clause-value : goal.returns-in-Some-clause-value
 returns-in-Some-clause-value c =
     let old = c.args.self.now in
@@ -30,7 +20,11 @@ returns-in-Some-clause-plan c =
     let here = found old c.requires c.args.id t c.len.ensures.sound.distinct some in
     let yes : c.reschedule.result ≡ true = c.reschedule.ensures.value ∙ ap is_some here.job in
     let moves = subst (λ (b : Bool). OnTrue b (MovesDeadline old.agenda t c.args.deadline c.reschedule.new.self)) yes c.reschedule.ensures.moved in
-    ap (with_jobs old.next) (move_is old c.requires c.args.id t c.len.ensures.sound.distinct some c.args.deadline c.reschedule.new.self moves)
+    record {
+      linked = relocated old c.requires c.args.id t c.len.ensures.sound.distinct some c.args.deadline c.reschedule.new.self moves;
+      plan_is = ap (with_jobs old.next)
+          (move_is old c.requires c.args.id t c.len.ensures.sound.distinct some c.args.deadline c.reschedule.new.self moves);
+    }
 
 pub returns-in-None-clause-value : goal.returns-in-None-clause-value
 returns-in-None-clause-value c =
@@ -42,4 +36,7 @@ returns-in-None-clause-plan c =
     let old = c.args.self.now in
     let none = absent old c.requires c.args.id (sym c.in-None.ensures.value) in
     let others = without c.args.id (map job_in old.agenda.jobs) in
-    ap (with_jobs old.next) (sym none.1 ∙ ap (λ (o : Option Job). put_at c.args.deadline o others) (sym none.0))
+    record {
+      linked = c.requires;
+      plan_is = ap (with_jobs old.next) (sym none.1 ∙ ap (λ (o : Option Job). put_at c.args.deadline o others) (sym none.0));
+    }

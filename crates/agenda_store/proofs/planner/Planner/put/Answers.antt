@@ -5,16 +5,15 @@ use Rattle.agenda_store.specs.Planner.{ticket_at}
 use Rattle.agenda_store.proofs.Links.{inserted, put_is, alike, with_jobs}
 use Rattle.agenda_store.proofs.planner.Planner.put.Goals as goal
 
-pub returns-clause-linked : goal.returns-clause-linked
-returns-clause-linked c =
-    let old = c.args.self.now in
-    let id = c.args.id in
-    let ticket = c.in-Ok.ticket in
-    inserted old c.requires.linked id ticket c.args.deadline c.args.bytes (tree.get nat_cmp c.insert.new.self) c.schedule.new.self
-    c.requires.admitted c.requires.size c.in-Ok.ensures.ok
-    (λ n. c.in_ok-insert.ensures.updates.0 n ∙ ap (λ (b : Bool). cond b (Some ticket) (ticket_at old n)) (alike id n))
-
 pub returns-clause-plan : goal.returns-clause-plan
 returns-clause-plan c =
     let old = c.args.self.now in
-    ap (with_jobs old.next) (put_is c.in-Ok.ticket c.args.deadline c.args.id c.args.bytes old.agenda c.schedule.new.self c.in-Ok.ensures.ok)
+    let id = c.args.id in
+    let ticket = c.in-Ok.ticket in
+    let new = c.schedule.new.self in
+    record {
+      linked = inserted old c.requires.job.linked id ticket c.args.deadline c.args.bytes (tree.get nat_cmp c.insert.new.self) new
+          c.requires.admitted c.requires.job.short c.in-Ok.ensures.ok
+          (λ n. c.in_ok-insert.ensures.updates.0 n ∙ ap (λ (b : Bool). cond b (Some ticket) (ticket_at old n)) (alike id n));
+      plan_is = ap (with_jobs old.next) (put_is ticket c.args.deadline id c.args.bytes old.agenda new c.in-Ok.ensures.ok);
+    }

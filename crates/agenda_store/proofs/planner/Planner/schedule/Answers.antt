@@ -4,10 +4,13 @@ use Rattle.agenda_store.proofs.Jobs.{fresh}
 use Rattle.agenda_store.proofs.Links.{linked_on}
 use Rattle.agenda_store.proofs.planner.Planner.schedule.Goals as goal
 
-pub put-requires-clause-linked : goal.put-requires-clause-linked
-put-requires-clause-linked c =
+pub put-requires-clause-job : goal.put-requires-clause-job
+put-requires-clause-job c =
     let old = c.args.self.now in
-    linked_on (ticket_at old) old.next c.in-Some.next old.agenda.jobs (omega (arith, c.in-Some.ensures.1)) c.requires.linked
+    record {
+      linked = linked_on (ticket_at old) old.next c.in-Some.next old.agenda.jobs (omega (arith, c.in-Some.ensures.1)) c.requires.linked;
+      short = c.requires.short;
+    }
 
 pub put-requires-clause-admitted : goal.put-requires-clause-admitted
 put-requires-clause-admitted c =

@@ -1,9 +1,10 @@
-use Rattle.std.proofs.Common.{IsTrue, sym, subst}
+use Rattle.std.proofs.Common.{IsTrue, refl, sym, subst}
 use Rattle.record_log.specs.Device.{LeavesOnly}
 use Rattle.record_log.specs.Log.{contents}
 use Rattle.agenda_store.specs.Replay.{IsReplayed, StandsFor}
 use Rattle.agenda_store.specs.Store.{plan_in, disk_of, IsOpen}
 use Rattle.agenda_store.proofs.Kept.{rewritten}
+use Rattle.agenda_store.proofs.Sound.{succeeds}
 use Rattle.agenda_store.proofs.store.Store.compact.Given.{Over}
 use Rattle.agenda_store.proofs.store.Store.compact.Goals as goal
 use Rattle.agenda_store.proofs.store.Store.compact.Goals.{After-rewrite}
@@ -28,11 +29,12 @@ pub returns-clause-any_moment : goal.returns-clause-any_moment
 returns-clause-any_moment g c = moments g (goal.at.returns-clause-any_moment g c).After-rewrite
 
 pub returns-clause-sound : goal.returns-clause-sound
-returns-clause-sound g c = record {
-  linked = λ _. c.requires.linked c.if-not-self.false;
-  consistent = λ true _. record {
-    records = contents c.deref.result.now;
-    keeps = c.in_ok-rewrite.ensures.acknowledged true;
-    replayed = replayed g (goal.at.returns-clause-sound g c).After-rewrite;
-  };
-}
+returns-clause-sound g c =
+    let again = replayed g (goal.at.returns-clause-sound g c).After-rewrite in
+    let keeps = c.in_ok-rewrite.ensures.acknowledged in
+    succeeds c.args.self.now _ _ _ c.if-not-self.false refl
+    (record {
+      linked = λ _. c.requires.linked c.if-not-self.false;
+      consistent = λ true _. record { records = contents c.deref.result.now; keeps = keeps true; replayed = again };
+    })
+    refl

@@ -16,9 +16,9 @@ loop-request-preserved g c =
     let lt = c.loop-request-test.true in
     let done = c.in_ok-answer.ensures in
     record {
-      sound = done.sound;
-      is_open = done.open;
-      plan = done.plan ∙ ap (λ (p : Plan). answered item p) before.plan ∙ sym (more requests i item (plan_in old) lt c.request-item.is);
+      sound = done.sound.sound;
+      is_open = done.sound.is_open;
+      plan = done.sound.plan_is ∙ ap (λ (p : Plan). answered item p) before.plan ∙ sym (more requests i item (plan_in old) lt c.request-item.is);
       moments = λ true. goes_on g.D.Device.moment g.D.Device.left_since (disk_of old) (disk_of mid) (disk_of c.answer.new.self) requests i item
           (plan_in old) (plan_in mid) lt c.request-item.is before.plan (before.moments true) (done.any_moment true before.is_open);
     }

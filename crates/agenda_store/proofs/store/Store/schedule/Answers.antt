@@ -1,11 +1,10 @@
-use Rattle.std.proofs.Common.{IsTrue, ◌∙◌, ap, List, ℕ, [], ◌∷◌, ◌++◌, arith}
-use Rattle.record_log.specs.Device.{LeavesOnly}
+use Rattle.std.proofs.Common.{◌∙◌, ap, List, ℕ, refl, arith}
 use Rattle.agenda_store.specs.Change.{schedules}
 use Rattle.agenda_store.specs.Plan.{scheduled}
-use Rattle.agenda_store.specs.Replay.{Replays, StandsForEither}
-use Rattle.agenda_store.specs.Store.{plan_in, disk_of, IsOpen}
-use Rattle.agenda_store.proofs.Kept.{appended}
-use Rattle.agenda_store.proofs.Replays.{replaying, replayed_more}
+use Rattle.agenda_store.specs.Replay.{Replays}
+use Rattle.agenda_store.specs.Store.{plan_in}
+use Rattle.agenda_store.proofs.Replays.{replaying}
+use Rattle.agenda_store.proofs.Sound.{records_change, leaves_either}
 use Rattle.agenda_store.proofs.store.Store.schedule.Given.{Over}
 use Rattle.agenda_store.proofs.store.Store.schedule.Goals as goal
 use Rattle.agenda_store.proofs.store.Store.schedule.Goals.{After-append}
@@ -18,35 +17,18 @@ replays g c =
     let change = schedules c.args.deadline c.args.bytes.now in
     replaying change c.deref.result.now (plan_in c.args.self.now) spelled (c.ranges.deadline.fits, omega arith) tt
 
--- what a crash leaves during the call
-moments : (g : Over) (c : After-append g) → IsTrue g.D.Device.is_modelled → IsOpen c.args.self.now
-    → LeavesOnly g.D.Device.moment g.D.Device.left_since (disk_of c.args.self.now) c.append.new.self.device
-    (StandsForEither (plan_in c.args.self.now) (scheduled c.args.deadline c.args.bytes.now (plan_in c.args.self.now)))
-moments g c true open-before =
-    let kept = c.requires.consistent true open-before in
-    let plan = plan_in c.args.self.now in
-    appended g.D.Device.moment g.D.Device.left_since (disk_of c.args.self.now) c.append.new.self.device kept.records c.deref.result.now
-    plan (scheduled c.args.deadline c.args.bytes.now plan) kept.replayed (replays g c) (c.append.ensures.any_moment true kept.records kept.keeps)
-
 pub returns-in_err-append-clause-any_moment : goal.returns-in_err-append-clause-any_moment
-returns-in_err-append-clause-any_moment g c = moments g (goal.at.returns-in_err-append-clause-any_moment g c).After-append
+returns-in_err-append-clause-any_moment g c =
+    leaves_either c.args.self.now _ _ _ c.requires (replays g (goal.at.returns-in_err-append-clause-any_moment g c).After-append) c.append.ensures.any_moment
 
 pub returns-clause-any_moment : goal.returns-clause-any_moment
-returns-clause-any_moment g c = moments g (goal.at.returns-clause-any_moment g c).After-append
+returns-clause-any_moment g c =
+    leaves_either c.args.self.now _ _ _ c.requires (replays g (goal.at.returns-clause-any_moment g c).After-append) c.append.ensures.any_moment
 
 pub returns-clause-sound : goal.returns-clause-sound
 returns-clause-sound g c =
-    let plan = plan_in c.args.self.now in
-    let planned = c.in_ok-id.ensures in
-    let plan_is = planned.plan ∙ ap (λ (job : List ℕ). scheduled c.args.deadline job plan) c.in_ok-job.ensures.items in
-    record {
-      linked = λ _. planned.linked;
-      consistent = λ true _.
-          let kept = c.requires.consistent true c.if-not-self.false in
-          record {
-            records = kept.records ++ c.deref.result.now ∷ [];
-            keeps = c.in_ok-append.ensures.acknowledged true kept.records kept.keeps;
-            replayed = replayed_more kept.records c.deref.result.now plan (scheduled c.args.deadline c.args.bytes.now plan) _ kept.replayed
-                (replays g (goal.at.returns-clause-sound g c).After-append) plan_is;
-          };
-    }
+    let planned = c.in_ok-id.ensures.plan in
+    let same = ap (λ (job : List ℕ). scheduled c.args.deadline job (plan_in c.args.self.now)) c.in_ok-job.ensures.items in
+    records_change c.args.self.now _ _ _ c.if-not-self.false refl c.deref.result.now c.requires
+    (replays g (goal.at.returns-clause-sound g c).After-append) c.in_ok-append.ensures.acknowledged
+    (record { linked = planned.linked; plan_is = planned.plan_is ∙ same })

@@ -1,5 +1,6 @@
+use Rattle.std.proofs.Common.{rules}
 use Rattle.record_log.proofs.Past.{turned}
 use Rattle.record_log.proofs.memory.MemoryDevice.take_place.Goals as goal
 
-pub returns-clause-time : goal.returns-clause-time
-returns-clause-time c = λ _. turned _ _ c.in_ok-turn.ensures.past
+pub returns-clause-call : goal.returns-clause-call
+returns-clause-call c = λ _. record { time = turned _ _ c.in_ok-turn.ensures.past; cause = search rules }
