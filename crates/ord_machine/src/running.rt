@@ -7,7 +7,7 @@ ghost use Rattle.ord_machine.specs.Machine.{calls_by, reading_by, Marks, AreTrue
 
 use crate::command::Command;
 use crate::reply::Reply;
-use crate::steps;
+use crate::steps::reply_to;
 use std::alloc::{AllocError, Allocator};
 use std::cmp::Ordering;
 use triple_ord::{BasePtr, SimpleOrdArena, SimpleOrdItem};
@@ -82,62 +82,4 @@ where
     // For the prover: the list and the shape are sound.
     let _ = arena.len();
     reply
-}
-
-// What a command does, and its reply.
-fn reply_to<
-    P: BasePtr,
-    T: SimpleOrdItem + Clone + Drop,
-    F: FnMut(P, &T) -> Ordering,
-    A: Allocator + Copy,
->(
-    alloc: A,
-    arena: &mut SimpleOrdArena<P, T, A>,
-    command: Command<P, T>,
-    closure: &mut F,
-) -> Reply<P, T, A>
-where
-    T::Key: Drop,
-    requires clones { (x y : T) → T.is_clone x y → y ≡ x }
-    requires callable { F.IsAlwaysCallable closure.old }
-    ensures does { (marks : Marks) → AreTrue marks arena.old.shape
-        → Does (reading_by T.key_of T.Key.cmp P.Inx.most P.Gen.greatest
-        P.numbers P.Inx.number P.Gen.number) (calls_by (Asks P.numbers F.step) T.is_infallible)
-        (record { tree = arena.old; marks = marks }) closure.old command result arena.new
-        closure.new }
-    ensures callable { F.IsAlwaysCallable closure.new }
-{
-    match command {
-        Command::Insert(item) => steps::insert(arena, item),
-        Command::InsertWithin(item) => steps::insert_within(arena, item),
-        Command::Entry(kind, item) => steps::entry(arena, &kind, item),
-        Command::EntryWithin(kind, item) => steps::entry_within(arena, &kind, item),
-        Command::Set(p, item) => steps::set(arena, p, item),
-        Command::Rekey(p, item) => steps::rekey(arena, p, item),
-        Command::Remove(p) => steps::remove(arena, p),
-        Command::RemoveInx(i) => steps::remove_inx(arena, i),
-        Command::Invalidate(p) => steps::invalidate(arena, p),
-        Command::Clear => steps::clear(arena),
-        Command::IncGeneration => steps::inc_generation(arena),
-        Command::Compress(reset) => steps::compress(arena, reset),
-        Command::Canonical(reset) => steps::canonical(arena, reset),
-        Command::Find(key) => steps::find(arena, &key),
-        Command::FindLinear(p, num, key) => steps::find_linear(arena, p, num, &key),
-        Command::Similar(key) => steps::similar(arena, &key),
-        Command::SimilarLinear(i, num, key) => steps::similar_linear(arena, i, num, &key),
-        Command::FindWith => steps::find_with(arena, closure),
-        Command::SimilarWith => steps::similar_with(arena, closure),
-        Command::Visits(key) => steps::visits(arena, &key),
-        Command::Get(p) => steps::get(arena, p),
-        Command::First => steps::first(arena),
-        Command::Last => steps::last(arena),
-        Command::Neighbours(i) => steps::neighbours(arena, i),
-        Command::List => steps::list(alloc, arena),
-        Command::Ranks => steps::ranks(alloc, arena),
-        Command::Check => steps::check(arena),
-        Command::Reserve(n) => steps::reserve(arena, n),
-        Command::SetMax(n) => steps::set_max(arena, n),
-        Command::DrainOrdered(num) => steps::drain_ordered(alloc, arena, num),
-        Command::Stats => steps::stats(arena),
-    }
 }

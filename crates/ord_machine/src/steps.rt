@@ -7,8 +7,9 @@ ghost use Rattle.triple_ord.specs.ClosureSearch.{Asks};
 ghost use Rattle.triple_ord.specs.Insertion.{within, reallocating, told};
 ghost use Rattle.triple_ord.specs.Place.{at_key, aim_of};
 ghost use Rattle.triple_ord.specs.Ranks.{HasRank};
-ghost use Rattle.ord_machine.specs.Machine.{Marks, AreTrue, Inserts, insertion_reply, Sets, MovesToKey, Removes, RemovesAt, Renews, Changes, Rebuilds, Reserves, SetsMaximum, Finds, FindsFrom, FindsNear, FindsNearFrom, AnswersWith, AnswersSimilarWith, Visits, Gets, IsEnd, HasNeighbours, Lists, entry_of, Ranked, HaveRanks, Drains, removed_each, Checks, Counts};
+ghost use Rattle.ord_machine.specs.Machine.{calls_by, reading_by, Marks, AreTrue, Does, Inserts, insertion_reply, Sets, MovesToKey, Removes, RemovesAt, Renews, Changes, Rebuilds, Reserves, SetsMaximum, Finds, FindsFrom, FindsNear, FindsNearFrom, AnswersWith, AnswersSimilarWith, Visits, Gets, IsEnd, HasNeighbours, Lists, entry_of, Ranked, HaveRanks, Drains, removed_each, Checks, Counts};
 
+use crate::command::Command;
 use crate::reply::Reply;
 use std::alloc::{AllocError, Allocator};
 use std::cmp::Ordering;
@@ -18,8 +19,66 @@ use triple_ord::{
     SimpleOrdArena, SimpleOrdItem,
 };
 
+/// Runs a command, and returns its reply.
+pub fn reply_to<
+    P: BasePtr,
+    T: SimpleOrdItem + Clone + Drop,
+    F: FnMut(P, &T) -> Ordering,
+    A: Allocator + Copy,
+>(
+    alloc: A,
+    arena: &mut SimpleOrdArena<P, T, A>,
+    command: Command<P, T>,
+    closure: &mut F,
+) -> Reply<P, T, A>
+where
+    T::Key: Drop,
+    requires clones { (x y : T) → T.is_clone x y → y ≡ x }
+    requires callable { F.IsAlwaysCallable closure.old }
+    ensures does { (marks : Marks) → AreTrue marks arena.old.shape
+        → Does (reading_by T.key_of T.Key.cmp P.Inx.most P.Gen.greatest
+        P.numbers P.Inx.number P.Gen.number) (calls_by (Asks P.numbers F.step) T.is_infallible)
+        (record { tree = arena.old; marks = marks }) closure.old command result arena.new
+        closure.new }
+    ensures callable { F.IsAlwaysCallable closure.new }
+{
+    match command {
+        Command::Insert(item) => insert(arena, item),
+        Command::InsertWithin(item) => insert_within(arena, item),
+        Command::Entry(kind, item) => entry(arena, &kind, item),
+        Command::EntryWithin(kind, item) => entry_within(arena, &kind, item),
+        Command::Set(p, item) => set(arena, p, item),
+        Command::Rekey(p, item) => rekey(arena, p, item),
+        Command::Remove(p) => remove(arena, p),
+        Command::RemoveInx(i) => remove_inx(arena, i),
+        Command::Invalidate(p) => invalidate(arena, p),
+        Command::Clear => clear(arena),
+        Command::IncGeneration => inc_generation(arena),
+        Command::Compress(reset) => compress(arena, reset),
+        Command::Canonical(reset) => canonical(arena, reset),
+        Command::Find(key) => find(arena, &key),
+        Command::FindLinear(p, num, key) => find_linear(arena, p, num, &key),
+        Command::Similar(key) => similar(arena, &key),
+        Command::SimilarLinear(i, num, key) => similar_linear(arena, i, num, &key),
+        Command::FindWith => find_with(arena, closure),
+        Command::SimilarWith => similar_with(arena, closure),
+        Command::Visits(key) => visits(arena, &key),
+        Command::Get(p) => get(arena, p),
+        Command::First => first(arena),
+        Command::Last => last(arena),
+        Command::Neighbours(i) => neighbours(arena, i),
+        Command::List => list(alloc, arena),
+        Command::Ranks => ranks(alloc, arena),
+        Command::Check => check(arena),
+        Command::Reserve(n) => reserve(arena, n),
+        Command::SetMax(n) => set_max(arena, n),
+        Command::DrainOrdered(num) => drain_ordered(alloc, arena, num),
+        Command::Stats => stats(arena),
+    }
+}
+
 /// Runs `Command::Insert`.
-pub fn insert<P: BasePtr, T: SimpleOrdItem + Drop, A: Allocator>(
+fn insert<P: BasePtr, T: SimpleOrdItem + Drop, A: Allocator>(
     arena: &mut SimpleOrdArena<P, T, A>,
     item: T,
 ) -> Reply<P, T, A>
@@ -30,7 +89,7 @@ pub fn insert<P: BasePtr, T: SimpleOrdItem + Drop, A: Allocator>(
 }
 
 /// Runs `Command::InsertWithin`.
-pub fn insert_within<P: BasePtr, T: SimpleOrdItem + Drop, A: Allocator>(
+fn insert_within<P: BasePtr, T: SimpleOrdItem + Drop, A: Allocator>(
     arena: &mut SimpleOrdArena<P, T, A>,
     item: T,
 ) -> Reply<P, T, A>
@@ -59,7 +118,7 @@ fn reply_to_insertion<P: BasePtr, T, A: Allocator>(
 }
 
 /// Runs `Command::Entry`.
-pub fn entry<P: BasePtr, T: SimpleOrdItem + Drop, A: Allocator>(
+fn entry<P: BasePtr, T: SimpleOrdItem + Drop, A: Allocator>(
     arena: &mut SimpleOrdArena<P, T, A>,
     kind: &OrdInsertKind<P, T::Key>,
     item: T,
@@ -81,7 +140,7 @@ pub fn entry<P: BasePtr, T: SimpleOrdItem + Drop, A: Allocator>(
 }
 
 /// Runs `Command::EntryWithin`.
-pub fn entry_within<P: BasePtr, T: SimpleOrdItem + Drop, A: Allocator>(
+fn entry_within<P: BasePtr, T: SimpleOrdItem + Drop, A: Allocator>(
     arena: &mut SimpleOrdArena<P, T, A>,
     kind: &OrdInsertKind<P, T::Key>,
     item: T,
@@ -102,7 +161,7 @@ pub fn entry_within<P: BasePtr, T: SimpleOrdItem + Drop, A: Allocator>(
 }
 
 /// Runs `Command::Set`.
-pub fn set<P: BasePtr, T: Drop, A: Allocator>(
+fn set<P: BasePtr, T: Drop, A: Allocator>(
     arena: &mut SimpleOrdArena<P, T, A>,
     p: P,
     item: T,
@@ -118,7 +177,7 @@ pub fn set<P: BasePtr, T: Drop, A: Allocator>(
 }
 
 /// Runs `Command::Rekey`.
-pub fn rekey<P: BasePtr, T: SimpleOrdItem + Drop, A: Allocator>(
+fn rekey<P: BasePtr, T: SimpleOrdItem + Drop, A: Allocator>(
     arena: &mut SimpleOrdArena<P, T, A>,
     p: P,
     item: T,
@@ -129,7 +188,7 @@ pub fn rekey<P: BasePtr, T: SimpleOrdItem + Drop, A: Allocator>(
 }
 
 /// Runs `Command::Remove`.
-pub fn remove<P: BasePtr, T: Drop, A: Allocator>(
+fn remove<P: BasePtr, T: Drop, A: Allocator>(
     arena: &mut SimpleOrdArena<P, T, A>,
     p: P,
 ) -> Reply<P, T, A>
@@ -139,7 +198,7 @@ pub fn remove<P: BasePtr, T: Drop, A: Allocator>(
 }
 
 /// Runs `Command::RemoveInx`.
-pub fn remove_inx<P: BasePtr, T: Drop, A: Allocator>(
+fn remove_inx<P: BasePtr, T: Drop, A: Allocator>(
     arena: &mut SimpleOrdArena<P, T, A>,
     i: P::Inx,
 ) -> Reply<P, T, A>
@@ -154,7 +213,7 @@ pub fn remove_inx<P: BasePtr, T: Drop, A: Allocator>(
 }
 
 /// Runs `Command::Invalidate`.
-pub fn invalidate<P: BasePtr, T, A: Allocator>(
+fn invalidate<P: BasePtr, T, A: Allocator>(
     arena: &mut SimpleOrdArena<P, T, A>,
     p: P,
 ) -> Reply<P, T, A>
@@ -164,9 +223,7 @@ pub fn invalidate<P: BasePtr, T, A: Allocator>(
 }
 
 /// Runs `Command::Clear`.
-pub fn clear<P: BasePtr, T: Drop, A: Allocator>(
-    arena: &mut SimpleOrdArena<P, T, A>,
-) -> Reply<P, T, A>
+fn clear<P: BasePtr, T: Drop, A: Allocator>(arena: &mut SimpleOrdArena<P, T, A>) -> Reply<P, T, A>
     ensures { Changes P.Gen.greatest arena.old
         (record { list = cleared P.Gen.greatest arena.old.list; shape = missing })
         result arena.new }
@@ -175,7 +232,7 @@ pub fn clear<P: BasePtr, T: Drop, A: Allocator>(
 }
 
 /// Runs `Command::IncGeneration`.
-pub fn inc_generation<P: BasePtr, T, A: Allocator>(
+fn inc_generation<P: BasePtr, T, A: Allocator>(
     arena: &mut SimpleOrdArena<P, T, A>,
 ) -> Reply<P, T, A>
     ensures { Changes P.Gen.greatest arena.old
@@ -185,7 +242,7 @@ pub fn inc_generation<P: BasePtr, T, A: Allocator>(
 }
 
 /// Runs `Command::Compress`.
-pub fn compress<P: BasePtr, T, A: Allocator>(
+fn compress<P: BasePtr, T, A: Allocator>(
     arena: &mut SimpleOrdArena<P, T, A>,
     reset: bool,
 ) -> Reply<P, T, A>
@@ -195,7 +252,7 @@ pub fn compress<P: BasePtr, T, A: Allocator>(
 }
 
 /// Runs `Command::Canonical`.
-pub fn canonical<P: BasePtr, T, A: Allocator>(
+fn canonical<P: BasePtr, T, A: Allocator>(
     arena: &mut SimpleOrdArena<P, T, A>,
     reset: bool,
 ) -> Reply<P, T, A>
@@ -205,7 +262,7 @@ pub fn canonical<P: BasePtr, T, A: Allocator>(
 }
 
 /// Runs `Command::Find`.
-pub fn find<P: BasePtr, T: SimpleOrdItem, A: Allocator>(
+fn find<P: BasePtr, T: SimpleOrdItem, A: Allocator>(
     arena: &SimpleOrdArena<P, T, A>,
     key: &T::Key,
 ) -> Reply<P, T, A>
@@ -218,7 +275,7 @@ pub fn find<P: BasePtr, T: SimpleOrdItem, A: Allocator>(
 }
 
 /// Runs `Command::FindLinear`.
-pub fn find_linear<P: BasePtr, T: SimpleOrdItem, A: Allocator>(
+fn find_linear<P: BasePtr, T: SimpleOrdItem, A: Allocator>(
     arena: &SimpleOrdArena<P, T, A>,
     p: P,
     num: usize,
@@ -233,7 +290,7 @@ pub fn find_linear<P: BasePtr, T: SimpleOrdItem, A: Allocator>(
 }
 
 /// Runs `Command::Similar`.
-pub fn similar<P: BasePtr, T: SimpleOrdItem, A: Allocator>(
+fn similar<P: BasePtr, T: SimpleOrdItem, A: Allocator>(
     arena: &SimpleOrdArena<P, T, A>,
     key: &T::Key,
 ) -> Reply<P, T, A>
@@ -246,7 +303,7 @@ pub fn similar<P: BasePtr, T: SimpleOrdItem, A: Allocator>(
 }
 
 /// Runs `Command::SimilarLinear`.
-pub fn similar_linear<P: BasePtr, T: SimpleOrdItem, A: Allocator>(
+fn similar_linear<P: BasePtr, T: SimpleOrdItem, A: Allocator>(
     arena: &SimpleOrdArena<P, T, A>,
     i: P::Inx,
     num: usize,
@@ -261,7 +318,7 @@ pub fn similar_linear<P: BasePtr, T: SimpleOrdItem, A: Allocator>(
 }
 
 /// Runs `Command::FindWith`.
-pub fn find_with<P: BasePtr, T, F: FnMut(P, &T) -> Ordering, A: Allocator>(
+fn find_with<P: BasePtr, T, F: FnMut(P, &T) -> Ordering, A: Allocator>(
     arena: &SimpleOrdArena<P, T, A>,
     closure: &mut F,
 ) -> Reply<P, T, A>
@@ -276,7 +333,7 @@ pub fn find_with<P: BasePtr, T, F: FnMut(P, &T) -> Ordering, A: Allocator>(
 }
 
 /// Runs `Command::SimilarWith`.
-pub fn similar_with<P: BasePtr, T, F: FnMut(P, &T) -> Ordering, A: Allocator>(
+fn similar_with<P: BasePtr, T, F: FnMut(P, &T) -> Ordering, A: Allocator>(
     arena: &SimpleOrdArena<P, T, A>,
     closure: &mut F,
 ) -> Reply<P, T, A>
@@ -291,7 +348,7 @@ pub fn similar_with<P: BasePtr, T, F: FnMut(P, &T) -> Ordering, A: Allocator>(
 }
 
 /// Runs `Command::Visits`.
-pub fn visits<P: BasePtr, T: SimpleOrdItem, A: Allocator>(
+fn visits<P: BasePtr, T: SimpleOrdItem, A: Allocator>(
     arena: &SimpleOrdArena<P, T, A>,
     key: &T::Key,
 ) -> Reply<P, T, A>
@@ -303,10 +360,7 @@ pub fn visits<P: BasePtr, T: SimpleOrdItem, A: Allocator>(
 }
 
 /// Runs `Command::Get`.
-pub fn get<P: BasePtr, T: Clone, A: Allocator>(
-    arena: &SimpleOrdArena<P, T, A>,
-    p: P,
-) -> Reply<P, T, A>
+fn get<P: BasePtr, T: Clone, A: Allocator>(arena: &SimpleOrdArena<P, T, A>, p: P) -> Reply<P, T, A>
     requires { (x y : T) → T.is_clone x y → y ≡ x }
     ensures { Gets T.is_infallible P.numbers arena.now p result }
 {
@@ -320,21 +374,21 @@ pub fn get<P: BasePtr, T: Clone, A: Allocator>(
 }
 
 /// Runs `Command::First`.
-pub fn first<P: BasePtr, T, A: Allocator>(arena: &SimpleOrdArena<P, T, A>) -> Reply<P, T, A>
+fn first<P: BasePtr, T, A: Allocator>(arena: &SimpleOrdArena<P, T, A>) -> Reply<P, T, A>
     ensures { IsEnd P.numbers (first_pointer arena.now.list.entries) result }
 {
     Reply::At(arena.first())
 }
 
 /// Runs `Command::Last`.
-pub fn last<P: BasePtr, T, A: Allocator>(arena: &SimpleOrdArena<P, T, A>) -> Reply<P, T, A>
+fn last<P: BasePtr, T, A: Allocator>(arena: &SimpleOrdArena<P, T, A>) -> Reply<P, T, A>
     ensures { IsEnd P.numbers (last_pointer arena.now.list.entries) result }
 {
     Reply::At(arena.last())
 }
 
 /// Runs `Command::Neighbours`.
-pub fn neighbours<P: BasePtr, T, A: Allocator>(
+fn neighbours<P: BasePtr, T, A: Allocator>(
     arena: &SimpleOrdArena<P, T, A>,
     i: P::Inx,
 ) -> Reply<P, T, A>
@@ -350,7 +404,7 @@ pub fn neighbours<P: BasePtr, T, A: Allocator>(
 }
 
 /// Runs `Command::List`.
-pub fn list<P: BasePtr, T: Clone, A: Allocator>(
+fn list<P: BasePtr, T: Clone, A: Allocator>(
     alloc: A,
     arena: &SimpleOrdArena<P, T, A>,
 ) -> Reply<P, T, A>
@@ -364,10 +418,7 @@ pub fn list<P: BasePtr, T: Clone, A: Allocator>(
 }
 
 /// Runs `Command::Ranks`.
-pub fn ranks<P: BasePtr, T, A: Allocator>(
-    alloc: A,
-    arena: &SimpleOrdArena<P, T, A>,
-) -> Reply<P, T, A>
+fn ranks<P: BasePtr, T, A: Allocator>(alloc: A, arena: &SimpleOrdArena<P, T, A>) -> Reply<P, T, A>
     ensures { Ranked arena.now result }
 {
     match ranks_of(alloc, arena) {
@@ -377,7 +428,7 @@ pub fn ranks<P: BasePtr, T, A: Allocator>(
 }
 
 /// Runs `Command::Check`.
-pub fn check<P: BasePtr, T: SimpleOrdItem, A: Allocator>(
+fn check<P: BasePtr, T: SimpleOrdItem, A: Allocator>(
     arena: &SimpleOrdArena<P, T, A>,
 ) -> Reply<P, T, A>
     ensures { Checks T.key_of T.Key.cmp arena.now result }
@@ -386,7 +437,7 @@ pub fn check<P: BasePtr, T: SimpleOrdItem, A: Allocator>(
 }
 
 /// Runs `Command::Reserve`.
-pub fn reserve<P: BasePtr, T, A: Allocator>(
+fn reserve<P: BasePtr, T, A: Allocator>(
     arena: &mut SimpleOrdArena<P, T, A>,
     n: usize,
 ) -> Reply<P, T, A>
@@ -402,7 +453,7 @@ pub fn reserve<P: BasePtr, T, A: Allocator>(
 }
 
 /// Runs `Command::SetMax`.
-pub fn set_max<P: BasePtr, T, A: Allocator>(
+fn set_max<P: BasePtr, T, A: Allocator>(
     arena: &mut SimpleOrdArena<P, T, A>,
     n: usize,
 ) -> Reply<P, T, A>
@@ -415,7 +466,7 @@ pub fn set_max<P: BasePtr, T, A: Allocator>(
 }
 
 /// Runs `Command::DrainOrdered`.
-pub fn drain_ordered<P: BasePtr, T: Drop, A: Allocator>(
+fn drain_ordered<P: BasePtr, T: Drop, A: Allocator>(
     alloc: A,
     arena: &mut SimpleOrdArena<P, T, A>,
     num: usize,
@@ -429,7 +480,7 @@ pub fn drain_ordered<P: BasePtr, T: Drop, A: Allocator>(
 }
 
 /// Runs `Command::Stats`.
-pub fn stats<P: BasePtr, T, A: Allocator>(arena: &SimpleOrdArena<P, T, A>) -> Reply<P, T, A>
+fn stats<P: BasePtr, T, A: Allocator>(arena: &SimpleOrdArena<P, T, A>) -> Reply<P, T, A>
     ensures { Counts P.Gen.number arena.now result }
 {
     Reply::Stats(

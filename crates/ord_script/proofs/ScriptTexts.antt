@@ -3,14 +3,13 @@ use Rattle.std.proofs.Common.{◌≡◌, ℕ, ◌+◌, ◌-◌, ◌^◌, ◌<◌
 use Rattle.std.proofs.lemmas.List.Elements.{All-from_recursion, recursion_from_All, All-nil, All-cons, All-head, All-tail, All-append, All-map, All-weaker, All-get_or}
 use Rattle.std.proofs.{lemmas.List.Splits.slice_split_none, lemmas.List.Splits.slice_split_at, lemmas.Bool.ltb-true, lemmas.Bool.ne_eqb}
 use Rattle.std.proofs.{lemmas.List.Recursion.and_at, lemmas.Fmt.decimal_nonempty, lemmas.Int.ints}
-use Rattle.std.specs.declared.cmp.Ordering.TheVariants.{Less, Equal, Greater}
 use Rattle.std.specs.Str.Lines.{lines, lines_of_parts, strip_carriage_return}
 use Rattle.std.specs.List.{AllByRecursion, list_all, slice_split, join_with_byte}
-use Rattle.ord_machine.specs.OrdInsertKind.TheVariants as kinds
-use Rattle.ord_machine.specs.declared.command.Command.TheVariants as commands
 use Rattle.ord_script.specs.Spelling.{Argument, key, value, index, count, pointer, flag, argument_text, IsInRange, saying_of, spelled, CanBeSaid, script_text}
 use Rattle.ord_script.specs.{Script.is_blank, Script.words_of, Script.and_then, Script.script_from, Script.script_of, Pairs.PairCommand}
-use Rattle.ord_script.specs.Commands.{said_by}
+use Rattle.ord_script.specs.Commands.{word_text, said_by}
+use Rattle.ord_script.specs.declared.word.Word.{Word}
+use Rattle.ord_script.specs.declared.word.Word.TheVariants as words
 use Rattle.ord_script.proofs.{Parts.words_among, Parts.words_among-cons, Parts.lines_onto, Spelled.command_text, Spelled.in_range}
 use Rattle.ord_script.proofs.NumberTexts.{digits_all, decimal_digits}
 
@@ -46,35 +45,27 @@ argument_whole (flag true) range = number_whole 1 (omega arith)
 argument_whole (flag false) range = number_whole 0 (omega arith)
 
 -- the words that begin a line
-word_test : (command : PairCommand) → nat_lt 0 (length (saying_of command).word) && list_all (nat_lt 32) (saying_of command).word ≡ true
-word_test (commands.Insert pair) = refl
-word_test (commands.Entry kinds.Empty pair) = refl
-word_test (commands.Entry (kinds.Normal k) pair) = refl
-word_test (commands.Entry (kinds.Nonhereditary k) pair) = refl
-word_test (commands.Entry (kinds.Linear i n k) pair) = refl
-word_test (commands.Entry (kinds.NonhereditaryLinear i n k) pair) = refl
-word_test (commands.Entry (kinds.Manual i Less) pair) = refl
-word_test (commands.Entry (kinds.Manual i Equal) pair) = refl
-word_test (commands.Entry (kinds.Manual i Greater) pair) = refl
-word_test command = refl
+word_test : (word : Word) → nat_lt 0 (length (word_text word)) && list_all (nat_lt 32) (word_text word) ≡ true
+word_test words.Insert = refl
+word_test word = refl
 
 both_true : (a b : Bool) → a && b ≡ true → (a ≡ true) × (b ≡ true)
 both_true true b h = (refl, h)
 both_true false b h = cc
 
-word_whole : (command : PairCommand) → IsWhole (saying_of command).word
-word_whole command =
-    let word = (saying_of command).word in
-    let test = both_true _ _ (word_test command) in
+word_whole : (word : Word) → IsWhole (word_text word)
+word_whole word =
+    let test = both_true _ _ (word_test word) in
     record {
-      some = ltb-true 0 (length word) test.0;
-      dark = λ k d within. ltb-true 32 (get_or word k d) (and_at (list_all (nat_lt 32)) (nat_lt 32) refl (λ x xs. refl) word k d within test.1);
+      some = ltb-true 0 (length (word_text word)) test.0;
+      dark = λ k d within. ltb-true 32 (get_or (word_text word) k d) (and_at (list_all (nat_lt 32)) (nat_lt 32) refl (λ x xs. refl) (word_text word) k d within test.1);
     }
 
 words_whole : (command : PairCommand) → CanBeSaid command → All IsWhole (spelled command)
 words_whole command sayable =
+    let word = (saying_of command).word in
     let arguments = (saying_of command).arguments in
-    All-cons IsWhole (saying_of command).word (map argument_text arguments) (word_whole command)
+    All-cons IsWhole (word_text word) (map argument_text arguments) (word_whole word)
     (All-map IsWhole argument_text arguments (All-weaker IsInRange (λ a. IsWhole (argument_text a)) argument_whole arguments (in_range command sayable)))
 
 no_blank : (word : List ℕ) → IsWhole word → All (λ b. is_blank b ≡ false) word

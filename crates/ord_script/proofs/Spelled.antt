@@ -7,7 +7,7 @@ use Rattle.ord_machine.specs.OrdInsertKind.{OrdInsertKind}
 use Rattle.ord_machine.specs.OrdInsertKind.TheVariants as kinds
 use Rattle.ord_machine.specs.declared.command.Command.TheVariants as commands
 use Rattle.ord_script.specs.Spelling.{Argument, pair_arguments, key, value, index, count, pointer, flag, argument_text, IsInRange, saying_of, spelled, GoesByItsKey, CanBeSaid}
-use Rattle.ord_script.specs.Commands.{◌>>=◌, taking, word_text, word_of, said_by, nonhereditary, linear, nonhereditary_linear, entry_beside, hint_and_pair}
+use Rattle.ord_script.specs.Commands.{◌>>=◌, taking, said_by, nonhereditary, linear, nonhereditary_linear, entry_beside, hint_and_pair}
 use Rattle.ord_script.specs.Arguments.{Reader, nothing, one, both, key_and_value, none_left, arguments_in}
 use Rattle.ord_script.specs.Numbers.{key_of, value_of, index_of, flag_of, pointer_of}
 use Rattle.ord_script.specs.Pairs.{Pair, Pointer, PairCommand}
@@ -117,16 +117,3 @@ in_range command sayable = sayable
 
 pub command_text : (command : PairCommand) → CanBeSaid command → said_by (spelled command) ≡ Some (Ok command)
 command_text command sayable = said_by-spelled command sayable (recursion_from_All IsInRange (saying_of command).arguments (in_range command sayable))
-
--- its first word
-pub command_word : (command : PairCommand) → word_text (word_of command) ≡ (saying_of command).word
-command_word (commands.Insert pair) = refl
-command_word (commands.Entry kinds.Empty pair) = refl
-command_word (commands.Entry (kinds.Normal k) pair) = refl
-command_word (commands.Entry (kinds.Nonhereditary k) pair) = refl
-command_word (commands.Entry (kinds.Linear i n k) pair) = refl
-command_word (commands.Entry (kinds.NonhereditaryLinear i n k) pair) = refl
-command_word (commands.Entry (kinds.Manual i Less) pair) = refl
-command_word (commands.Entry (kinds.Manual i Equal) pair) = refl
-command_word (commands.Entry (kinds.Manual i Greater) pair) = refl
-command_word command = refl

@@ -148,49 +148,6 @@ command_by words.SetMax = taking (one value_of) commands.SetMax
 command_by words.DrainOrdered = taking (one value_of) commands.DrainOrdered
 command_by words.Stats = without_arguments commands.Stats
 
--- the first word of a command
-abbrev pub word_of : PairCommand → Word
-word_of (commands.Insert pair) = words.Insert
-word_of (commands.InsertWithin pair) = words.Within
-word_of (commands.Entry kinds.Empty pair) = words.Empty
-word_of (commands.Entry (kinds.Nonhereditary key) pair) = words.Nonhereditary
-word_of (commands.Entry (kinds.Linear index count key) pair) = words.Linear
-word_of (commands.Entry (kinds.NonhereditaryLinear index count key) pair) = words.NonhereditaryLinear
-word_of (commands.Entry (kinds.Manual index Less) pair) = words.Before
-word_of (commands.Entry (kinds.Manual index Equal) pair) = words.At
-word_of (commands.Entry (kinds.Manual index Greater) pair) = words.After
--- no line says these two; they have the words of insertions by key
-word_of (commands.Entry (kinds.Normal key) pair) = words.Insert
-word_of (commands.EntryWithin kind pair) = words.Within
-word_of (commands.Set pointer pair) = words.Set
-word_of (commands.Rekey pointer pair) = words.Rekey
-word_of (commands.Remove pointer) = words.Remove
-word_of (commands.RemoveInx index) = words.RemoveInx
-word_of (commands.Invalidate pointer) = words.Invalidate
-word_of commands.Clear = words.Clear
-word_of commands.IncGeneration = words.IncGeneration
-word_of (commands.Compress reset) = words.Compress
-word_of (commands.Canonical reset) = words.Canonical
-word_of (commands.Find key) = words.Find
-word_of (commands.FindLinear pointer count key) = words.FindLinear
-word_of (commands.Similar key) = words.Similar
-word_of (commands.SimilarLinear index count key) = words.SimilarLinear
--- no line says these two; they have the words of searches by key
-word_of commands.FindWith = words.Find
-word_of commands.SimilarWith = words.Similar
-word_of (commands.Visits key) = words.Visits
-word_of (commands.Get pointer) = words.Get
-word_of commands.First = words.First
-word_of commands.Last = words.Last
-word_of (commands.Neighbours index) = words.Neighbours
-word_of commands.List = words.List
-word_of commands.Ranks = words.Ranks
-word_of commands.Check = words.Check
-word_of (commands.Reserve n) = words.Reserve
-word_of (commands.SetMax n) = words.SetMax
-word_of (commands.DrainOrdered num) = words.DrainOrdered
-word_of commands.Stats = words.Stats
-
 -- the faults are checked in order: the word, the number of arguments, and then each argument from the left
 abbrev pub command_of : List ℕ → List (List ℕ) → Result PairCommand FaultKind
 command_of text arguments = ok_or (word_in all_words text) UnknownCommand >>= λ word. command_by word arguments

@@ -1,7 +1,7 @@
 -- The laws of scripts, each as a statement of its own.
 use Rattle.std.specs.Prelude.{◌≡◌, ℕ, ℤ, List, [], ◌∷◌, All, Contains, codes, Some, None, Ok}
-use Rattle.ord_script.specs.Spelling.{key, pointer, argument_text, IsInRange, saying_of, spelled, CanBeSaid, script_text}
-use Rattle.ord_script.specs.{Commands.word_text, Commands.word_of, Commands.said_by, Numbers.key_of, Numbers.pointer_of, Script.script_of}
+use Rattle.ord_script.specs.Spelling.{key, pointer, argument_text, IsInRange, spelled, CanBeSaid, script_text}
+use Rattle.ord_script.specs.{Commands.said_by, Numbers.key_of, Numbers.pointer_of, Script.script_of}
 use Rattle.ord_script.specs.{Pairs.Pointer, Pairs.PairCommand, Service.Answers}
 
 -- the answers to a script of these two commands; a line says if memory was refused
@@ -23,10 +23,6 @@ PointerTextLaw = (p : Pointer) → IsInRange (pointer p) → pointer_of (argumen
 -- reading what a script says for a command gives the command
 abbrev pub CommandTextLaw : Type 0
 CommandTextLaw = (command : PairCommand) → CanBeSaid command → said_by (spelled command) ≡ Some (Ok command)
-
--- the first word of a command is the one that a script says for it
-abbrev pub CommandWordLaw : Type 0
-CommandWordLaw = (command : PairCommand) → word_text (word_of command) ≡ (saying_of command).word
 
 -- cutting and reading the lines of some commands gives these commands and no fault
 abbrev pub ScriptTextLaw : Type 0

@@ -1,11 +1,13 @@
 -- What a script says for each command: the words of its line.
-use Rattle.std.specs.Prelude.{◌≡◌, Bool, true, false, ℕ, ◌^◌, ◌<◌, ℤ, pos, neg_ℤ, ◌≤ℤ◌, ◌<ℤ◌, List, [], ◌∷◌, ◌++◌, All, map, flat_map, codes, decimal}
+use Rattle.std.specs.Prelude.{◌≡◌, Bool, true, false, ℕ, ◌^◌, ◌<◌, ℤ, pos, neg_ℤ, ◌≤ℤ◌, ◌<ℤ◌, List, [], ◌∷◌, ◌++◌, All, map, flat_map, decimal}
 use Rattle.std.specs.declared.cmp.Ordering.TheVariants.{Less, Equal, Greater}
 use Rattle.std.specs.{List.join_with_byte, Fmt.signed_decimal}
 use Rattle.ord_machine.specs.OrdInsertKind.{OrdInsertKind}
 use Rattle.ord_machine.specs.OrdInsertKind.TheVariants as kinds
 use Rattle.ord_machine.specs.declared.command.Command.TheVariants as commands
-use Rattle.ord_script.specs.{Pairs.Pair, Pairs.Pointer, Pairs.PairCommand, Text.pointer_text}
+use Rattle.ord_script.specs.declared.word.Word.{Word}
+use Rattle.ord_script.specs.declared.word.Word.TheVariants as words
+use Rattle.ord_script.specs.{Commands.word_text, Pairs.Pair, Pairs.Pointer, Pairs.PairCommand, Text.pointer_text}
 
 -- an argument of a command
 pub data Argument : Type 0 where
@@ -41,7 +43,7 @@ IsInRange (flag b) = Unit {0}
 
 -- the word of a command, and its arguments
 pub record Saying : Type 0 where
-  pub word : List ℕ
+  pub word : Word
   pub arguments : List Argument
 
 -- a pair is a key and a value
@@ -50,52 +52,52 @@ pair_arguments pair = key pair.0 ∷ value pair.1 ∷ []
 
 -- what a script says for each command
 abbrev pub saying_of : PairCommand → Saying
-saying_of (commands.Insert pair) = record { word = codes "insert"; arguments = pair_arguments pair }
-saying_of (commands.InsertWithin pair) = record { word = codes "within"; arguments = pair_arguments pair }
-saying_of (commands.Entry kinds.Empty pair) = record { word = codes "empty"; arguments = pair_arguments pair }
-saying_of (commands.Entry (kinds.Nonhereditary k) pair) = record { word = codes "nonhereditary"; arguments = pair_arguments pair }
+saying_of (commands.Insert pair) = record { word = words.Insert; arguments = pair_arguments pair }
+saying_of (commands.InsertWithin pair) = record { word = words.Within; arguments = pair_arguments pair }
+saying_of (commands.Entry kinds.Empty pair) = record { word = words.Empty; arguments = pair_arguments pair }
+saying_of (commands.Entry (kinds.Nonhereditary k) pair) = record { word = words.Nonhereditary; arguments = pair_arguments pair }
 saying_of (commands.Entry (kinds.Linear i n k) pair) =
-    record { word = codes "linear"; arguments = index i ∷ count n ∷ pair_arguments pair }
+    record { word = words.Linear; arguments = index i ∷ count n ∷ pair_arguments pair }
 saying_of (commands.Entry (kinds.NonhereditaryLinear i n k) pair) =
-    record { word = codes "nonhereditary-linear"; arguments = index i ∷ count n ∷ pair_arguments pair }
-saying_of (commands.Entry (kinds.Manual i Less) pair) = record { word = codes "before"; arguments = index i ∷ pair_arguments pair }
-saying_of (commands.Entry (kinds.Manual i Equal) pair) = record { word = codes "at"; arguments = index i ∷ pair_arguments pair }
-saying_of (commands.Entry (kinds.Manual i Greater) pair) = record { word = codes "after"; arguments = index i ∷ pair_arguments pair }
+    record { word = words.NonhereditaryLinear; arguments = index i ∷ count n ∷ pair_arguments pair }
+saying_of (commands.Entry (kinds.Manual i Less) pair) = record { word = words.Before; arguments = index i ∷ pair_arguments pair }
+saying_of (commands.Entry (kinds.Manual i Equal) pair) = record { word = words.At; arguments = index i ∷ pair_arguments pair }
+saying_of (commands.Entry (kinds.Manual i Greater) pair) = record { word = words.After; arguments = index i ∷ pair_arguments pair }
 -- it says nothing for these two; they have the words of insertions by key
-saying_of (commands.Entry (kinds.Normal k) pair) = record { word = codes "insert"; arguments = [] }
-saying_of (commands.EntryWithin kind pair) = record { word = codes "within"; arguments = [] }
-saying_of (commands.Set p pair) = record { word = codes "set"; arguments = pointer p ∷ pair_arguments pair }
-saying_of (commands.Rekey p pair) = record { word = codes "rekey"; arguments = pointer p ∷ pair_arguments pair }
-saying_of (commands.Remove p) = record { word = codes "remove"; arguments = pointer p ∷ [] }
-saying_of (commands.RemoveInx i) = record { word = codes "remove-index"; arguments = index i ∷ [] }
-saying_of (commands.Invalidate p) = record { word = codes "invalidate"; arguments = pointer p ∷ [] }
-saying_of commands.Clear = record { word = codes "clear"; arguments = [] }
-saying_of commands.IncGeneration = record { word = codes "next-generation"; arguments = [] }
-saying_of (commands.Compress b) = record { word = codes "compress"; arguments = flag b ∷ [] }
-saying_of (commands.Canonical b) = record { word = codes "canonical"; arguments = flag b ∷ [] }
-saying_of (commands.Find k) = record { word = codes "find"; arguments = key k ∷ [] }
-saying_of (commands.FindLinear p n k) = record { word = codes "find-linear"; arguments = pointer p ∷ count n ∷ key k ∷ [] }
-saying_of (commands.Similar k) = record { word = codes "similar"; arguments = key k ∷ [] }
-saying_of (commands.SimilarLinear i n k) = record { word = codes "similar-linear"; arguments = index i ∷ count n ∷ key k ∷ [] }
+saying_of (commands.Entry (kinds.Normal k) pair) = record { word = words.Insert; arguments = [] }
+saying_of (commands.EntryWithin kind pair) = record { word = words.Within; arguments = [] }
+saying_of (commands.Set p pair) = record { word = words.Set; arguments = pointer p ∷ pair_arguments pair }
+saying_of (commands.Rekey p pair) = record { word = words.Rekey; arguments = pointer p ∷ pair_arguments pair }
+saying_of (commands.Remove p) = record { word = words.Remove; arguments = pointer p ∷ [] }
+saying_of (commands.RemoveInx i) = record { word = words.RemoveInx; arguments = index i ∷ [] }
+saying_of (commands.Invalidate p) = record { word = words.Invalidate; arguments = pointer p ∷ [] }
+saying_of commands.Clear = record { word = words.Clear; arguments = [] }
+saying_of commands.IncGeneration = record { word = words.IncGeneration; arguments = [] }
+saying_of (commands.Compress b) = record { word = words.Compress; arguments = flag b ∷ [] }
+saying_of (commands.Canonical b) = record { word = words.Canonical; arguments = flag b ∷ [] }
+saying_of (commands.Find k) = record { word = words.Find; arguments = key k ∷ [] }
+saying_of (commands.FindLinear p n k) = record { word = words.FindLinear; arguments = pointer p ∷ count n ∷ key k ∷ [] }
+saying_of (commands.Similar k) = record { word = words.Similar; arguments = key k ∷ [] }
+saying_of (commands.SimilarLinear i n k) = record { word = words.SimilarLinear; arguments = index i ∷ count n ∷ key k ∷ [] }
 -- it says nothing for these two; they have the words of searches by key
-saying_of commands.FindWith = record { word = codes "find"; arguments = [] }
-saying_of commands.SimilarWith = record { word = codes "similar"; arguments = [] }
-saying_of (commands.Visits k) = record { word = codes "visits"; arguments = key k ∷ [] }
-saying_of (commands.Get p) = record { word = codes "get"; arguments = pointer p ∷ [] }
-saying_of commands.First = record { word = codes "first"; arguments = [] }
-saying_of commands.Last = record { word = codes "last"; arguments = [] }
-saying_of (commands.Neighbours i) = record { word = codes "neighbours"; arguments = index i ∷ [] }
-saying_of commands.List = record { word = codes "list"; arguments = [] }
-saying_of commands.Ranks = record { word = codes "ranks"; arguments = [] }
-saying_of commands.Check = record { word = codes "check"; arguments = [] }
-saying_of (commands.Reserve n) = record { word = codes "reserve"; arguments = count n ∷ [] }
-saying_of (commands.SetMax n) = record { word = codes "max"; arguments = count n ∷ [] }
-saying_of (commands.DrainOrdered n) = record { word = codes "drain"; arguments = count n ∷ [] }
-saying_of commands.Stats = record { word = codes "stats"; arguments = [] }
+saying_of commands.FindWith = record { word = words.Find; arguments = [] }
+saying_of commands.SimilarWith = record { word = words.Similar; arguments = [] }
+saying_of (commands.Visits k) = record { word = words.Visits; arguments = key k ∷ [] }
+saying_of (commands.Get p) = record { word = words.Get; arguments = pointer p ∷ [] }
+saying_of commands.First = record { word = words.First; arguments = [] }
+saying_of commands.Last = record { word = words.Last; arguments = [] }
+saying_of (commands.Neighbours i) = record { word = words.Neighbours; arguments = index i ∷ [] }
+saying_of commands.List = record { word = words.List; arguments = [] }
+saying_of commands.Ranks = record { word = words.Ranks; arguments = [] }
+saying_of commands.Check = record { word = words.Check; arguments = [] }
+saying_of (commands.Reserve n) = record { word = words.Reserve; arguments = count n ∷ [] }
+saying_of (commands.SetMax n) = record { word = words.SetMax; arguments = count n ∷ [] }
+saying_of (commands.DrainOrdered n) = record { word = words.DrainOrdered; arguments = count n ∷ [] }
+saying_of commands.Stats = record { word = words.Stats; arguments = [] }
 
 -- the words of its line
 abbrev pub spelled : PairCommand → List (List ℕ)
-spelled command = (saying_of command).word ∷ map argument_text (saying_of command).arguments
+spelled command = word_text (saying_of command).word ∷ map argument_text (saying_of command).arguments
 
 -- a line can name this place for a pair: by the pair's own key, if by a key
 abbrev pub GoesByItsKey : OrdInsertKind Pointer ℤ ℕ ℕ → Pair → Type 0

@@ -1,6 +1,6 @@
 //! Laws of scripts. The functions here do nothing. The contract of each is the law: a fact about every script.
 
-ghost use Rattle.ord_script.specs.Laws.{FirstRankTextLaw, KeyTextLaw, PointerTextLaw, CommandTextLaw, CommandWordLaw, ScriptTextLaw};
+ghost use Rattle.ord_script.specs.Laws.{FirstRankTextLaw, KeyTextLaw, PointerTextLaw, CommandTextLaw, ScriptTextLaw};
 
 pub use ord_machine::laws::first_rank_law;
 use std::alloc::Allocator;
@@ -23,11 +23,6 @@ pub fn pointer_text_law()
 /// Reading what a script says for a command gives the command.
 pub fn command_text_law()
     ensures { CommandTextLaw }
-{}
-
-/// The first word of a command is the one that a script says for it.
-pub fn command_word_law()
-    ensures { CommandWordLaw }
 {}
 
 /// Cutting and reading the lines of some commands gives these commands and no fault.
