@@ -6,9 +6,9 @@ mod command;
 
 use answers::{Calendar, obey};
 use command::Fault;
-use command_line::{Request, WRONG_USAGE};
+use command_line::{Request, Session, WRONG_USAGE, serve};
 use std::alloc::Global;
-use std::io::{BufRead, BufReader, BufWriter, Write};
+use std::io::{BufWriter, Write};
 use std::process::ExitCode;
 use std::{io, str};
 use timeline::Timeline;
@@ -35,72 +35,53 @@ from a pipe after each line, from a file in blocks.
 Exit status: 0; 1 if reading or writing failed; 64 on wrong usage.
 ";
 
-/// How many lines there were, how many of them were obeyed, and how many weren't.
-#[derive(Default, Drop)]
-struct Figures {
+/// A calendar that answers commands, and how many lines there were, how many of them were obeyed, and how many weren't.
+#[derive(Drop)]
+struct Clerk {
+    alloc: Global,
+    calendar: Calendar,
     lines: u64,
     done: u64,
     bad: u64,
 }
 
-/// Obeys a line, and answers it. A line that can't be obeyed is reported by its number and changes nothing.
-fn answer<W: Write>(
-    alloc: Global,
-    out: &mut W,
-    calendar: &mut Calendar,
-    figures: &mut Figures,
-    line: &[u8],
-) -> io::Result<()> {
-    let outcome = match str::from_utf8(line) {
-        Ok(text) => obey(alloc, out, calendar, text),
-        Err(_) => Err(Fault::NotText),
-    };
-    match outcome {
-        Ok(true) => figures.done = figures.done.saturating_add(1),
-        Ok(false) => {}
-        Err(Fault::Device(error)) => return Err(error),
-        Err(fault) => {
-            figures.bad = figures.bad.saturating_add(1);
-            writeln!(out, "line {}: {fault}", figures.lines)?;
+impl Session for Clerk {
+    // A line that can't be obeyed is reported by its number and changes nothing.
+    fn answer<W: Write>(&mut self, out: &mut W, line: &[u8]) -> io::Result<()> {
+        self.lines = self.lines.saturating_add(1);
+        let outcome = match str::from_utf8(line) {
+            Ok(text) => obey(self.alloc, out, &mut self.calendar, text),
+            Err(_) => Err(Fault::NotText),
+        };
+        match outcome {
+            Ok(true) => self.done = self.done.saturating_add(1),
+            Ok(false) => {}
+            Err(Fault::Device(error)) => return Err(error),
+            Err(fault) => {
+                self.bad = self.bad.saturating_add(1);
+                writeln!(out, "line {}: {fault}", self.lines)?;
+            }
         }
+        Ok(())
     }
-    Ok(())
-}
-
-/// Obeys each line of standard input in turn. What was answered is written once no whole line is left in the buffer of the input.
-fn serve<W: Write>(
-    rt: &(impl Input + AllocGlobal),
-    out: &mut W,
-    calendar: &mut Calendar,
-    figures: &mut Figures,
-) -> io::Result<()> {
-    let mut input = BufReader::new(rt.alloc(), rt.reader())?;
-    let mut line = Vec::new(rt.alloc());
-    for _ in 0..u64::MAX {
-        line.clear();
-        if input.read_until(b'\n', &mut line)? == 0 {
-            break;
-        }
-        figures.lines = figures.lines.saturating_add(1);
-        answer(rt.alloc(), out, calendar, figures, line.as_slice())?;
-        if !input.buffer().contains(&b'\n') {
-            out.flush()?;
-        }
-    }
-    Ok(())
 }
 
 /// Serves standard input, and writes the figures as the last line.
 fn run(rt: &(impl Input + Print + AllocGlobal)) -> io::Result<()> {
     let mut out = BufWriter::new(rt.alloc(), io::writer(rt))?;
-    let mut calendar = Timeline::new(rt.alloc());
-    let mut figures = Figures::default();
-    let end = serve(rt, &mut out, &mut calendar, &mut figures);
-    let (lines, done, bad) = (figures.lines, figures.done, figures.bad);
+    let mut clerk = Clerk {
+        alloc: rt.alloc(),
+        calendar: Timeline::new(rt.alloc()),
+        lines: 0,
+        done: 0,
+        bad: 0,
+    };
+    let end = serve(rt, &mut out, &mut clerk);
+    let (lines, done, bad) = (clerk.lines, clerk.done, clerk.bad);
     writeln!(
         out,
         "lines {lines}, done {done}, bad {bad}, changes {}",
-        calendar.len()
+        clerk.calendar.len()
     )?;
     out.flush()?;
     end

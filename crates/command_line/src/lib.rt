@@ -1,8 +1,10 @@
-//! What programs share that read commands from standard input, one a line: their arguments, and numbers as words.
+//! What programs share that read commands from standard input, one a line: their arguments, the lines, and numbers as words.
 #![tactic(auto)]
 
 mod numbers;
 mod request;
+mod session;
 
 pub use numbers::{NumberError, number};
 pub use request::{Request, WRONG_USAGE};
+pub use session::{Session, serve};

@@ -8,10 +8,10 @@ mod exchange;
 
 use answers::{Figures, obey, report, write_totals};
 use command::Fault;
-use command_line::{Request, WRONG_USAGE};
+use command_line::{Request, Session, WRONG_USAGE, serve};
 use exchange::Exchange;
 use std::alloc::Global;
-use std::io::{BufRead, BufReader, BufWriter, Write};
+use std::io::{BufWriter, Write};
 use std::process::ExitCode;
 use std::{io, str};
 
@@ -41,52 +41,37 @@ written when no whole line is left to be read.
 Exit status: 0; 1 if reading or writing failed; 64 on wrong usage.
 ";
 
-/// Obeys a line, and answers it. A line that can't be obeyed is reported by its number and changes nothing; a blank one is passed over.
-fn answer<W: Write>(
+/// An exchange that answers commands, and its figures.
+#[derive(Drop)]
+struct Clerk {
     alloc: Global,
-    writer: &mut W,
-    exchange: &mut Exchange,
-    figures: &mut Figures,
-    line: &[u8],
-) -> io::Result<()> {
-    let outcome = match str::from_utf8(line) {
-        Ok(text) if text.trim_ascii().is_empty() => return Ok(()),
-        Ok(text) => obey(alloc, writer, exchange, figures, text),
-        Err(_) => Err(Fault::NotText),
-    };
-    report(writer, figures, outcome)
+    exchange: Exchange,
+    figures: Figures,
 }
 
-/// Obeys each line of standard input in turn. What was answered is written once no whole line is left in the buffer of the input.
-fn serve<W: Write>(
-    rt: &(impl Input + AllocGlobal),
-    writer: &mut W,
-    exchange: &mut Exchange,
-    figures: &mut Figures,
-) -> io::Result<()> {
-    let mut input = BufReader::new(rt.alloc(), rt.reader())?;
-    let mut line = Vec::new(rt.alloc());
-    for _ in 0..u64::MAX {
-        line.clear();
-        if input.read_until(b'\n', &mut line)? == 0 {
-            break;
-        }
-        figures.lines = figures.lines.saturating_add(1);
-        answer(rt.alloc(), writer, exchange, figures, line.as_slice())?;
-        if !input.buffer().contains(&b'\n') {
-            writer.flush()?;
-        }
+impl Session for Clerk {
+    // A line that can't be obeyed is reported by its number and changes nothing; a blank one is passed over.
+    fn answer<W: Write>(&mut self, out: &mut W, line: &[u8]) -> io::Result<()> {
+        self.figures.lines = self.figures.lines.saturating_add(1);
+        let outcome = match str::from_utf8(line) {
+            Ok(text) if text.trim_ascii().is_empty() => return Ok(()),
+            Ok(text) => obey(self.alloc, out, &mut self.exchange, &mut self.figures, text),
+            Err(_) => Err(Fault::NotText),
+        };
+        report(out, &mut self.figures, outcome)
     }
-    Ok(())
 }
 
 /// Serves standard input, and writes the totals as the last line.
 fn run(rt: &(impl Input + Print + AllocGlobal)) -> io::Result<()> {
     let mut writer = BufWriter::new(rt.alloc(), io::writer(rt))?;
-    let mut exchange = Exchange::new(rt.alloc());
-    let mut figures = Figures::new();
-    let end = serve(rt, &mut writer, &mut exchange, &mut figures);
-    write_totals(&mut writer, &exchange, &figures)?;
+    let mut clerk = Clerk {
+        alloc: rt.alloc(),
+        exchange: Exchange::new(rt.alloc()),
+        figures: Figures::new(),
+    };
+    let end = serve(rt, &mut writer, &mut clerk);
+    write_totals(&mut writer, &clerk.exchange, &clerk.figures)?;
     writer.flush()?;
     end
 }

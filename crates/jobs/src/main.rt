@@ -8,6 +8,7 @@ mod serve;
 mod volatile;
 
 use agenda_store::{FileDevice, Store};
+use command_line::WRONG_USAGE;
 use options::Options;
 use paced::{Pace, Paced};
 use serve::{HELP, serve};
@@ -15,9 +16,6 @@ use std::fmt::Display;
 use std::io;
 use std::process::ExitCode;
 use volatile::Volatile;
-
-/// The exit status on wrong usage.
-const WRONG_USAGE: u8 = 64;
 
 /// The exit status if reading or writing failed.
 const FAILURE: u8 = 1;
