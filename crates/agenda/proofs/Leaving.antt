@@ -7,10 +7,10 @@ use Rattle.triple_ord.specs.PlainArena.{limit_of}
 use Rattle.triple_ord.specs.Chain.{Entry, removed, IsSound as IsSoundChain, IsDistinct as AreDistinct, entry_at, item_of, without as without_index}
 use Rattle.triple_ord.proofs.ChainLemmas.{entry_at-absent}
 use Rattle.triple_ord.specs.Tree.{Tree}
-use Rattle.agenda.specs.Agenda.{Scheduled, Agenda, most_jobs, count, Updates, with_left, is_named_by, job_of, without, IsInOrder, IsDistinct, IsSound}
+use Rattle.agenda.specs.Agenda.{greatest_generation, Scheduled, Agenda, most_entries, count, Updates, with_left, is_named_by, job_of, without, IsInOrder, IsDistinct, IsSound}
 use Rattle.agenda.specs.Tickets.{IsStep}
 use Rattle.agenda.proofs.Steps.{step-stays, step-leaves}
-use Rattle.agenda.specs.Layout.{greatest_generation, scheduled, agenda_of, IsArenaOfJobs}
+use Rattle.agenda.specs.Layout.{scheduled, agenda_of, IsArenaOfJobs}
 use Rattle.agenda.proofs.Naming.{length-without, updates-none, updates-left}
 
 module _ {J : Type 0} where
@@ -69,12 +69,12 @@ module _ {J : Type 0} where
   ]
 
   -- what is true of an arena's list is true of its agenda
-  pub sound-found : (a : Tree (ℕ × J)) → IsSoundChain most_jobs greatest_generation a.list → IsArenaOfJobs a → IsSound (agenda_of a)
+  pub sound-found : (a : Tree (ℕ × J)) → IsSoundChain most_entries greatest_generation a.list → IsArenaOfJobs a → IsSound (agenda_of a)
   sound-found a sound holds = record {
     in_order = holds.in_order;
     distinct = distinct-found a.list.entries sound.distinct;
     within = omega (arith, length-map a.list.entries (scheduled {J = J}), sound.counted);
-    limited = omega (arith, sound.within_limit, ap (limit_of most_jobs) holds.unlimited);
+    limited = omega (arith, sound.within_limit, ap (limit_of most_entries) holds.unlimited);
   }
 
   -- what the removal of a ticket's entry leaves

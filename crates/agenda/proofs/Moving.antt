@@ -3,30 +3,31 @@ use Rattle.std.proofs.Common.{◌≡◌, ℕ, ◌∙◌, Some, ap, is_some, subs
 use Rattle.std.specs.Ordering.{nat_cmp}
 use Rattle.triple_ord.specs.Chain.{removed, item_of, IsSound}
 use Rattle.triple_ord.specs.Tree.{Tree}
-use Rattle.triple_ord.specs.{Insertion.within, Insertion.InsertsNew, Place.behind_key}
-use Rattle.agenda.specs.Agenda.{Agenda, Schedules, Reschedules, Moves, count, most_jobs}
-use Rattle.agenda.specs.Layout.{greatest_generation, deadline_of, agenda_of, IsArenaOfJobs}
+use Rattle.triple_ord.specs.{Insertion.InsertsNew, Place.behind_key}
+use Rattle.triple_ord.specs.declared.growth.Growth.TheVariants.{Within}
+use Rattle.agenda.specs.Agenda.{greatest_generation, Agenda, Schedules, Reschedules, Moves, count, most_entries}
+use Rattle.agenda.specs.Layout.{deadline_of, agenda_of, IsArenaOfJobs}
 use Rattle.agenda.proofs.Leaving.{job_of-found, distinct-found, agenda-removed, arena-removed}
 use Rattle.agenda.proofs.{Naming.moves-rescheduled, Naming.count-rescheduled, Putting.schedules-inserted, Putting.arena-inserted}
 
 -- the arena before, without the job, and with it again
 module _ {J : Type 0} (old between new : Tree (ℕ × J)) (t u : ℕ × ℕ) (d : ℕ) (job : ℕ × J)
-    (sound : IsSound most_jobs greatest_generation old.list) (holds : IsArenaOfJobs old)
+    (sound : IsSound most_entries greatest_generation old.list) (holds : IsArenaOfJobs old)
     (there : item_of old.list.entries t ≡ Some job) (taken : between.list ≡ removed greatest_generation old.list t.0)
-    (sound_between : IsSound most_jobs greatest_generation between.list)
-    (inserts : InsertsNew deadline_of nat_cmp most_jobs within (behind_key d) between (d, job.1) u new) where
+    (sound_between : IsSound most_entries greatest_generation between.list)
+    (inserts : InsertsNew deadline_of nat_cmp most_entries Within (behind_key d) between (d, job.1) u new) where
   holds_between : IsArenaOfJobs between
   holds_between = arena-removed old between t sound.distinct (ap is_some there) taken holds
 
   pub arena-moved : IsArenaOfJobs new
-  arena-moved = arena-inserted within between new d job.1 u inserts sound_between holds_between
+  arena-moved = arena-inserted Within between new d job.1 u inserts sound_between holds_between
 
   pub rescheduled : Reschedules (agenda_of old) t u d (agenda_of new)
   rescheduled = record {
     left = job;
     named = job_of-found old.list.entries sound.distinct t ∙ there;
     put = subst (λ (a : Agenda J). Schedules a u d job.1 (agenda_of new)) (agenda-removed old between t sound.distinct (ap is_some there) taken)
-        (schedules-inserted within between new d job.1 u inserts sound_between holds_between);
+        (schedules-inserted Within between new d job.1 u inserts sound_between holds_between);
   }
 
   pub moves-moved : Moves (agenda_of old) (agenda_of new) t u d

@@ -6,13 +6,14 @@ use Rattle.triple_ord.specs.Chain.{Entry, Chain, times, IsSound}
 use Rattle.triple_ord.specs.Insert.{IsInsertion}
 use Rattle.triple_ord.proofs.ChainLemmas.{after-insertion, entry_at-absent}
 use Rattle.triple_ord.specs.Tree.{Tree}
-use Rattle.triple_ord.specs.Insertion.{Growth, with_room_by, InsertsNew}
+use Rattle.triple_ord.specs.Insertion.{with_room_by, InsertsNew}
+use Rattle.triple_ord.specs.declared.growth.Growth.{Growth}
 use Rattle.triple_ord.specs.{Gap.Gap, Gap.before, Gap.after, Gap.with_between}
 use Rattle.triple_ord.specs.{Place.behind_key}
 use Rattle.triple_ord.proofs.CallerLemmas.{entries-with_room_by, numbers-with_room_by, numbers-inserted, capacity-inserted}
-use Rattle.agenda.specs.Layout.{greatest_generation, scheduled, deadline_of, agenda_of, IsArenaOfJobs}
+use Rattle.agenda.specs.Layout.{scheduled, deadline_of, agenda_of, IsArenaOfJobs}
 use Rattle.triple_ord.specs.PlainArena.{doubled_capacity}
-use Rattle.agenda.specs.Agenda.{Schedules, IsInOrder, most_jobs, count}
+use Rattle.agenda.specs.Agenda.{greatest_generation, Schedules, IsInOrder, most_entries, count}
 use Rattle.agenda.proofs.Deadlines.{in_order-between, in_order-back, none-later, all-later}
 use Rattle.agenda.proofs.Leaving.{job_of-found}
 
@@ -22,13 +23,13 @@ module _ {J : Type 0} (growth : Growth) (old new : Tree (ℕ × J)) (d : ℕ) (j
 
   -- the list with room for one more
   abbrev room : Chain (ℕ × J)
-  room = with_room_by growth most_jobs old.list
+  room = with_room_by growth most_entries old.list
 
   module _ (at_most_before : IfSome (before gap) (λ e. nat_cmp d e.item.0 ≢ Less)) (greater_after : IfSome (after gap) (λ e. nat_cmp d e.item.0 ≡ Less))
       (inserted : IsInsertion room new.list (with_between gap) (d, job) p.0 p.1)
-      (sound : IsSound most_jobs greatest_generation old.list) (holds : IsArenaOfJobs old) where
+      (sound : IsSound most_entries greatest_generation old.list) (holds : IsArenaOfJobs old) where
     numbers-put : (new.list.generation ≡ old.list.generation) × (new.list.maximum ≡ old.list.maximum)
-    numbers-put = numbers-inserted growth most_jobs old.list new.list (with_between gap) (d, job) p.0 p.1 inserted
+    numbers-put = numbers-inserted growth most_entries old.list new.list (with_between gap) (d, job) p.0 p.1 inserted
 
     -- the jobs before and afterwards
     jobs-before : map scheduled old.list.entries ≡ map scheduled gap.front ++ map scheduled gap.back
@@ -41,10 +42,10 @@ module _ {J : Type 0} (growth : Growth) (old new : Tree (ℕ × J)) (d : ℕ) (j
     in_order = rw (← jobs-before) holds.in_order
 
     -- the capacity grows where there was no room
-    capacity-put : new.list.capacity ≡ (if nat_lt (count (agenda_of old)) old.list.capacity then old.list.capacity else doubled_capacity most_jobs old.list.capacity)
+    capacity-put : new.list.capacity ≡ (if nat_lt (count (agenda_of old)) old.list.capacity then old.list.capacity else doubled_capacity most_entries old.list.capacity)
     capacity-put =
-        capacity-inserted growth most_jobs old.list new.list (with_between gap) (d, job) p.0 p.1 inserted sound.counted holds.unlimited
-        ∙ ap (λ n. if nat_lt n old.list.capacity then old.list.capacity else doubled_capacity most_jobs old.list.capacity) (sym (length-map old.list.entries (scheduled {J = J})))
+        capacity-inserted growth most_entries old.list new.list (with_between gap) (d, job) p.0 p.1 inserted sound.counted holds.unlimited
+        ∙ ap (λ n. if nat_lt n old.list.capacity then old.list.capacity else doubled_capacity most_entries old.list.capacity) (sym (length-map old.list.entries (scheduled {J = J})))
 
     schedules-put : Schedules (agenda_of old) p d job (agenda_of new)
     schedules-put = record {
@@ -54,8 +55,8 @@ module _ {J : Type 0} (growth : Growth) (old new : Tree (ℕ × J)) (d : ℕ) (j
       after = jobs-after;
       no_later_before = All-from_recursion _ _ (none-later d (map scheduled gap.back) gap.front in_order at_most_before);
       later_behind = All-from_recursion _ _ (all-later d gap.back (in_order-back _ _ in_order) greater_after);
-      unused = job_of-found old.list.entries sound.distinct p ∙ rw (entry_at-absent old.list.entries p.0 (ap (times p.0) (sym (entries-with_room_by growth most_jobs old.list)) ∙ inserted.vacant.free)) refl;
-      of_generation = inserted.generation ∙ (numbers-with_room_by growth most_jobs old.list).0;
+      unused = job_of-found old.list.entries sound.distinct p ∙ rw (entry_at-absent old.list.entries p.0 (ap (times p.0) (sym (entries-with_room_by growth most_entries old.list)) ∙ inserted.vacant.free)) refl;
+      of_generation = inserted.generation ∙ (numbers-with_room_by growth most_entries old.list).0;
       generation = numbers-put.0;
       capacity = capacity-put;
     }
@@ -69,8 +70,8 @@ module _ {J : Type 0} (growth : Growth) (old new : Tree (ℕ × J)) (d : ℕ) (j
 
 -- what an insertion behind its deadline makes of an agenda
 module _ {J : Type 0} (growth : Growth) (old new : Tree (ℕ × J)) (d : ℕ) (job : J) (p : ℕ × ℕ)
-    (inserts : InsertsNew deadline_of nat_cmp most_jobs growth (behind_key d) old (d, job) p new)
-    (sound : IsSound most_jobs greatest_generation old.list) (holds : IsArenaOfJobs old) where
+    (inserts : InsertsNew deadline_of nat_cmp most_entries growth (behind_key d) old (d, job) p new)
+    (sound : IsSound most_entries greatest_generation old.list) (holds : IsArenaOfJobs old) where
   pub schedules-inserted : Schedules (agenda_of old) p d job (agenda_of new)
   schedules-inserted = schedules-put growth old new d job p inserts.gap inserts.place.at_most_before inserts.place.greater_after inserts.inserted sound holds
 

@@ -6,17 +6,17 @@ use Rattle.std.specs.Ordering.{nat_cmp}
 use Rattle.triple_ord.specs.Chain.{Chain, item_of, IsSound}
 use Rattle.triple_ord.specs.Tree.{Tree}
 use Rattle.triple_ord.specs.Rekey.{Rekeys}
-use Rattle.agenda.specs.Agenda.{Scheduled, MovesDeadline, Updates, IsInOrder, job_of, without, count, most_jobs}
+use Rattle.agenda.specs.Agenda.{greatest_generation, Scheduled, MovesDeadline, Updates, IsInOrder, job_of, without, count, most_entries}
 use Rattle.agenda.specs.Tickets.{IsStep}
 use Rattle.agenda.proofs.Steps.{step-stays, step-moves}
-use Rattle.agenda.specs.Layout.{greatest_generation, deadline_of, scheduled, agenda_of, IsArenaOfJobs}
+use Rattle.agenda.specs.Layout.{deadline_of, scheduled, agenda_of, IsArenaOfJobs}
 use Rattle.agenda.proofs.Deadlines.{in_order-between, in_order-back, none-later, all-later}
 use Rattle.agenda.proofs.Leaving.{job_of-found, distinct-found, without-found, in_order-without}
 use Rattle.agenda.proofs.Naming.{updates-none, updates-moves_deadline, count-moves_deadline}
 
 -- the arena before, and with the job at its new deadline
 module _ {J : Type 0} (old new : Tree (ℕ × J)) (t : ℕ × ℕ) (d : ℕ) (job : ℕ × J)
-    (sound : IsSound most_jobs greatest_generation old.list) (holds : IsArenaOfJobs old)
+    (sound : IsSound most_entries greatest_generation old.list) (holds : IsArenaOfJobs old)
     (there : item_of old.list.entries t ≡ Some job) (r : Rekeys deadline_of nat_cmp old t (d, job.1) new) where
   abbrev moved : Scheduled J
   moved = record { ticket = t; deadline = d; job = job.1 }
@@ -64,7 +64,7 @@ pub record Tells {J : Type 0} (old new : Tree (ℕ × J)) (t : ℕ × ℕ) (d : 
 
 -- it does, where the entry's key is replaced, or there is none
 module _ {J : Type 0} (old new : Tree (ℕ × J)) (t : ℕ × ℕ) (d : ℕ)
-    (sound : IsSound most_jobs greatest_generation old.list) (holds : IsArenaOfJobs old) where
+    (sound : IsSound most_entries greatest_generation old.list) (holds : IsArenaOfJobs old) where
   abbrev found : Option (ℕ × J)
   found = item_of old.list.entries t
 

@@ -1,7 +1,9 @@
 -- What an agenda is: one list of jobs, each with its ticket and its deadline, in the order in which they leave.
 use Rattle.std.specs.Prelude.{◌≡◌, ◌≢◌, ℕ, ◌+◌, ◌≤◌, ◌<◌, ◌==◌, ◌&&◌, leb, nat_lt, if◌then◌else◌, Bool, List, [], ◌∷◌, ◌++◌, length, Option, Some, None}
 use Rattle.std.specs.{Option.option_map, List.All, Borrow.Bor}
-use Rattle.triple_ord.specs.{PlainArena.doubled_capacity, Generation.next_generation}
+use Rattle.triple_ord.specs.PlainArena.{doubled_capacity}
+-- how many jobs an agenda can have, the greatest generation of a ticket, and the generation after one
+pub use Rattle.triple_ord.specs.PlainPointer.{most_entries, greatest_generation, generation_after}
 
 -- a job on the agenda: the ticket that names it, which is an index and a generation; its deadline; and the job itself
 pub record Scheduled (J : Type 0) : Type 0 where
@@ -15,14 +17,6 @@ pub record Agenda (J : Type 0) : Type 0 where
   pub jobs : List (Scheduled J)
   pub generation : ℕ
   pub capacity : ℕ
-
--- how many jobs an agenda can have
-abbrev pub most_jobs : ℕ
-most_jobs = 4294967294
-
--- the generation after g: one more, and 2 after the greatest number of 64 bits
-abbrev pub generation_after : ℕ → ℕ
-generation_after g = next_generation (Some 18446744073709551615) g
 
 module _ {J : Type 0} where
   -- whether this ticket names the job
@@ -86,7 +80,7 @@ module _ {J : Type 0} where
     pub in_order : IsInOrder a.jobs
     pub distinct : IsDistinct a.jobs
     pub within : count a ≤ a.capacity
-    pub limited : a.capacity ≤ most_jobs
+    pub limited : a.capacity ≤ most_entries
 
   -- the agenda with these jobs after one has left: the generation is the next one
   abbrev pub with_left : Agenda J → List (Scheduled J) → Agenda J
@@ -104,7 +98,7 @@ module _ {J : Type 0} where
     pub unused : job_of old.jobs ticket ≡ None
     pub of_generation : ticket.1 ≡ old.generation
     pub generation : new.generation ≡ old.generation
-    pub capacity : new.capacity ≡ (if nat_lt (count old) old.capacity then old.capacity else doubled_capacity most_jobs old.capacity)
+    pub capacity : new.capacity ≡ (if nat_lt (count old) old.capacity then old.capacity else doubled_capacity most_entries old.capacity)
 
   -- a ticket's job leaves and is scheduled again, at this deadline and under the ticket u
   pub record Reschedules (old : Agenda J) (t u : ℕ × ℕ) (deadline : ℕ) (new : Agenda J) : Type 0 where

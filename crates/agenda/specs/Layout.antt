@@ -1,12 +1,8 @@
 -- How an agenda lies in its arena (layout).
-use Rattle.std.specs.Prelude.{◌≡◌, ℕ, Option, Some, None, map}
+use Rattle.std.specs.Prelude.{◌≡◌, ℕ, None, map}
 use Rattle.triple_ord.specs.Chain.{Entry}
 use Rattle.triple_ord.specs.Tree.{Tree}
 use Rattle.agenda.specs.Agenda.{Scheduled, Agenda, IsInOrder}
-
--- the greatest generation of a ticket
-abbrev pub greatest_generation : Option ℕ
-greatest_generation = Some 18446744073709551615
 
 -- the key of an item
 abbrev pub deadline_of : {J : Type 0} → ℕ × J → ℕ

@@ -3,7 +3,7 @@
 ghost use Rattle.std.specs.Prelude.{◌≡◌, ◌==◌, ◌↔◌, ◌+◌, ℕ, ◌≤◌, ◌<◌, [], Err, Some, None, IsOk, map};
 ghost use Rattle.std.specs.Prelude.{IfOk, OnOk, IfErr, OnErr, IfSome, IfNone, OnSome};
 ghost use Rattle.std.specs.{Prelude.is_some, Option.option_map, Bool.OnTrue, Bool.OnFalse};
-ghost use Rattle.agenda.specs.Agenda.{most_jobs, count, job_of, without, with_left, first_deadline, first_due, behind_first};
+ghost use Rattle.agenda.specs.Agenda.{most_entries, count, job_of, without, with_left, first_deadline, first_due, behind_first};
 ghost use Rattle.agenda.specs.Agenda.{IsSound, HasRoomFor, Schedules, Reschedules, MovesDeadline};
 ghost use Rattle.agenda.specs.Agenda.{Updates, Leaves, Moves};
 ghost use Rattle.agenda.specs.Layout.{scheduled};
@@ -161,7 +161,7 @@ impl<J: Drop, A: Allocator> Agenda<J, A> {
         ensures count { OnOk result (count self.new ≡ count self.old + 1) }
         ensures back { IfErr result (λ e. e.0 ≡ job) }
         ensures full { (result ≡ Err (job, ReallocationError.BeyondMaxCapacity))
-            ↔ (count self.old ≡ most_jobs) }
+            ↔ (count self.old ≡ most_entries) }
         ensures memory { result ≡ Err (job, ReallocationError.AllocError)
             → count self.old ≡ self.old.capacity }
         ensures err { OnErr result (self.new ≡ self.old) }

@@ -3,10 +3,11 @@
 ghost use Rattle.std.specs.Prelude.{◌≡◌, ◌<◌, ◌↔◌, Err, IfOk, IfErr, OnErr, length};
 ghost use Rattle.std.specs.Ordering.{nat_cmp};
 ghost use Rattle.triple_ord.specs.Chain.{chain_limit, IsSound};
-ghost use Rattle.triple_ord.specs.Insertion.{within, reallocating, InsertsNew};
+ghost use Rattle.triple_ord.specs.Insertion.{InsertsNew};
+ghost use Rattle.triple_ord.specs.declared.growth.Growth.TheVariants.{Within, Reallocating};
 ghost use Rattle.triple_ord.specs.Place.{aim_of, behind_key, kind_now};
-ghost use Rattle.agenda.specs.Agenda.{most_jobs};
-ghost use Rattle.agenda.specs.Layout.{deadline_of, greatest_generation};
+ghost use Rattle.agenda.specs.Agenda.{greatest_generation, most_entries};
+ghost use Rattle.agenda.specs.Layout.{deadline_of};
 
 use std::alloc::Allocator;
 use triple_ord::{
@@ -41,15 +42,15 @@ pub(crate) fn put<J: Drop, A: Allocator>(
     deadline: u64,
     job: J,
 ) -> Result<P0, (J, ReallocationError)>
-    ensures ok { IfOk result (λ p. InsertsNew deadline_of nat_cmp most_jobs reallocating
+    ensures ok { IfOk result (λ p. InsertsNew deadline_of nat_cmp most_entries Reallocating
         (behind_key deadline) jobs.old (deadline, job) p jobs.new) }
     ensures back { IfErr result (λ e. e.0 ≡ job) }
     ensures full { (result ≡ Err (job, ReallocationError.BeyondMaxCapacity))
-        ↔ (length jobs.old.list.entries ≡ chain_limit most_jobs jobs.old.list) }
+        ↔ (length jobs.old.list.entries ≡ chain_limit most_entries jobs.old.list) }
     ensures memory { result ≡ Err (job, ReallocationError.AllocError)
         → length jobs.old.list.entries ≡ jobs.old.list.capacity }
     ensures err { OnErr result (jobs.new ≡ jobs.old) }
-    ensures sound { IsSound most_jobs greatest_generation jobs.old.list }
+    ensures sound { IsSound most_entries greatest_generation jobs.old.list }
 {
     // For the prover: the list is sound.
     let _ = jobs.len();
@@ -73,9 +74,9 @@ pub(crate) fn put<J: Drop, A: Allocator>(
 /// Inserts a job into an arena with a vacant slot.
 pub(crate) fn put_within<J: Drop, A: Allocator>(jobs: &mut Jobs<J, A>, deadline: u64, job: J) -> P0
     requires { length jobs.old.list.entries < jobs.old.list.capacity }
-    ensures inserted { InsertsNew deadline_of nat_cmp most_jobs within
+    ensures inserted { InsertsNew deadline_of nat_cmp most_entries Within
         (behind_key deadline) jobs.old (deadline, job) result jobs.new }
-    ensures sound { IsSound most_jobs greatest_generation jobs.old.list }
+    ensures sound { IsSound most_entries greatest_generation jobs.old.list }
 {
     // For the prover: the list is sound.
     let _ = jobs.len();

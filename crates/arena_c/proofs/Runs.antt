@@ -7,7 +7,7 @@ use Rattle.sorted_arena.specs.Chain.{Entry, IsDistinct, item_of, first_pointer, 
 use Rattle.sorted_arena.specs.Gap.{first_of, last_of}
 use Rattle.sorted_arena.specs.Sorted.{Inserts, next_of, pointer_of, first_item, first_item_until, behind_first, entries_until, last_item, item_of as pair_in}
 use Rattle.arena_c.specs.declared.entry.Entry.{Entry as Shown}
-use Rattle.arena_c.specs.Shown.{Arena, most, entry_at, entry_found, shown_entry, numbers_of}
+use Rattle.arena_c.specs.Shown.{Arena, most_entries, entry_at, entry_found, shown_entry, numbers_of}
 use Rattle.arena_c.specs.Batch.{first_fall}
 use Rattle.sorted_arena.proofs.CallerLemmas.{first-named, next-here, found-here, appended}
 
@@ -201,14 +201,14 @@ run-first {K = K} {V = V} (e ∷ es) p there = go (e.index == p.0) refl (run-fir
 
 -- one more pair stands behind the others, and the next key is not smaller than its key
 pub append-step : (old new : Arena) (p : ℕ × ℕ) (before : List (ℤ × ℕ)) (ks : List ℤ) (vs : List ℕ) (i : ℕ) → i < length ks → i < length vs
-    → Inserts int_cmp most old p (get_or ks i (pos 0)) (get_or vs i 0) new → first_fall (option_map (λ pair. pair.0) (last_item old.entries)) (drop i ks) i ≡ None
+    → Inserts int_cmp most_entries old p (get_or ks i (pos 0)) (get_or vs i 0) new → first_fall (option_map (λ pair. pair.0) (last_item old.entries)) (drop i ks) i ≡ None
     → map pair_in old.entries ≡ before ++ zip (take i ks) (take i vs)
     → (map pair_in new.entries ≡ before ++ zip (take (i + 1) ks) (take (i + 1) vs)) × (first_fall (option_map (λ pair. pair.0) (last_item new.entries)) (drop (i + 1) ks) (i + 1) ≡ None)
 append-step old new p before ks vs i in_ks in_vs put order held =
     let k : ℤ = get_or ks i (pos 0) in let v : ℕ = get_or vs i 0 in
     let step = fall-step (option_map (λ (pair : ℤ × ℕ). pair.0) (last_item old.entries)) k (drop (i + 1) ks) i
     (subst (λ (zs : List ℤ). first_fall (option_map (λ (pair : ℤ × ℕ). pair.0) (last_item old.entries)) zs i ≡ None) (drop-get ks i (pos 0) in_ks) order) in
-    let added : map pair_in new.entries ≡ map pair_in old.entries ++ (k, v) ∷ [] = appended int_cmp k int_cmp_total most old new p v put (sym (over (last_item old.entries) k) ∙ step.0) in (
+    let added : map pair_in new.entries ≡ map pair_in old.entries ++ (k, v) ∷ [] = appended int_cmp k int_cmp_total most_entries old new p v put (sym (over (last_item old.entries) k) ∙ step.0) in (
       added ∙ ap (λ (zs : List (ℤ × ℕ)). zs ++ (k, v) ∷ []) held ∙ append_assoc before (zip (take i ks) (take i vs)) ((k, v) ∷ []) ∙ ap (λ (zs : List (ℤ × ℕ)). before ++ zs) (sym (zip-step ks vs i in_ks in_vs)),
       ap (λ (o : Option (ℤ × ℕ)). first_fall (option_map (λ (pair : ℤ × ℕ). pair.0) o) (drop (i + 1) ks) (i + 1)) (last-end new.entries (map pair_in old.entries) (k, v) added) ∙ step.1,
     )

@@ -5,17 +5,12 @@ use Rattle.sorted_arena.specs.Chain.{Entry as Listed}
 use Rattle.sorted_arena.specs.Sorted.{Sorted, pair_of}
 use Rattle.arena_c.specs.declared.entry.Pointer.{Pointer}
 use Rattle.arena_c.specs.declared.entry.Entry.{Entry}
+-- how many entries there can be, and the greatest generation of a pointer
+pub use Rattle.sorted_arena.specs.PlainPointer.{most_entries, greatest_generation}
 
 -- an open arena: keys are signed, values are not
 abbrev pub Arena : Type 0
 Arena = Sorted ℤ ℕ
-
--- the greatest index of a pointer, and the greatest generation
-abbrev pub most : ℕ
-most = 4294967294
-
-abbrev pub greatest : Option ℕ
-greatest = Some 18446744073709551615
 
 -- an arena that was just opened
 abbrev pub new_arena : Arena

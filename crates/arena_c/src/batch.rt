@@ -8,7 +8,7 @@ ghost use Rattle.sorted_arena.specs.Chain.{from_index};
 ghost use Rattle.sorted_arena.specs.Sorted.{count, entries_until, item_of, pair_of};
 ghost use Rattle.arena_c.specs.Answer.{Becomes, found_or, look_status};
 ghost use Rattle.arena_c.specs.Batch.{fall_behind, paired_keys, Fills};
-ghost use Rattle.arena_c.specs.Shown.{most, numbers_of, pointer_to};
+ghost use Rattle.arena_c.specs.Shown.{most_entries, numbers_of, pointer_to};
 ghost use Rattle.arena_c.specs.Status.{ok, full, no_memory, closed, out_of_order};
 
 use crate::entry::{Entry, Pointer};
@@ -40,7 +40,7 @@ pub extern "C" fn topscedar_arena_build(
     ensures at { at.new ≡ found_or at.old (option_and_then
         (λ a. fall_behind a (paired_keys keys.now values.now)) arena.old.slot.held) }
     ensures full { result ≡ full → IsSomeAnd arena.old.slot.held
-        (λ a. most < count a + length (paired_keys keys.now values.now)) }
+        (λ a. most_entries < count a + length (paired_keys keys.now values.now)) }
     ensures memory { result ≡ no_memory → IsSomeAnd arena.old.slot.held
         (λ a. a.capacity < count a + length (paired_keys keys.now values.now)) }
     ensures closed { (result ≡ closed) ↔ (arena.old.slot.held ≡ None) }

@@ -5,7 +5,7 @@ ghost use Rattle.std.specs.Option.{option_map};
 ghost use Rattle.std.specs.Ordering.{int_cmp};
 ghost use Rattle.sorted_arena.specs.Sorted.{pair_of, with_value, without, Rekeys};
 ghost use Rattle.arena_c.specs.Answer.{Changes, Looks};
-ghost use Rattle.arena_c.specs.Shown.{entry_at, greatest, numbers_of};
+ghost use Rattle.arena_c.specs.Shown.{entry_at, greatest_generation, numbers_of};
 
 use crate::entry::{Entry, Pointer};
 use crate::handle::Handle;
@@ -81,7 +81,7 @@ pub extern "C" fn topscedar_arena_remove(
     entry: &mut Entry,
 ) -> u8
     ensures { Changes (λ a. entry_at a (numbers_of pointer))
-        (λ a b. b ≡ without greatest a (numbers_of pointer))
+        (λ a b. b ≡ without greatest_generation a (numbers_of pointer))
         arena.old.slot.held arena.new.slot.held result entry.old entry.new }
 {
     let Some(mut content) = arena.take(alloc) else {

@@ -6,7 +6,7 @@ ghost use Rattle.sorted_arena.specs.Chain.{first_pointer, last_pointer};
 ghost use Rattle.sorted_arena.specs.Sorted.{behind_first, before_last, entries_until, with_left};
 ghost use Rattle.arena_c.specs.Answer.{Becomes, Changes};
 ghost use Rattle.arena_c.specs.Batch.{Fills};
-ghost use Rattle.arena_c.specs.Shown.{entry_found, greatest};
+ghost use Rattle.arena_c.specs.Shown.{entry_found, greatest_generation};
 ghost use Rattle.arena_c.specs.Status.{ok, closed};
 
 use crate::content::Content;
@@ -23,7 +23,7 @@ pub extern "C" fn topscedar_arena_pop_first(
     entry: &mut Entry,
 ) -> u8
     ensures { Changes (λ a. entry_found a (first_pointer a.entries))
-        (λ a b. b ≡ with_left greatest a (behind_first a.entries))
+        (λ a b. b ≡ with_left greatest_generation a (behind_first a.entries))
         arena.old.slot.held arena.new.slot.held result entry.old entry.new }
 {
     let Some(mut content) = arena.take(alloc) else {
@@ -42,7 +42,7 @@ pub extern "C" fn topscedar_arena_pop_last(
     entry: &mut Entry,
 ) -> u8
     ensures { Changes (λ a. entry_found a (last_pointer a.entries))
-        (λ a b. b ≡ with_left greatest a (before_last a.entries))
+        (λ a b. b ≡ with_left greatest_generation a (before_last a.entries))
         arena.old.slot.held arena.new.slot.held result entry.old entry.new }
 {
     let Some(mut content) = arena.take(alloc) else {

@@ -6,7 +6,7 @@ ghost use Rattle.std.specs.Option.{option_map, option_map_or};
 ghost use Rattle.std.specs.Ordering.{int_cmp, is_gt};
 ghost use Rattle.sorted_arena.specs.Chain.{first_pointer, from_index};
 ghost use Rattle.sorted_arena.specs.Sorted.{count, entries_until, item_of, last_item, pair_of};
-ghost use Rattle.arena_c.specs.Shown.{most};
+ghost use Rattle.arena_c.specs.Shown.{most_entries};
 ghost use Rattle.arena_c.specs.Batch.{fall_behind, first_fall, Fills};
 
 use crate::content::Content;
@@ -76,7 +76,7 @@ impl Content {
             ≡ map item_of self.old.entries ++ zip keys.now values.now) }
         ensures generation { self.new.generation ≡ self.old.generation }
         ensures full { result ≡ Err ReallocationError.BeyondMaxCapacity
-            → most < count self.old + length keys.now }
+            → most_entries < count self.old + length keys.now }
         ensures memory { result ≡ Err ReallocationError.AllocError
             → self.old.capacity < count self.old + length keys.now }
         ensures err { OnErr result (self.new ≡ self.old) }

@@ -5,7 +5,8 @@ use Rattle.triple_ord.specs.Chain.{Entry, Chain, next_index, inserted, with_room
 use Rattle.triple_ord.specs.{Shape.Shape, Shape.missing, Shape.node, Shape.walk, Tree.Tree, Tree.IsSoundTree, Ranks.IsRanked, Ranks.HasRank}
 use Rattle.triple_ord.specs.declared.entry_kind.OrdEntryKind.TheVariants.{New, Replacing}
 use Rattle.triple_ord.specs.{declared.error.OrdInsertionError.TheVariants.AllocError, declared.error.OrdInsertionError.OrdInsertionError}
-use Rattle.triple_ord.specs.{Insertion.reallocating, Insertion.InsertsNew, Gap.with_between, Place.at_key}
+use Rattle.triple_ord.specs.{Insertion.InsertsNew, Gap.with_between, Place.at_key}
+use Rattle.triple_ord.specs.declared.growth.Growth.TheVariants.{Reallocating}
 use Rattle.ord_machine.specs.declared.reply.Reply.TheVariants.{Inserted, Refused, Ranks}
 use Rattle.ord_machine.specs.Machine.{Calls, Reading, HaveRanks, Inserts, Ranked}
 use Rattle.ord_machine.specs.{Laws.AreFirstReplies, Laws.FirstRankLaw, declared.reply.Reply.Reply}
@@ -53,7 +54,7 @@ module _ {T : Type 0} where
 module _ {T K : Type 0} (key : T → K) (cmp : K → K → Ordering) (most : ℕ) where
   -- the result of inserting a new entry into an empty tree
   new_alone : (old new : Tree T) (item : T) (p : ℕ × ℕ) → old.list.entries ≡ []
-      → InsertsNew key cmp most reallocating (at_key (key item)) old item p new → (e : Entry T) × (new.list.entries ≡ e ∷ [])
+      → InsertsNew key cmp most Reallocating (at_key (key item)) old item p new → (e : Entry T) × (new.list.entries ≡ e ∷ [])
   new_alone old new item p none inserts =
       let gap = inserts.gap in
       let parts = no_parts gap.front gap.back (sym none ∙ gap.cut) in
@@ -66,7 +67,7 @@ module _ {P T I G A K : Type 0} (r : Reading P T I G K) (old new : Tree T) (none
 
   -- the ranks after a new entry
   ranks_of_new : (item : T) (p : P) (second : Reply P T A I G)
-      → InsertsNew r.key r.cmp r.most reallocating (at_key (r.key item)) old item (r.pointer p) new → Follows second (Inserted (New p) None)
+      → InsertsNew r.key r.cmp r.most Reallocating (at_key (r.key item)) old item (r.pointer p) new → Follows second (Inserted (New p) None)
   ranks_of_new item p (Ranks ranks) inserts ranked =
       let first = new_alone r.key r.cmp r.most old new item (r.pointer p) none inserts in
       one_rank new.shape first.0 ranks.items (sound.listed ∙ ap (map (λ e. e.index)) first.1) sound.ranked (subst (λ (es : List (Entry T)). HaveRanks new.shape es ranks.items) first.1 ranked)
@@ -81,7 +82,7 @@ module _ {P T I G A K : Type 0} (r : Reading P T I G K) (old new : Tree T) (none
 
   -- both replies, given the first
   first_and_ranks : (item : T) (first second : Reply P T A I G)
-      → Inserts r.key r.cmp r.most reallocating (at_key (r.key item)) r.pointer old item first new → Follows second first
+      → Inserts r.key r.cmp r.most Reallocating (at_key (r.key item)) r.pointer old item first new → Follows second first
   first_and_ranks item (Inserted (New p) None) second inserts ranked = ranks_of_new item p second inserts ranked
   first_and_ranks item (Inserted (Replacing p) (Some before)) second inserts ranked = absurd (let gap = inserts.place.gap in let here = rw (no_parts gap.front gap.back (sym none ∙ gap.cut)).1 at inserts.place.here in cc)
   first_and_ranks item (Refused refusal) second inserts ranked = ranks_of_none refusal second inserts.after ranked

@@ -3,7 +3,8 @@ use Rattle.std.proofs.Common.{◌≡◌, ℕ, List, Option, Result, Ok, Err, sym
 use Rattle.std.specs.declared.cmp.Ordering.{Ordering}
 use Rattle.triple_ord.specs.{Chain.Entry, Chain.IsDistinct, Tree.Tree, Entry.InsertsThere, Entry.IsEntryFor}
 use Rattle.triple_ord.specs.{declared.error.OrdInsertionError.OrdInsertionError, declared.insert_kind.OrdInsertKind.OrdInsertKind}
-use Rattle.triple_ord.specs.{declared.entry_kind.OrdEntryKind.OrdEntryKind, Insertion.Growth, Insertion.InsertsBy, Place.Aim, Place.aim_of}
+use Rattle.triple_ord.specs.{declared.entry_kind.OrdEntryKind.OrdEntryKind, Insertion.InsertsBy, Place.Aim, Place.aim_of}
+use Rattle.triple_ord.specs.declared.growth.Growth.{Growth}
 use Rattle.triple_ord.proofs.CallerLemmas.{entry-inserts-by}
 use Rattle.ord_machine.specs.Machine.{Inserts, insertion_reply}
 

@@ -13,7 +13,9 @@ use Rattle.triple_ord.specs.Place.{Aim, alone, at_key, behind_key, beside, into,
 use Rattle.triple_ord.specs.declared.error.OrdInsertionError.TheVariants.{BeyondMaxCapacity, AllocError}
 use Rattle.triple_ord.specs.declared.insert_kind.OrdInsertKind.TheVariants.{Normal, Nonhereditary, Linear, NonhereditaryLinear}
 use Rattle.triple_ord.specs.declared.entry_kind.OrdEntryKind.TheVariants.{New, Replacing}
-use Rattle.triple_ord.specs.{Insertion.Growth, Insertion.within, Insertion.reallocating, Insertion.with_room_by, Gap.Gap, Gap.with_between}
+use Rattle.triple_ord.specs.{Insertion.with_room_by, Gap.Gap, Gap.with_between}
+use Rattle.triple_ord.specs.declared.growth.Growth.{Growth}
+use Rattle.triple_ord.specs.declared.growth.Growth.TheVariants.{Within, Reallocating}
 use Rattle.triple_ord.specs.{declared.insert_kind.OrdInsertKind.OrdInsertKind, declared.entry_kind.OrdEntryKind.OrdEntryKind, declared.error.OrdInsertionError.OrdInsertionError}
 use Rattle.triple_ord.proofs.{CallerLemmas.entries-with_room_by, CallerLemmas.numbers-with_room_by, CallerLemmas.rekeys-updates, CallerLemmas.entry_at-after}
 use Rattle.triple_ord.proofs.CallerLemmas.{kept_order, rekeyed_order, in_order-without, in_order-one, in_order-more, IsInOrder-rest}
@@ -347,10 +349,10 @@ module _ {P T I G K : Type 0} (r : Reading P T I G K) (s : State T) (new : Tree 
 
   pub outcome : {A F : Type 0} (calls : Calls T F) (f : F) (command : Command P T I G K) (reply : Reply P T A I G) (g : F)
       → Does r calls s f command reply new g → After command reply
-  outcome calls f (commands.Insert item) reply g does = outcome-insertion reallocating (at_key (r.key item)) item (λ total _. tied_itself total (r.key item)) (λ total _. (r.key item, inl refl, tied_itself total (r.key item))) reply does.0
-  outcome calls f (commands.InsertWithin item) reply g does = outcome-insertion within (at_key (r.key item)) item (λ total _. tied_itself total (r.key item)) (λ total _. (r.key item, inl refl, tied_itself total (r.key item))) reply does.0
-  outcome calls f (commands.Entry kind item) reply g does = outcome-insertion reallocating (aim_of r.index kind) item (λ _ by. by_kind kind item by) (λ _ by. in_order_by_kind kind item by) reply does.0
-  outcome calls f (commands.EntryWithin kind item) reply g does = outcome-insertion within (aim_of r.index kind) item (λ _ by. by_kind kind item by) (λ _ by. in_order_by_kind kind item by) reply does.0
+  outcome calls f (commands.Insert item) reply g does = outcome-insertion Reallocating (at_key (r.key item)) item (λ total _. tied_itself total (r.key item)) (λ total _. (r.key item, inl refl, tied_itself total (r.key item))) reply does.0
+  outcome calls f (commands.InsertWithin item) reply g does = outcome-insertion Within (at_key (r.key item)) item (λ total _. tied_itself total (r.key item)) (λ total _. (r.key item, inl refl, tied_itself total (r.key item))) reply does.0
+  outcome calls f (commands.Entry kind item) reply g does = outcome-insertion Reallocating (aim_of r.index kind) item (λ _ by. by_kind kind item by) (λ _ by. in_order_by_kind kind item by) reply does.0
+  outcome calls f (commands.EntryWithin kind item) reply g does = outcome-insertion Within (aim_of r.index kind) item (λ _ by. by_kind kind item by) (λ _ by. in_order_by_kind kind item by) reply does.0
   outcome calls f (commands.Set q item) (Item None) g does = kept does.0.1
   outcome calls f (commands.Set q item) (Item (Some before)) g does =
       let there : IsSome (item_of es (r.pointer q)) = ap is_some (sym does.0.0) in

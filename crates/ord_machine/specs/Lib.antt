@@ -14,6 +14,8 @@ pub use Rattle.triple_ord.specs.Tree
 pub use Rattle.triple_ord.specs.ClosureSearch
 pub use Rattle.triple_ord.specs.Insertion
 pub use Rattle.triple_ord.specs.Place
+pub use Rattle.triple_ord.specs.PlainPointer
 pub use Rattle.triple_ord.specs.declared.entry_kind.OrdEntryKind
 pub use Rattle.triple_ord.specs.declared.error.OrdInsertionError
+pub use Rattle.triple_ord.specs.declared.growth.Growth
 pub use Rattle.triple_ord.specs.declared.insert_kind.OrdInsertKind

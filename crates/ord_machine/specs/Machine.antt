@@ -10,7 +10,9 @@ use Rattle.triple_ord.specs.{ChainCompression.relocated, ChainCompression.canoni
 use Rattle.triple_ord.specs.{Tree.Tree, Tree.IsSoundTree, Tree.IsShrunk, Tree.with_item, Shape.Shape, Shape.missing}
 use Rattle.triple_ord.specs.{Numbers.fib, Numbers.HasDigits, Half.IsRebuilt, Ranks.IsTight, Ranks.HasRank}
 use Rattle.triple_ord.specs.declared.error.OrdInsertionError.TheVariants.{BeyondMaxCapacity, AllocError}
-use Rattle.triple_ord.specs.{Insertion.Growth, Insertion.within, Insertion.reallocating, Insertion.InsertsBy, Hint.IsNearHint}
+use Rattle.triple_ord.specs.{Insertion.InsertsBy, Hint.IsNearHint}
+use Rattle.triple_ord.specs.declared.growth.Growth.{Growth}
+use Rattle.triple_ord.specs.declared.growth.Growth.TheVariants.{Within, Reallocating}
 use Rattle.triple_ord.specs.{ClosureSearch.Shown, ClosureSearch.FindsWith, ClosureSearch.FindsSimilarWith, Order.IsInOrder}
 use Rattle.triple_ord.specs.{declared.error.OrdInsertionError.OrdInsertionError, declared.entry_kind.OrdEntryKind.TheVariants.New}
 use Rattle.triple_ord.specs.{declared.entry_kind.OrdEntryKind.OrdEntryKind, Place.Aim, Place.at_key, Place.aim_of}
@@ -314,13 +316,13 @@ module _ {P T I G A : Type 0} where
   -- here.
   abbrev pub Replies : {K : Type 0} → Reading P T I G K → State T → Command P T I G K → Reply P T A I G → Tree T → Type 0
   Replies r old (commands.Insert item) reply new =
-      Inserts r.key r.cmp r.most reallocating (at_key (r.key item)) r.pointer old.tree item reply new
+      Inserts r.key r.cmp r.most Reallocating (at_key (r.key item)) r.pointer old.tree item reply new
   Replies r old (commands.InsertWithin item) reply new =
-      Inserts r.key r.cmp r.most within (at_key (r.key item)) r.pointer old.tree item reply new
+      Inserts r.key r.cmp r.most Within (at_key (r.key item)) r.pointer old.tree item reply new
   Replies r old (commands.Entry kind item) reply new =
-      Inserts r.key r.cmp r.most reallocating (aim_of r.index kind) r.pointer old.tree item reply new
+      Inserts r.key r.cmp r.most Reallocating (aim_of r.index kind) r.pointer old.tree item reply new
   Replies r old (commands.EntryWithin kind item) reply new =
-      Inserts r.key r.cmp r.most within (aim_of r.index kind) r.pointer old.tree item reply new
+      Inserts r.key r.cmp r.most Within (aim_of r.index kind) r.pointer old.tree item reply new
   Replies r old (commands.Set p item) reply new = Sets r.pointer old.tree p item reply new
   Replies r old (commands.Rekey p item) reply new = MovesToKey r.key r.cmp r.pointer old.tree p item reply new
   Replies r old (commands.Remove p) reply new = Removes r.greatest r.pointer old.tree p reply new

@@ -4,7 +4,8 @@ ghost use Rattle.triple_ord.specs.Chain.{link_at, first_pointer, last_pointer, c
 ghost use Rattle.triple_ord.specs.ChainCompression.{canonical, relocated};
 ghost use Rattle.triple_ord.specs.Shape.{missing};
 ghost use Rattle.triple_ord.specs.ClosureSearch.{Asks};
-ghost use Rattle.triple_ord.specs.Insertion.{within, reallocating, told};
+ghost use Rattle.triple_ord.specs.Insertion.{told};
+ghost use Rattle.triple_ord.specs.declared.growth.Growth.TheVariants.{Within, Reallocating};
 ghost use Rattle.triple_ord.specs.Place.{at_key, aim_of};
 ghost use Rattle.triple_ord.specs.Ranks.{HasRank};
 ghost use Rattle.ord_machine.specs.Machine.{calls_by, reading_by, Marks, AreTrue, Does, Inserts, insertion_reply, Sets, MovesToKey, Removes, RemovesAt, Renews, Changes, Rebuilds, Reserves, SetsMaximum, Finds, FindsFrom, FindsNear, FindsNearFrom, AnswersWith, AnswersSimilarWith, Visits, Gets, IsEnd, HasNeighbours, Lists, entry_of, Ranked, HaveRanks, Drains, removed_each, Checks, Counts};
@@ -82,7 +83,7 @@ fn insert<P: BasePtr, T: SimpleOrdItem + Drop, A: Allocator>(
     arena: &mut SimpleOrdArena<P, T, A>,
     item: T,
 ) -> Reply<P, T, A>
-    ensures { Inserts T.key_of T.Key.cmp P.Inx.most reallocating (at_key (T.key_of item)) P.numbers
+    ensures { Inserts T.key_of T.Key.cmp P.Inx.most Reallocating (at_key (T.key_of item)) P.numbers
         arena.old item result arena.new }
 {
     reply_to_insertion(arena.insert(item))
@@ -93,7 +94,7 @@ fn insert_within<P: BasePtr, T: SimpleOrdItem + Drop, A: Allocator>(
     arena: &mut SimpleOrdArena<P, T, A>,
     item: T,
 ) -> Reply<P, T, A>
-    ensures { Inserts T.key_of T.Key.cmp P.Inx.most within (at_key (T.key_of item)) P.numbers
+    ensures { Inserts T.key_of T.Key.cmp P.Inx.most Within (at_key (T.key_of item)) P.numbers
         arena.old item result arena.new }
 {
     reply_to_insertion(arena.insert_within_capacity(item))
@@ -123,7 +124,7 @@ fn entry<P: BasePtr, T: SimpleOrdItem + Drop, A: Allocator>(
     kind: &OrdInsertKind<P, T::Key>,
     item: T,
 ) -> Reply<P, T, A>
-    ensures { Inserts T.key_of T.Key.cmp P.Inx.most reallocating (aim_of P.Inx.number kind.now)
+    ensures { Inserts T.key_of T.Key.cmp P.Inx.most Reallocating (aim_of P.Inx.number kind.now)
         P.numbers
         arena.old item result arena.new }
 {
@@ -145,7 +146,7 @@ fn entry_within<P: BasePtr, T: SimpleOrdItem + Drop, A: Allocator>(
     kind: &OrdInsertKind<P, T::Key>,
     item: T,
 ) -> Reply<P, T, A>
-    ensures { Inserts T.key_of T.Key.cmp P.Inx.most within (aim_of P.Inx.number kind.now) P.numbers
+    ensures { Inserts T.key_of T.Key.cmp P.Inx.most Within (aim_of P.Inx.number kind.now) P.numbers
         arena.old item result arena.new }
 {
     // For the prover: the arena's pointers are distinct.

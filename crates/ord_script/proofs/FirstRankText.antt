@@ -2,7 +2,7 @@
 use Rattle.std.proofs.Common.{◌≡◌, ℕ, pos, List, [], ◌∷◌, Contains, codes, Some, None, refl, sym, ◌∙◌, subst, arith, append-nil}
 use Rattle.std.proofs.lemmas.Fmt.{decimal_digit}
 use Rattle.ord_machine.specs.OrdInsertionError.TheVariants.{FailedOrdRequirement, NotWithinCapacity, BeyondMaxCapacity, AllocError}
-use Rattle.ord_machine.specs.{OrdEntryKind.TheVariants.New, Insertion.reallocating, Insertion.InsertsNew, Place.at_key}
+use Rattle.ord_machine.specs.{OrdEntryKind.TheVariants.New, Growth.TheVariants.Reallocating, Insertion.InsertsNew, Place.at_key}
 use Rattle.ord_machine.specs.Tree.{Tree}
 use Rattle.ord_machine.specs.declared.command.Command.TheVariants as commands
 use Rattle.ord_machine.specs.declared.reply.Reply.TheVariants.{Inserted, Refused, Ranks}
@@ -19,7 +19,7 @@ two_lines = refl
 
 -- the pointer of the first entry
 module _ (item : Pair) (p : Pointer) (new : Tree Pair) where
-  first_pointer : InsertsNew reading.key reading.cmp reading.most reallocating (at_key (reading.key item)) beginning.tree item (reading.pointer p) new
+  first_pointer : InsertsNew reading.key reading.cmp reading.most Reallocating (at_key (reading.key item)) beginning.tree item (reading.pointer p) new
       → (p.0 ≡ 1) × (p.1 ≡ 2)
   first_pointer inserts =
       let next : Some 1 ≡ Some p.0 = inserts.inserted.next in
@@ -36,7 +36,7 @@ both_commands = commands.Insert (pos 5, 1) ∷ commands.Ranks ∷ []
 module _ {A : Type 0} where
   -- the effect of the insertion
   abbrev InsertsFirst : Pair → PairReply A → Tree Pair → Type 0
-  InsertsFirst item reply new = Inserts reading.key reading.cmp reading.most reallocating (at_key (reading.key item)) reading.pointer beginning.tree item reply new
+  InsertsFirst item reply new = Inserts reading.key reading.cmp reading.most Reallocating (at_key (reading.key item)) reading.pointer beginning.tree item reply new
 
   -- the lines of these replies are one of the answers
   abbrev AreAnswer : List (PairReply A) → Type 0

@@ -1,11 +1,10 @@
 -- An insertion: from the chain's new entry to the tree with it.
 use Rattle.std.proofs.Common.{◌≡◌, ◌≢◌, ℕ, ◌+◌, ◌<◌, ◌^◌, Option, Some, None, List, [], ◌∷◌, map, length, arith, refl, sym, ◌∙◌, ap, subst, inl, is_some, true, option_map, MatchOption, slice_get}
 use Rattle.std.proofs.{lemmas.Grind.common_steps, lemmas.List.length-map, lemmas.Bool.eq-eqb}
-use Rattle.std.specs.declared.cmp.Ordering.{Ordering}
 use Rattle.chain_base.specs.Chain.{Entry, Chain, entry_at, times as entry_times, IsFresh, IsSound, IsDistinct, inserted}
 use Rattle.chain_base.specs.{declared.chain.insert.LinkInsertKind.LinkInsertKind, Insert.placed, Insert.CanPlace, Insert.IsInsertion}
-use Rattle.ord_tree.specs.{LeafBranch.side_at, LeafBranch.kind_at, LeafBranch.IsLeafBranch, LeafBranch.IsLeafBranchAt, Balance.IsBalanced}
-use Rattle.ord_tree.specs.{Node.bare_entry, Node.bare, Node.links_in, Node.slots_of, Node.indexes, declared.tree_links.Branch.Branch}
+use Rattle.ord_tree.specs.{LeafBranch.kind_at, LeafBranch.IsLeafBranch, LeafBranch.IsLeafBranchAt, Balance.IsBalanced}
+use Rattle.ord_tree.specs.{Node.bare_entry, Node.bare, Node.links_in, Node.slots_of, Node.indexes, declared.tree_links.Branch.Branch, declared.tree_links.Side.Side}
 use Rattle.ord_tree.specs.{declared.node.SimpleOrdArenaNode.SimpleOrdArenaNode as Node, Shape.Shape, Shape.missing, Shape.node, Shape.walk}
 use Rattle.ord_tree.specs.{Slots.Holds, Slots.times, Slots.IsOnce, Slots.shape_under, Tree.put_on, Tree.put_at, Tree.CanPutAt, Tree.IsGrown}
 use Rattle.ord_tree.specs.{Leaf.beside, Leaf.leaf_links, Leaf.IsNewLeaf, Layout.shape_in, Layout.IsLaidOut, Promote.IsRepaired}
@@ -20,11 +19,11 @@ use Rattle.ord_tree.proofs.{Forks.times-walk, Forks.apart-from, Frames.Holds-fra
 
 module _ (P G : Type 0) {T I : Type 0} (number : I → ℕ) where
   -- the named place in the chain is the place in the list
-  pub placed-put : (at : Option (I × Ordering)) (es : List (Entry T)) (new : Entry T) → placed {P = P} {G = G} number (kind_at at) es new ≡ put_at number at es new
+  pub placed-put : (at : Option (I × Side)) (es : List (Entry T)) (new : Entry T) → placed {P = P} {G = G} number (kind_at at) es new ≡ put_at number at es new
   placed-put None es new = refl
   placed-put (Some at) es new = grind (arith, common_steps)
 
-  pub CanPlace-put : (at : Option (I × Ordering)) (c : Chain T) → CanPutAt number at c → CanPlace {P = P} {G = G} number (kind_at at) c
+  pub CanPlace-put : (at : Option (I × Side)) (c : Chain T) → CanPutAt number at c → CanPlace {P = P} {G = G} number (kind_at at) c
   CanPlace-put None c h = h
   CanPlace-put (Some at) c h = grind (arith, common_steps)
 
@@ -71,7 +70,7 @@ module _ {P T I G : Type 0} where
         }
 
 -- the tree with the new entry beside another
-module _ {P T I G : Type 0} (number : I → ℕ) (c d : Chain (Node P T I G)) (root : Option ℕ) (at : I × Ordering) (new_entry : Entry (Node P T I G))
+module _ {P T I G : Type 0} (number : I → ℕ) (c d : Chain (Node P T I G)) (root : Option ℕ) (at : I × Side) (new_entry : Entry (Node P T I G))
     (laid : IsLaidOut c root (shape_in c root)) (occupied : is_some (entry_at c.entries (number at.0)) ≡ true) (free : entry_times new_entry.index c.entries ≡ 0)
     (entries : d.entries ≡ put_on at.1 (number at.0) c.entries new_entry)
     (most : ℕ) (greatest : Option ℕ) (sound : IsSound most greatest d) (fits : most + 1 < 2 ^ 64) where
@@ -94,7 +93,7 @@ module _ {P T I G : Type 0} (number : I → ℕ) (c d : Chain (Node P T I G)) (r
       ap (λ (es : List (Entry (Node P T I G))). links_at es x) entries
       ∙ ap (option_map (λ (e : ℕ × Node P T I G). links_in e.1)) (put-same at.1 c.entries (number at.0) occupied new_entry free)
 
-  pub order_is : indexes d.entries ≡ beside (side_at at.1) (number at.0) x order
+  pub order_is : indexes d.entries ≡ beside at.1 (number at.0) x order
   order_is =
       ap (λ (es : List (Entry (Node P T I G))). indexes es) entries ∙ put-indexes at.1 c.entries (number at.0) new_entry
 
@@ -102,7 +101,7 @@ module _ {P T I G : Type 0} (number : I → ℕ) (c d : Chain (Node P T I G)) (r
   fresh = times-indexes c.entries x ∙ free
 
   pub once : IsOnce order
-  once j = omega (arith, IsOnce-distinct d.entries sound.distinct j, ap (times j) order_is, times-beside-ge (side_at at.1) (number at.0) x j order)
+  once j = omega (arith, IsOnce-distinct d.entries sound.distinct j, ap (times j) order_is, times-beside-ge at.1 (number at.0) x j order)
 
   pub distinct : IsDistinct c.entries
   distinct j = omega (arith, once j, times-indexes c.entries j)
@@ -111,7 +110,7 @@ module _ {P T I G : Type 0} (number : I → ℕ) (c d : Chain (Node P T I G)) (r
   few =
       omega (
         arith,
-        length-beside_in (side_at at.1) (number at.0) x order (within-occupied c.entries (number at.0) occupied),
+        length-beside_in at.1 (number at.0) x order (within-occupied c.entries (number at.0) occupied),
         ap length order_is,
         length-map d.entries (λ (e : Entry (Node P T I G)). e.index),
         sound.counted,
@@ -125,7 +124,7 @@ module _ {P T I G : Type 0} (number : I → ℕ) (c d : Chain (Node P T I G)) (r
       Holds-frame (slots_of c) (slots_of d) before None root
       (λ j inside. slots_other j (apart-from x j (λ j. times j order) fresh (omega (arith, inside, times-walk j before, ap (times j) laid.listed)))) laid.held
 
-  module _ (branch : Branch I) (bud : IsLeafBranch number (number at.0) (side_at at.1) (slots_of c) order branch)
+  module _ (branch : Branch I) (bud : IsLeafBranch number (number at.0) at.1 (slots_of c) order branch)
       (leaf_is : links_in new_entry.item ≡ leaf_links (Some (number branch.parent))) where
     unfoldable pub new_leaf : (slack : ℕ) → IsBalanced slack before → IsNewLeaf (slots_of d) root branch.side (number branch.parent) x order slack
     new_leaf slack balanced = record {
@@ -138,7 +137,7 @@ module _ {P T I G : Type 0} (number : I → ℕ) (c d : Chain (Node P T I G)) (r
       few = few;
     }
 
-  module _ (new : Chain (Node P T I G)) (root' : Option ℕ) (branch : Branch I) (bud : IsLeafBranch number (number at.0) (side_at at.1) (slots_of c) order branch) (kept : bare new ≡ bare d)
+  module _ (new : Chain (Node P T I G)) (root' : Option ℕ) (branch : Branch I) (bud : IsLeafBranch number (number at.0) at.1 (slots_of c) order branch) (kept : bare new ≡ bare d)
       (repaired : (slack : ℕ) → IsBalanced slack before → IsRepaired (slots_of d) (slots_of new) root' (beside branch.side (number branch.parent) x order) slack) where
     listed_new : beside branch.side (number branch.parent) x order ≡ indexes new.entries
     listed_new = bud.put x ∙ sym order_is ∙ sym (indexes-bare d.entries) ∙ ap (λ (c : Chain T). indexes c.entries) (sym kept) ∙ indexes-bare new.entries
@@ -208,7 +207,7 @@ module _ {P T I G : Type 0} (c d : Chain (Node P T I G)) (root : Option ℕ) (x 
 -- the facts that the steps of an insertion pass on; `branch` is where the new entry x is attached
 module _ {P T I G : Type 0} (number : I → ℕ) (branch : Option (Branch I)) where
   -- the branch fits this place, in each tree that lies in the chain
-  abbrev pub IsBranchFor : Chain (Node P T I G) → Option (I × Ordering) → Type 0
+  abbrev pub IsBranchFor : Chain (Node P T I G) → Option (I × Side) → Type 0
   IsBranchFor c at = (root : Option ℕ) (s : Shape) → IsLaidOut c root s → IsDistinct c.entries → IsLeafBranchAt number at (slots_of c) (indexes c.entries) branch
 
   -- x is a new leaf at the branch
@@ -226,7 +225,7 @@ module _ {P T I G : Type 0} (number : I → ℕ) (branch : Option (Branch I)) wh
       → IsSpelledWithin (rank_in bud.built.shape) (slots_of new) (option_map number root') (beside p.side (number p.parent) (number x) order) (potential bud.built.shape + 4))
 
   -- the new entry e is in the list at this place, and its node has the links of a leaf at the branch
-  pub record IsPut (c d : Chain (Node P T I G)) (at : Option (I × Ordering)) (e : Entry (Node P T I G)) : Type 0 where
+  pub record IsPut (c d : Chain (Node P T I G)) (at : Option (I × Side)) (e : Entry (Node P T I G)) : Type 0 where
     pub can : CanPutAt number at c
     pub found : IsBranchFor c at
     pub entries : d.entries ≡ put_at number at c.entries e
@@ -243,15 +242,15 @@ module _ {P T I G : Type 0} (number : I → ℕ) (c d : Chain (Node P T I G)) (r
   abbrev new_entry : Entry (Node P T I G)
   new_entry = record { index = number x; generation = g; item = leaf }
 
-  grow_allowed : (at : Option (I × Ordering)) (branch : Option (Branch I)) → IsPut number branch c d at new_entry → CanGrow number branch d root (number x)
+  grow_allowed : (at : Option (I × Side)) (branch : Option (Branch I)) → IsPut number branch c d at new_entry → CanGrow number branch d root (number x)
   grow_allowed at None put = tt
   grow_allowed None (Some branch) put = absurd (let none = put.found root (shape_in c root) laid (λ i. let e = ap (entry_times i) put.can in omega arith) in cc)
   grow_allowed (Some at) (Some branch) put =
-      let here = put.found root (shape_in c root) laid (distinct number c d root at new_entry laid put.can.0 free put.entries most greatest sound fits) in
-      (indexes c.entries, 1, new_leaf number c d root at new_entry laid put.can.0 free put.entries most greatest sound fits branch here put.links 1 (IsBalanced-ranked (shape_in c root) laid.ranked))
+      let here = put.found root (shape_in c root) laid (distinct number c d root at new_entry laid put.can free put.entries most greatest sound fits) in
+      (indexes c.entries, 1, new_leaf number c d root at new_entry laid put.can free put.entries most greatest sound fits branch here put.links 1 (IsBalanced-ranked (shape_in c root) laid.ranked))
 
   module _ (new : Chain (Node P T I G)) (root' : Option I) (kept : bare new ≡ bare d) where
-    has_grown : (at : Option (I × Ordering)) (on : Option (Branch I)) → IsPut number on c d at new_entry
+    has_grown : (at : Option (I × Side)) (on : Option (Branch I)) → IsPut number on c d at new_entry
         → HasGrown number on d root x new root' → HasAccount number on d root x new root' → IsGrownTo (shape_in c root) new (option_map number root')
     unfolding new_leaf
     has_grown None None put same paid =
@@ -261,14 +260,14 @@ module _ {P T I G : Type 0} (number : I → ℕ) (c d : Chain (Node P T I G)) (r
         subst R (sym (ap (option_map number) same.1))
         (subst N (sym same.0) (IsLaidOut-alone c d root (number x) g leaf put.can alone put.links, IsGrown-alone c d root (number x) g leaf put.can alone put.links))
     has_grown (Some at) None put same paid =
-        absurd (elim (put.found root (shape_in c root) laid (distinct number c d root at new_entry laid put.can.0 free put.entries most greatest sound fits)) [ ])
+        absurd (elim (put.found root (shape_in c root) laid (distinct number c d root at new_entry laid put.can free put.entries most greatest sound fits)) [ ])
     has_grown None (Some branch) put repaired paid = absurd (let none = put.found root (shape_in c root) laid (λ i. let e = ap (entry_times i) put.can in omega arith) in cc)
     has_grown (Some at) (Some branch) put repaired paid =
-        let here = put.found root (shape_in c root) laid (distinct number c d root at new_entry laid put.can.0 free put.entries most greatest sound fits) in
-        let leaves = new_leaf number c d root at new_entry laid put.can.0 free put.entries most greatest sound fits branch here put.links in
+        let here = put.found root (shape_in c root) laid (distinct number c d root at new_entry laid put.can free put.entries most greatest sound fits) in
+        let leaves = new_leaf number c d root at new_entry laid put.can free put.entries most greatest sound fits branch here put.links in
         let again = λ (slack : ℕ) (balanced : IsBalanced slack (shape_in c root)). repaired (indexes c.entries) slack (leaves slack balanced) in (
-          IsLaidOut-planted number c d root at new_entry laid put.can.0 free put.entries most greatest sound fits new (option_map number root') branch here kept again,
-          IsGrown-planted number c d root at new_entry laid put.can.0 free put.entries most greatest sound fits new (option_map number root') branch here kept again
+          IsLaidOut-planted number c d root at new_entry laid put.can free put.entries most greatest sound fits new (option_map number root') branch here kept again,
+          IsGrown-planted number c d root at new_entry laid put.can free put.entries most greatest sound fits new (option_map number root') branch here kept again
               (paid (indexes c.entries) 1 (leaves 1 (IsBalanced-ranked (shape_in c root) laid.ranked))),
         )
 
@@ -278,12 +277,12 @@ bare_empty [] h = refl
 bare_empty (e ∷ es) h = absurd cc
 
 module _ {P T I G : Type 0} (number : I → ℕ) where
-  pub CanPutAt-bare : (at : Option (I × Ordering)) (c : Chain (Node P T I G)) → CanPutAt number at (bare c) → CanPutAt number at c
+  pub CanPutAt-bare : (at : Option (I × Side)) (c : Chain (Node P T I G)) → CanPutAt number at (bare c) → CanPutAt number at c
   CanPutAt-bare None c h = bare_empty c.entries h
-  CanPutAt-bare (Some at) c h = (sym (is_some-bare c.entries (number at.0)) ∙ h.0, h.1)
+  CanPutAt-bare (Some at) c h = sym (is_some-bare c.entries (number at.0)) ∙ h
 
 module _ {P T I G : Type 0} (number : I → ℕ) (es : List (Entry (Node P T I G))) (e : Entry (Node P T I G)) where
-  put_at-bare : (at : Option (I × Ordering)) → map bare_entry (put_at number at es e) ≡ put_at number at (map bare_entry es) (bare_entry e)
+  put_at-bare : (at : Option (I × Side)) → map bare_entry (put_at number at es e) ≡ put_at number at (map bare_entry es) (bare_entry e)
   put_at-bare None = refl
   put_at-bare (Some at) = put-bare at.1 es (number at.0) e
 
@@ -292,7 +291,7 @@ mapped-twice number None = refl
 mapped-twice number (Some p) = refl
 
 -- the insertion call, from what its steps ensure
-module _ {P T I G : Type 0} (number : I → ℕ) (c : Chain (Node P T I G)) (root : Option ℕ) (at : Option (I × Ordering)) (branch : Option (Branch I))
+module _ {P T I G : Type 0} (number : I → ℕ) (c : Chain (Node P T I G)) (root : Option ℕ) (at : Option (I × Side)) (branch : Option (Branch I))
     {d : Chain (Node P T I G)} {kind : LinkInsertKind P I G}
     {back : Option I} {t : T} {leaf : Node P T I G} {index era : ℕ} {x : I}
     (laid : IsLaidOut c root (shape_in c root)) (can : CanPutAt number at c)

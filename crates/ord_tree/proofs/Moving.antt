@@ -1,7 +1,6 @@
 -- An entry that moves: from the tree without its node to the tree with it as a new leaf.
 use Rattle.std.proofs.Common.{arith, ◌≡◌, ◌≢◌, ℕ, ◌+◌, ◌<◌, ◌≤◌, ◌^◌, Option, Some, None, List, [], ◌∷◌, ◌++◌, ◌∙◌, map, length, length-append, refl, sym, ap, subst, inl, inr, ⊎_elim, is_some, true, option_map}
 use Rattle.std.proofs.{lemmas.Grind.common_steps, lemmas.Bool.cases_eq, lemmas.Bool.ne_eqb}
-use Rattle.std.specs.declared.cmp.Ordering.{Ordering}
 use Rattle.chain_base.specs.Chain.{Entry, Chain, entry_at, times as entry_times, IsSound, without as entries_without}
 use Rattle.chain_base.specs.{declared.chain.insert.LinkInsertKind.LinkInsertKind, Insert.placed, Insert.CanPlace, Move.with_entry_moved, Move.without_entry, Move.list_with}
 use Rattle.chain_base.proofs.CallerLemmas.{entry_at-without_other}
@@ -9,7 +8,7 @@ use Rattle.ord_tree.specs.{declared.node.SimpleOrdArenaNode.SimpleOrdArenaNode a
 use Rattle.ord_tree.specs.{declared.tree_links.Side.TheVariants.Lesser, declared.tree_links.Side.TheVariants.Greater, declared.tree_links.Side.Side}
 use Rattle.ord_tree.specs.{declared.tree_links.TreeLinks.TreeLinks, declared.tree_links.Branch.Branch, Shape.Shape, Shape.walk}
 use Rattle.ord_tree.specs.{Leaf.beside, Leaf.previous, Leaf.following, Leaf.neighbour_in, Leaf.leaf_links, Leaf.IsNewLeaf}
-use Rattle.ord_tree.specs.{LeafBranch.side_at, LeafBranch.kind_at, LeafBranch.IsLeafBranch, Detach.without, Detach.IsDetachable}
+use Rattle.ord_tree.specs.{LeafBranch.kind_at, LeafBranch.IsLeafBranch, Detach.without, Detach.IsDetachable}
 use Rattle.ord_tree.specs.{Slots.Slots, Slots.Holds, Slots.times, Slots.here, Slots.IsOnce, Slots.MovesBacks, Layout.shape_in, Layout.IsLaidOut}
 use Rattle.ord_tree.specs.{Promote.IsBuilt, Promote.IsRepaired, Tree.put_on, Tree.CanPutAt, Move.IsRearranged, Move.IsAside}
 use Rattle.ord_tree.specs.{Potential.potential, Potential.ChangesRanksWithin, Account.IsSpelledWithin, Account.NamesChanges, Account.rank_in, Account.ranks_without}
@@ -106,7 +105,7 @@ module _ {P T I G : Type 0} {c d : Chain (Node P T I G)} {root root' : Option �
   rest_once : IsOnce rest
   rest_once j = omega (arith, times-without x j (indexes c.entries), out.once j)
 
-  module _ (number : I → ℕ) (at : I × Ordering) (can : CanPutAt number (Some at) (without_entry (bare c) x)) where
+  module _ (number : I → ℕ) (at : I × Side) (can : CanPutAt number (Some at) (without_entry (bare c) x)) where
     abbrev y : ℕ
     y = number at.0
 
@@ -117,12 +116,12 @@ module _ {P T I G : Type 0} {c d : Chain (Node P T I G)} {root root' : Option �
     left_bare = bare-without d.entries x ∙ ap (λ (b : Chain T). entries_without x b.entries) out.kept
 
     y_left : is_some (entry_at left y) ≡ true
-    y_left = sym (is_some-bare left y) ∙ ap (λ (es : List (Entry T)). is_some (entry_at es y)) left_bare ∙ can.0
+    y_left = sym (is_some-bare left y) ∙ ap (λ (es : List (Entry T)). is_some (entry_at es y)) left_bare ∙ can
 
     pub can_place : (kind : LinkInsertKind P I G) → kind ≡ kind_at (Some at) → CanPlace number kind (without_entry d x)
     can_place kind kind_is =
         let C : LinkInsertKind P I G → Type 0 = λ kind. CanPlace number kind (without_entry d x) in
-        subst C (sym kind_is) (CanPlace-put P G number (Some at) (without_entry d x) (y_left, can.1))
+        subst C (sym kind_is) (CanPlace-put P G number (Some at) (without_entry d x) y_left)
 
     -- the entry, still in the chain
     module _ (e : ℕ × Node P T I G) (has : entry_at d.entries x ≡ Some e) where
@@ -142,8 +141,8 @@ module _ {P T I G : Type 0} {c d : Chain (Node P T I G)} {root root' : Option �
           (λ (other : j ≢ x). put-other at.1 left y y_left entry j other ∙ entry_at-without_other d.entries x j other)
           (cases_eq j x)
 
-      order-put : indexes put ≡ beside (side_at at.1) y x rest
-      order-put = put-indexes at.1 left y entry ∙ ap (beside (side_at at.1) y x) rest_is
+      order-put : indexes put ≡ beside at.1 y x rest
+      order-put = put-indexes at.1 left y entry ∙ ap (beside at.1 y x) rest_is
 
       bare-put : map bare_entry put ≡ list_with (put_on at.1 y) x (entry_at (bare c).entries x) (entries_without x (bare c).entries)
       bare-put =
@@ -171,7 +170,7 @@ module _ {P T I G : Type 0} {c d : Chain (Node P T I G)} {root root' : Option �
       pub same_slots : (j : ℕ) → slots_of m j ≡ slots_of d j
       same_slots j = ap (option_map (λ (e : ℕ × Node P T I G). links_in e.1)) (same_entries j)
 
-      pub order_is : indexes m.entries ≡ beside (side_at at.1) y x rest
+      pub order_is : indexes m.entries ≡ beside at.1 y x rest
       order_is = ap (λ (c : Chain (Node P T I G)). indexes c.entries) entries_are ∙ order-put e.0 e.1
 
       pub bare_is : bare m ≡ with_entry_moved (bare c) x (put_on at.1 y)
@@ -189,23 +188,23 @@ module _ {P T I G : Type 0} {c d : Chain (Node P T I G)} {root root' : Option �
       y_within = omega (arith, ap (times y) rest_is, within-occupied left y y_left)
 
       pub y_in : is_some (entry_at m.entries y) ≡ true
-      y_in = occupied-within m.entries y (omega (arith, ap (times y) order_is, times-beside-ge (side_at at.1) y x y rest, y_within))
+      y_in = occupied-within m.entries y (omega (arith, ap (times y) order_is, times-beside-ge at.1 y x y rest, y_within))
 
       held_rest : Holds (slots_of m) None root' out.built.shape
       held_rest = Holds-frame (slots_of d) (slots_of m) out.built.shape None root' (λ j _. same_slots j) out.built.held
 
-      pub aside : IsAside (slots_of m) root' rest (indexes m.entries) (side_at at.1) y x
+      pub aside : IsAside (slots_of m) root' rest (indexes m.entries) at.1 y x
       aside = record {
         shape = out.built.shape;
         held = held_rest;
         listed = out.built.listed;
         once = rest_once;
         within = y_within;
-        facing = ap (neighbour_in (side_at at.1) x) order_is ∙ neighbour-beside y x (side_at at.1) rest rest_fresh;
+        facing = ap (neighbour_in at.1 x) order_is ∙ neighbour-beside y x at.1 rest rest_fresh;
       }
 
       -- its node is now a leaf with a parent link
-      module _ (n : Chain (Node P T I G)) (branch : Branch I) (bud : IsLeafBranch number y (side_at at.1) (slots_of m) rest branch) (bare_kept : bare n ≡ bare m)
+      module _ (n : Chain (Node P T I G)) (branch : Branch I) (bud : IsLeafBranch number y at.1 (slots_of m) rest branch) (bare_kept : bare n ≡ bare m)
           (leaf : slots_of n x ≡ Some (leaf_links (Some (number branch.parent)))) (elsewhere : (j : ℕ) → j ≢ x → slots_of n j ≡ slots_of m j) where
         pub new_leaf : IsNewLeaf (slots_of n) root' branch.side (number branch.parent) x rest 1
         new_leaf = record {

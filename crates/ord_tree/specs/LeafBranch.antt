@@ -1,27 +1,18 @@
 -- The place of a new entry in the list and in the tree. No public clause cites this file.
-use Rattle.std.specs.declared.cmp.Ordering.TheVariants.{Less, Equal, Greater}
 use Rattle.std.specs.Prelude.{◌≡◌, ℕ, ◌<◌, Option, None, Some, IsSomeAnd, List}
-use Rattle.std.specs.declared.cmp.Ordering.{Ordering}
 use Rattle.chain_base.specs.declared.chain.insert.LinkInsertKind.TheVariants.{Disconnected, NextToInx, PrevToInx}
 use Rattle.chain_base.specs.declared.chain.insert.LinkInsertKind.{LinkInsertKind}
-use Rattle.ord_tree.specs.declared.tree_links.Side.TheVariants.{Lesser as OnLesser, Greater as OnGreater}
+use Rattle.ord_tree.specs.declared.tree_links.Side.TheVariants.{Lesser, Greater}
 use Rattle.ord_tree.specs.{declared.tree_links.TreeLinks.TreeLinks, declared.tree_links.Branch.Branch, declared.tree_links.Side.Side}
 use Rattle.ord_tree.specs.{Slots.Slots, Slots.times, TreeLinks.child_at, Leaf.beside}
 
--- the side of an entry that an ordering names
-abbrev pub side_at : Ordering → Side
-side_at Less = OnLesser
-side_at Equal = OnGreater
-side_at Greater = OnGreater
-
 -- the place in the chain before or after an entry
-abbrev pub kind_on : {P I G : Type 0} → Ordering → I → LinkInsertKind P I G
-kind_on Less i = PrevToInx i
-kind_on Equal i = NextToInx i
+abbrev pub kind_on : {P I G : Type 0} → Side → I → LinkInsertKind P I G
+kind_on Lesser i = PrevToInx i
 kind_on Greater i = NextToInx i
 
 -- the place in the chain that `at` names
-abbrev pub kind_at : {P I G : Type 0} → Option (I × Ordering) → LinkInsertKind P I G
+abbrev pub kind_at : {P I G : Type 0} → Option (I × Side) → LinkInsertKind P I G
 kind_at None = Disconnected
 kind_at (Some at) = kind_on at.1 at.0
 
@@ -32,6 +23,6 @@ pub record IsLeafBranch {I : Type 0} (number : I → ℕ) (i : ℕ) (side : Side
   pub put : (x : ℕ) → beside branch.side (number branch.parent) x order ≡ beside side i x order
 
 -- the branch is a place for a new leaf at the named place, or `None` for the only entry
-abbrev pub IsLeafBranchAt : {I : Type 0} → (I → ℕ) → Option (I × Ordering) → Slots → List ℕ → Option (Branch I) → Type 0
+abbrev pub IsLeafBranchAt : {I : Type 0} → (I → ℕ) → Option (I × Side) → Slots → List ℕ → Option (Branch I) → Type 0
 IsLeafBranchAt number None slots order branch = branch ≡ None
-IsLeafBranchAt number (Some at) slots order branch = IsSomeAnd branch (IsLeafBranch number (number at.0) (side_at at.1) slots order)
+IsLeafBranchAt number (Some at) slots order branch = IsSomeAnd branch (IsLeafBranch number (number at.0) at.1 slots order)

@@ -1,10 +1,9 @@
 -- A tree as its users see it: a list of entries, with a shape.
-use Rattle.std.specs.Prelude.{◌≡◌, ◌≢◌, ℕ, Option, None, Some, List, [], ◌∷◌, refl}
-use Rattle.std.specs.declared.cmp.Ordering.TheVariants.{Less, Equal, Greater}
+use Rattle.std.specs.Prelude.{◌≡◌, ℕ, Option, None, Some, List, [], ◌∷◌, refl}
 use Rattle.std.specs.Coded.{Coded, code_by, coded×, coded_ℕ, coded_list, coded_option}
-use Rattle.std.specs.declared.cmp.Ordering.{Ordering}
 use Rattle.chain_base.specs.Chain.{Entry, Chain, insert_after, insert_before, with_item as chain_with_item, IsOccupied}
 use Rattle.ord_tree.specs.{declared.node.SimpleOrdArenaNode.SimpleOrdArenaNode as Node, Shape.Shape, Shape.root_of, Shape.walk, Slots.Holds}
+use Rattle.ord_tree.specs.{declared.tree_links.Side.Side, declared.tree_links.Side.TheVariants.Lesser, declared.tree_links.Side.TheVariants.Greater}
 use Rattle.ord_tree.specs.{Node.indexes, Node.bare, Node.slots_of, Ranks.IsRanked, Ranks.IsTight, ShapeCode.shape_code, Parents.MovesAtMost, Potential.ChangesRanksWithin}
 
 -- the list of entries, with capacity, free list, generation and maximum, as in a chain arena, and the shape over the entries' indexes
@@ -40,20 +39,19 @@ pub record IsChainOf {P T I G : Type 0} (t : Tree T) (c : Chain (Node P T I G)) 
   pub held : Holds (slots_of c) None (root_of t.shape) t.shape
 
 -- the list with a new entry directly before or after the entry with this index
-abbrev pub put_on : {T : Type 0} → Ordering → ℕ → List (Entry T) → Entry T → List (Entry T)
-put_on Less i es new = insert_before i new es
-put_on Equal i es new = insert_after i new es
+abbrev pub put_on : {T : Type 0} → Side → ℕ → List (Entry T) → Entry T → List (Entry T)
+put_on Lesser i es new = insert_before i new es
 put_on Greater i es new = insert_after i new es
 
 -- the list with a new entry at the named place: before or after an entry, or as the only entry
-abbrev pub put_at : {I T : Type 0} → (I → ℕ) → Option (I × Ordering) → List (Entry T) → Entry T → List (Entry T)
+abbrev pub put_at : {I T : Type 0} → (I → ℕ) → Option (I × Side) → List (Entry T) → Entry T → List (Entry T)
 put_at number None es new = new ∷ es
 put_at number (Some at) es new = put_on at.1 (number at.0) es new
 
 -- a new entry can be put there: as the only entry of an empty list, else before or after an entry
-abbrev pub CanPutAt : {I T : Type 0} → (I → ℕ) → Option (I × Ordering) → Chain T → Type 0
+abbrev pub CanPutAt : {I T : Type 0} → (I → ℕ) → Option (I × Side) → Chain T → Type 0
 CanPutAt number None c = c.entries ≡ []
-CanPutAt number (Some at) c = IsOccupied c (number at.0) × (at.1 ≢ Equal)
+CanPutAt number (Some at) c = IsOccupied c (number at.0)
 
 -- What an insertion does to the shape. A tight shape stays tight, and at most five entries get another parent. The number of old entries
 -- whose rank changes, plus the new potential, is at most the old potential plus 4.

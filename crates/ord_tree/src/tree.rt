@@ -1,10 +1,10 @@
 //! `OrdTree`: a chain of entries with a balanced tree over it.
 
-ghost use Rattle.std.specs.Prelude.{◌≡◌, ◌==◌, None, is_some, length};
+ghost use Rattle.std.specs.Prelude.{◌≡◌, ◌==◌, None, IfSome, is_some, length};
 ghost use Rattle.std.specs.Option.{option_map};
 ghost use Rattle.chain_base.specs.Generation.{IsLawfulGeneration, overflows_after};
 ghost use Rattle.chain_base.specs.Invalidation.{is_overflow};
-ghost use Rattle.chain_base.specs.Chain.{raised, entry_at, IsSound};
+ghost use Rattle.chain_base.specs.Chain.{raised, entry_at, next_index, IsSound};
 ghost use Rattle.ord_tree.specs.Shape.{root_of};
 ghost use Rattle.ord_tree.specs.Tree.{IsChainOf, IsSoundTree};
 
@@ -58,6 +58,14 @@ impl<P: BasePtr, T, A: Allocator> OrdTree<P, T, A> {
         ensures sound { IsSoundTree self.now }
     {
         &self.chain
+    }
+
+    /// Returns the pointer that the next insertion gives, if a slot is vacant. O(1).
+    pub fn next_insertion_ptr(&self) -> Option<P>
+        ensures index { option_map (λ p. (P.numbers p).0) result ≡ next_index self.now.list }
+        ensures generation { IfSome result (λ p. (P.numbers p).1 ≡ self.now.list.generation) }
+    {
+        self.chain.arena().next_insertion_ptr()
     }
 
     /// Returns the number of entries.

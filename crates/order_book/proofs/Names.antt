@@ -2,7 +2,7 @@
 use Rattle.std.proofs.Common.{◌≡◌, ◌≢◌, ℕ, zero, suc, ◌+◌, ◌-◌, ◌<◌, ◌≤◌, ◌==◌, ◌&&◌, ◌⊎◌, inl, inr, List, [], ◌∷◌, ◌++◌, length, Option, Some, None, IsSome, is_some, IfSome, IfNone, OnSome, Result, Ok, Err, IfOk, OnOk, OnErr, true, false, refl, sym, ap, subst, ◌∙◌, arith, if◌then◌else◌}
 use Rattle.std.specs.Prelude.{Bool, nat_lt}
 use Rattle.std.proofs.{lemmas.Bool.Decides.eqb_tells}
-use Rattle.order_queue.specs.Queue.{Queue, most_orders, is_named_by, order_of, without, with_rest, with_quantity, generation_after, behind, generation_behind, taken, with_left, reduced, Rests}
+use Rattle.order_queue.specs.Queue.{Queue, most_entries, is_named_by, order_of, without, with_rest, with_quantity, generation_after, behind, generation_behind, taken, with_left, reduced, Rests}
 use Rattle.order_queue.specs.{Id.Id, declared.order.Order.Order, declared.side.Side.TheVariants.Buy, declared.side.Side.TheVariants.Sell}
 use Rattle.order_book.specs.Book.{Book, RestsOrNot, queue, named}
 use Rattle.order_book.specs.Names.{GoesOn, Counts, IsStep, IsRun, HasNoLaterName, HasEnded, KeepsEnded, EndedNameLaw}
@@ -158,7 +158,7 @@ goes-then a b c up on first second = record {
 pub goes-left : (q : Queue) (p : ℕ × ℕ) → q.generation ≤ generation_after q.generation → GoesOn q (with_left q p)
 goes-left q p counted = record { known = λ u there. inl (there-without q.orders p u there); ended = λ u was none. after-greater q.generation counted }
 
-pub goes-taken : (q : Queue) (n : ℕ) → length q.orders ≤ most_orders → q.generation ≤ (taken n q).generation → GoesOn q (taken n q)
+pub goes-taken : (q : Queue) (n : ℕ) → length q.orders ≤ most_entries → q.generation ≤ (taken n q).generation → GoesOn q (taken n q)
 goes-taken q n few counted = record {
   known = λ p there. inl (there-taken q.orders n p there);
   ended = λ p there none. elim (taking q.orders n q.generation) [
@@ -234,7 +234,7 @@ module _ {E : Type 0} (r : Result (Option Id) E) (q new : Queue) (kept : OnErr r
       go (Ok id) rests kept = goes-anew q new p price rest tag id rests counted
       go (Err e) rests kept = goes-nowhere q new kept
 
-  pub goes-other : (n : ℕ) → length q.orders ≤ most_orders → OnOk r (new ≡ taken n q) → q.generation ≤ new.generation → GoesOn q new
+  pub goes-other : (n : ℕ) → length q.orders ≤ most_entries → OnOk r (new ≡ taken n q) → q.generation ≤ new.generation → GoesOn q new
   goes-other n few after counted = go r after kept
     where
       go : (r : Result (Option Id) E) → OnOk r (new ≡ taken n q) → OnErr r (new ≡ q) → GoesOn q new

@@ -4,7 +4,7 @@ ghost use Rattle.std.specs.Prelude.{◌≡◌, ◌≢◌, ◌↔◌, ◌+◌, �
 ghost use Rattle.std.specs.Prelude.{IfOk, OnOk, OnErr, OnSome, IfSome, IfNone};
 ghost use Rattle.std.specs.Option.{option_map};
 ghost use Rattle.order_queue.specs.PlainArena.{capacity_for};
-ghost use Rattle.order_queue.specs.Queue.{most_orders, first_of, first_levels, resting, traded, within, reduced_order, total, volume, HasRoomFor};
+ghost use Rattle.order_queue.specs.Queue.{most_entries, first_of, first_levels, resting, traded, within, reduced_order, total, volume, HasRoomFor};
 ghost use Rattle.order_queue.specs.declared.side.Side.TheVariants.{Buy, Sell};
 ghost use Rattle.order_book.specs.Book.{opposite, queue, empty_queue, named, limit_of, can_rest, only_rests, is_whole, without, with_less, replacement};
 ghost use Rattle.order_book.specs.Names.{IsStep};
@@ -95,12 +95,12 @@ impl<A: Allocator> OrderBook<A> {
     pub fn reserve(&mut self, side: Side, additional: usize) -> Result<(), ReallocationError>
         ensures bids { self.new.bids.orders ≡ self.old.bids.orders }
         ensures asks { self.new.asks.orders ≡ self.old.asks.orders }
-        ensures capacity { OnOk result ((queue self.new side).capacity ≡ capacity_for most_orders
+        ensures capacity { OnOk result ((queue self.new side).capacity ≡ capacity_for most_entries
             (queue self.old side).capacity (length (queue self.old side).orders + additional)) }
         ensures room { OnOk result (HasRoomFor additional (queue self.new side)) }
         ensures other_side { queue self.new (opposite side) ≡ queue self.old (opposite side) }
         ensures full { (result ≡ Err ReallocationError.BeyondMaxCapacity)
-            ↔ (most_orders < length (queue self.old side).orders + additional) }
+            ↔ (most_entries < length (queue self.old side).orders + additional) }
         ensures memory { result ≡ Err ReallocationError.AllocError
             → (queue self.old side).capacity < length (queue self.old side).orders + additional }
         ensures step { IsStep self.old self.new }
@@ -298,13 +298,13 @@ impl<A: Allocator> OrderBook<A> {
             × (0 < untraded self.old order)) }
         ensures full { (result ≡ Err PlacingError.BeyondMaxCapacity)
             ↔ ((0 < rest_of self.old order)
-            × (length (queue self.old order.side).orders ≡ most_orders)
+            × (length (queue self.old order.side).orders ≡ most_entries)
             × (only_rests order.kind ≡ true → trades_for self.old order ≡ 0)) }
         ensures memory { result ≡ Err PlacingError.AllocError
             → LacksRoom (vec_capacity trades.old) (length trades.old.items)
             (trades_of self.old order)
             ⊎ ((0 < rest_of self.old order) × IsFull (queue self.old order.side)
-            × (length (queue self.old order.side).orders ≢ most_orders)) }
+            × (length (queue self.old order.side).orders ≢ most_entries)) }
         ensures step { IsStep self.old self.new }
         ensures err { OnErr result (self.new ≡ self.old) }
         ensures kept { OnErr result (trades.new.items ≡ trades.old.items) }

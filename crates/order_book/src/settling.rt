@@ -2,7 +2,7 @@
 
 ghost use Rattle.std.specs.Prelude.{◌≡◌, ◌≢◌, ◌↔◌, ◌+◌, ◌<◌, ◌++◌, ◌⊎◌, ℕ, Err, Some, None, length, vec_capacity, if◌then◌else◌};
 ghost use Rattle.std.specs.Prelude.{IfOk, OnOk, OnErr, IfSome};
-ghost use Rattle.order_queue.specs.Queue.{most_orders, order_of, taken, total, volume, resting, with_left, HasRoomFor};
+ghost use Rattle.order_queue.specs.Queue.{most_entries, order_of, taken, total, volume, resting, with_left, HasRoomFor};
 ghost use Rattle.order_book.specs.Book.{limit_of, can_rest, dealt, deals, undealt, remainder, AreWithin, IsFull, IsUntraded, LacksRoom, RestsOrNot};
 
 use crate::new_order::NewOrder;
@@ -23,9 +23,9 @@ fn rest<A: Allocator>(
     ensures names { IfOk result (λ id. IfSome id (λ i. order_of own.new.orders i.pointer
         ≡ Some (resting own.old.side i.pointer price left tag))) }
     ensures full { (result ≡ Err ReallocationError.BeyondMaxCapacity)
-        ↔ ((0 < left) × (length own.old.orders ≡ most_orders)) }
+        ↔ ((0 < left) × (length own.old.orders ≡ most_entries)) }
     ensures memory { result ≡ Err ReallocationError.AllocError
-        → (0 < left) × IsFull own.old × (length own.old.orders ≢ most_orders) }
+        → (0 < left) × IsFull own.old × (length own.old.orders ≢ most_entries) }
     ensures err { OnErr result (own.new ≡ own.old) }
 {
     if left == 0 {
@@ -63,11 +63,11 @@ pub(crate) fn settle<A: Allocator, B: Allocator>(
     ensures sold { OnOk result
         (total other.new.orders + volume (deals other.old order) ≡ total other.old.orders) }
     ensures full { (result ≡ Err ReallocationError.BeyondMaxCapacity)
-        ↔ ((0 < remainder other.old order) × (length own.old.orders ≡ most_orders)) }
+        ↔ ((0 < remainder other.old order) × (length own.old.orders ≡ most_entries)) }
     ensures memory { result ≡ Err ReallocationError.AllocError
         → LacksRoom (vec_capacity trades.old) (length trades.old.items) (deals other.old order)
         ⊎ ((0 < remainder other.old order) × IsFull own.old
-        × (length own.old.orders ≢ most_orders)) }
+        × (length own.old.orders ≢ most_entries)) }
     ensures own_others { IfOk result (λ id. (p : ℕ × ℕ)
         → Some (record { side = own.old.side; pointer = p }) ≢ id
         → order_of own.new.orders p ≡ order_of own.old.orders p) }

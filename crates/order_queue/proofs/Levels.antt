@@ -2,7 +2,7 @@
 use Rattle.std.proofs.Common.{◌≡◌, ◌≢◌, ℕ, ◌+◌, ◌*◌, ◌≤◌, ◌==◌, List, [], ◌∷◌, length, true, false, refl, sym, ◌∙◌, inl, inr, arith, if◌then◌else◌}
 use Rattle.std.proofs.lemmas.Bool.Decides.{eqb_tells}
 use Rattle.std.specs.List.{AllByRecursion}
-use Rattle.order_queue.specs.Queue.{most_orders, most_quantity, AreSummable, joined, levels_of, total, within, meets}
+use Rattle.order_queue.specs.Queue.{most_entries, most_quantity, AreSummable, joined, levels_of, total, within, meets}
 use Rattle.order_queue.specs.{declared.level.Level.Level, declared.order.Order.Order, declared.side.Side.Side}
 
 -- the level of one order
@@ -103,7 +103,7 @@ pub record IsSumming (all : List Order) (level : Level) (rest : List Order) : Ty
   pub levels : levels_of all ≡ in_front level (levels_of rest)
   pub summable : AreSummable rest
   pub fits : level.quantity + total rest ≤ most_total
-  pub few : level.count + length rest ≤ most_orders
+  pub few : level.count + length rest ≤ most_entries
 
 pub summing-start : (x : Order) (xs : List Order) → AreSummable (x ∷ xs) → IsSumming (x ∷ xs) (level_of x) xs
 summing-start x xs summable = record {

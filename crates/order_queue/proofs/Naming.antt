@@ -5,7 +5,8 @@ use Rattle.std.specs.{List.AllByRecursion, Option.option_map, Ordering.nat_cmp}
 use Rattle.sorted_arena.specs.Chain.{Entry, IsDistinct as AreDistinct, entry_at, item_of, first_pointer, without as without_index}
 use Rattle.sorted_arena.proofs.ChainLemmas.{entry_at-absent}
 use Rattle.sorted_arena.specs.Sorted.{Sorted, IsSound as IsSoundArena, Updates as UpdatesArena, without as without_entry}
-use Rattle.order_queue.specs.Queue.{most_orders, Updates, with_left, first_of, order_of, without, IsDistinct, IsSound}
+use Rattle.sorted_arena.specs.PlainPointer.{greatest_generation}
+use Rattle.order_queue.specs.Queue.{most_entries, Updates, with_left, first_of, order_of, without, IsDistinct, IsSound}
 use Rattle.order_queue.specs.Layout.{order_in, queue_of, IsLawful, AreLawful}
 use Rattle.order_queue.specs.{declared.order.Lot.Lot, declared.order.Order.Order, declared.side.Side.Side}
 use Rattle.order_queue.proofs.{Ranks.Entries, Ranks.recursion-map, Ranks.in_order-sorted}
@@ -81,7 +82,7 @@ module _ (side : Side) where
   ]
 
   pub queue-without : (a : Sorted ℕ Lot) (p : ℕ × ℕ) → AreDistinct a.entries → IsSome (item_of a.entries p)
-      → queue_of side (without_entry (Some 18446744073709551615) a p) ≡ with_left (queue_of side a) p
+      → queue_of side (without_entry greatest_generation a p) ≡ with_left (queue_of side a) p
   queue-without a p distinct there = rw (without-found a.entries distinct p there) refl
 
   -- the first entry is the order that trades first
@@ -109,7 +110,7 @@ module _ (side : Side) where
   of_side-found (e ∷ es) = (refl, of_side-found es)
 
   -- what holds of an arena holds of its queue
-  pub sound-found : (a : Sorted ℕ Lot) → IsSoundArena nat_cmp most_orders a → AreLawful a.entries → IsSound (queue_of side a)
+  pub sound-found : (a : Sorted ℕ Lot) → IsSoundArena nat_cmp most_entries a → AreLawful a.entries → IsSound (queue_of side a)
   sound-found a sound lawful = record {
     of_side = of_side-found a.entries;
     in_order = in_order-sorted side a.entries sound.sorted;

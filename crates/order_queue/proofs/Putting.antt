@@ -5,14 +5,14 @@ use Rattle.std.specs.{declared.cmp.Ordering.TheVariants.Less, List.AllByRecursio
 use Rattle.sorted_arena.specs.Chain.{Entry, IsDistinct as AreDistinct}
 use Rattle.sorted_arena.specs.Sorted.{Sorted, Inserts, Updates as UpdatesArena}
 use Rattle.order_queue.specs.Layout.{most_price, ranked, order_in, queue_of, IsLawful, AreLawful}
-use Rattle.order_queue.specs.Queue.{Rests, Updates, IsNoWorse, IsWorse, most_orders, resting}
+use Rattle.order_queue.specs.Queue.{Rests, Updates, IsNoWorse, IsWorse, most_entries, resting}
 use Rattle.order_queue.specs.{declared.order.Lot.Lot, declared.side.Side.Side}
 use Rattle.sorted_arena.specs.PlainArena.{doubled_capacity}
 use Rattle.order_queue.proofs.Ranks.{no_worse-ahead, worse-ranked, ranked-twice, ranked-lawful, recursion-map, recursion-both, recursion-back, recursion-between}
 use Rattle.order_queue.proofs.Naming.{order_under, order_of-found, updates-found}
 
 module _ (side : Side) (old new : Sorted ℕ Lot) (p : ℕ × ℕ) where
-  module _ (d : ℕ) (lot : Lot) (inserts : Inserts nat_cmp most_orders old p d lot new) (lawful : AreLawful old.entries) where
+  module _ (d : ℕ) (lot : Lot) (inserts : Inserts nat_cmp most_entries old p d lot new) (lawful : AreLawful old.entries) where
     abbrev entry : Entry (ℕ × Lot)
     entry = record { index = p.0; generation = p.1; item = (d, lot) }
 
@@ -45,11 +45,11 @@ module _ (side : Side) (old new : Sorted ℕ Lot) (p : ℕ × ℕ) where
       generation = inserts.generation;
       side = refl;
       capacity = inserts.capacity
-          ∙ ap (λ n. if nat_lt n old.capacity then old.capacity else doubled_capacity most_orders old.capacity) (sym (length-map old.entries (order_in side)));
+          ∙ ap (λ n. if nat_lt n old.capacity then old.capacity else doubled_capacity most_entries old.capacity) (sym (length-map old.entries (order_in side)));
     }
 
   -- an insertion at the rank of a price
-  module _ (price : ℕ) (lot : Lot) (bounded : price ≤ most_price) (inserts : Inserts nat_cmp most_orders old p (ranked side price) lot new) (lawful : AreLawful old.entries) where
+  module _ (price : ℕ) (lot : Lot) (bounded : price ≤ most_price) (inserts : Inserts nat_cmp most_entries old p (ranked side price) lot new) (lawful : AreLawful old.entries) where
     pub rests-inserted : AreDistinct old.entries → Rests (queue_of side old) price lot.quantity lot.tag p (queue_of side new)
     rests-inserted distinct = subst (λ n. Rests (queue_of side old) n lot.quantity lot.tag p (queue_of side new)) (ranked-twice side price bounded)
         (rests-put (ranked side price) lot inserts lawful distinct)

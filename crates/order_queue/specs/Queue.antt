@@ -1,9 +1,11 @@
 -- What one side of an order book is: a list of resting orders in the order in which they trade, by price, and at equal prices by age.
 use Rattle.std.specs.Prelude.{◌≡◌, ◌≢◌, ℕ, zero, suc, ◌+◌, ◌-◌, ◌≤◌, ◌<◌, min, ◌==◌, ◌&&◌, leb, nat_lt, if◌then◌else◌, Bool, List, [], ◌∷◌, ◌++◌, length, take, Option, Some, None}
 use Rattle.std.specs.List.{AllByRecursion}
-use Rattle.sorted_arena.specs.{PlainArena.doubled_capacity, Generation.next_generation}
+use Rattle.sorted_arena.specs.PlainArena.{doubled_capacity}
 use Rattle.order_queue.specs.{declared.side.Side.TheVariants.Buy, declared.side.Side.TheVariants.Sell, declared.order.Order.Order}
 use Rattle.order_queue.specs.{declared.order.Trade.Trade, declared.level.Level.Level, declared.side.Side.Side}
+-- how many orders one side can have, and the generation after one
+pub use Rattle.sorted_arena.specs.PlainPointer.{most_entries, generation_after}
 
 -- One side of a book: its orders, first the one that trades first; the generation of the next order's pointer; and how many orders it
 -- holds without growing.
@@ -12,14 +14,6 @@ pub record Queue : Type 0 where
   pub orders : List Order
   pub generation : ℕ
   pub capacity : ℕ
-
--- how many orders one side can have
-abbrev pub most_orders : ℕ
-most_orders = 4294967294
-
--- the generation after g: one more, and 2 after the greatest number of 64 bits
-abbrev pub generation_after : ℕ → ℕ
-generation_after g = next_generation (Some 18446744073709551615) g
 
 -- For buyers the higher price is the better, for sellers the lower: a price p is no worse than q, and p is worse than q.
 abbrev pub IsNoWorse : Side → ℕ → ℕ → Type 0
@@ -74,7 +68,7 @@ most_quantity = 18446744073709551615
 
 -- there are no more orders than a side can have, each of at most the greatest quantity, so 128 bits hold the sum
 pub record AreSummable (xs : List Order) : Type 0 where
-  pub few : length xs ≤ most_orders
+  pub few : length xs ≤ most_entries
   pub bounded : AllByRecursion (λ x. x.quantity ≤ most_quantity) xs
 
 -- What is true of every side of a book: its orders are of that side and in order, no pointer names two of them, of each something is
@@ -86,7 +80,7 @@ pub record IsSound (q : Queue) : Type 0 where
   pub some_left : AllByRecursion (λ x. 0 < x.quantity) q.orders
   pub summable : AreSummable q.orders
   pub within : length q.orders ≤ q.capacity
-  pub limited : q.capacity ≤ most_orders
+  pub limited : q.capacity ≤ most_entries
 
 -- so many more orders fit without growing
 abbrev pub HasRoomFor : ℕ → Queue → Type 0
@@ -186,7 +180,7 @@ pub record Rests (old : Queue) (price quantity tag : ℕ) (p : ℕ × ℕ) (new 
   pub of_generation : p.1 ≡ old.generation
   pub generation : new.generation ≡ old.generation
   pub side : new.side ≡ old.side
-  pub capacity : new.capacity ≡ (if nat_lt (length old.orders) old.capacity then old.capacity else doubled_capacity most_orders old.capacity)
+  pub capacity : new.capacity ≡ (if nat_lt (length old.orders) old.capacity then old.capacity else doubled_capacity most_entries old.capacity)
 
 -- from old to new, a pointer names this now, and every other pointer names what it named
 pub record Updates (old new : Queue) (p : ℕ × ℕ) (named : Option Order) : Type 0 where

@@ -4,7 +4,7 @@ ghost use Rattle.std.specs.Prelude.{◌≡◌, ◌↔◌, ◌+◌, ◌-◌, ◌�
 ghost use Rattle.std.specs.Prelude.{IfOk, OnOk, OnErr, OnSome, IfSome, IfNone};
 ghost use Rattle.std.specs.Option.{option_map};
 ghost use Rattle.sorted_arena.specs.PlainArena.{capacity_for};
-ghost use Rattle.order_queue.specs.Queue.{most_orders, first_of, order_of, resting, within, traded, trades_of_first, taken, with_left, with_rest, reduced, reduced_order};
+ghost use Rattle.order_queue.specs.Queue.{most_entries, first_of, order_of, resting, within, traded, trades_of_first, taken, with_left, with_rest, reduced, reduced_order};
 ghost use Rattle.order_queue.specs.Layout.{queue_of, AreLawful};
 ghost use Rattle.order_queue.specs.Queue.{HasRoomFor, IsSound, Rests, Updates};
 
@@ -98,10 +98,10 @@ impl<A: Allocator> OrderQueue<A> {
         ensures orders { self.new.orders ≡ self.old.orders }
         ensures generation { self.new.generation ≡ self.old.generation }
         ensures capacity { OnOk result (self.new.capacity
-            ≡ capacity_for most_orders self.old.capacity (length self.old.orders + additional)) }
+            ≡ capacity_for most_entries self.old.capacity (length self.old.orders + additional)) }
         ensures room { OnOk result (HasRoomFor additional self.new) }
         ensures full { (result ≡ Err ReallocationError.BeyondMaxCapacity)
-            ↔ (most_orders < length self.old.orders + additional) }
+            ↔ (most_entries < length self.old.orders + additional) }
         ensures memory { result ≡ Err ReallocationError.AllocError
             → self.old.capacity < length self.old.orders + additional }
         ensures err { OnErr result (self.new ≡ self.old) }
@@ -146,7 +146,7 @@ impl<A: Allocator> OrderQueue<A> {
             (Some (resting self.old.side p price quantity tag))) }
         ensures count { OnOk result (length self.new.orders ≡ length self.old.orders + 1) }
         ensures full { (result ≡ Err ReallocationError.BeyondMaxCapacity)
-            ↔ (length self.old.orders ≡ most_orders) }
+            ↔ (length self.old.orders ≡ most_entries) }
         ensures memory { result ≡ Err ReallocationError.AllocError
             → length self.old.orders ≡ self.old.capacity }
         ensures err { OnErr result (self.new ≡ self.old) }

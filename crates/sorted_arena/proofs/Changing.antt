@@ -13,7 +13,8 @@ use Rattle.triple_ord.specs.Tree.{Tree}
 use Rattle.triple_ord.specs.Shape.{missing}
 use Rattle.triple_ord.specs.Clone.{cloned}
 use Rattle.triple_ord.specs.Arena.{item_of as item_of_arena, count as count_arena, with_room_for, Updates as UpdatesArena}
-use Rattle.triple_ord.specs.Insertion.{reallocating, with_room_by, InsertsNew}
+use Rattle.triple_ord.specs.Insertion.{with_room_by, InsertsNew}
+use Rattle.triple_ord.specs.declared.growth.Growth.TheVariants.{Reallocating}
 use Rattle.triple_ord.specs.{Gap.with_between, Place.behind_key, Order.IsInOrder}
 use Rattle.triple_ord.specs.declared.entry_kind.OrdEntryKind.TheVariants.{New}
 use Rattle.triple_ord.proofs.CallerLemmas.{entries-with_room_by, numbers-inserted, numbers-with_room_by, capacity-inserted, inserted-new}
@@ -51,30 +52,30 @@ module _ {K V : Type 0} (cmp : K → K → Ordering) (most : ℕ) (greatest : Op
   }
 
   -- an arena that took a new entry wasn't full
-  pub not_full : (old new : Tree (K × V)) (k : K) (item : K × V) (p : ℕ × ℕ) → InsertsNew item_key cmp most reallocating (behind_key k) old item p new → IsSoundChain most greatest new.list
+  pub not_full : (old new : Tree (K × V)) (k : K) (item : K × V) (p : ℕ × ℕ) → InsertsNew item_key cmp most Reallocating (behind_key k) old item p new → IsSoundChain most greatest new.list
       → length old.list.entries ≡ chain_limit most old.list → ⊥
   not_full old new k item p inserts sound full =
-      let facts = inserted-new old new (with_room_by reallocating most old.list) (entries-with_room_by reallocating most old.list) inserts.gap item p inserts.inserted in
-      let numbers = numbers-inserted reallocating most old.list new.list (with_between inserts.gap) item p.0 p.1 inserts.inserted in
+      let facts = inserted-new old new (with_room_by Reallocating most old.list) (entries-with_room_by Reallocating most old.list) inserts.gap item p inserts.inserted in
+      let numbers = numbers-inserted Reallocating most old.list new.list (with_between inserts.gap) item p.0 p.1 inserts.inserted in
       absurd (omega (arith, facts.2, sound.counted, sound.within_limit, ap (limit_of most) numbers.1, full))
 
   -- a new entry behind all whose key is at most its own
   module _ (total : IsTotalOrder cmp) (old new : Tree (K × V)) (k : K) (v : V) (p : ℕ × ℕ)
-      (inserts : InsertsNew item_key cmp most reallocating (behind_key k) old (k, v) p new) (sound : IsSoundChain most greatest old.list) (holds : IsSortedArena cmp old) where
+      (inserts : InsertsNew item_key cmp most Reallocating (behind_key k) old (k, v) p new) (sound : IsSoundChain most greatest old.list) (holds : IsSortedArena cmp old) where
     abbrev entry : Entry (K × V)
     entry = record { index = p.0; generation = p.1; item = (k, v) }
 
     abbrev room : Chain (K × V)
-    room = with_room_by reallocating most old.list
+    room = with_room_by Reallocating most old.list
 
     order : IsInOrder item_key cmp old.list.entries
     order = sorted-in_order cmp old.list.entries holds.sorted
 
     facts : (item_of_arena old p ≡ None) × UpdatesArena old new p (Some (k, v)) × (count_arena new ≡ count_arena old + 1)
-    facts = inserted-new old new room (entries-with_room_by reallocating most old.list) inserts.gap (k, v) p inserts.inserted
+    facts = inserted-new old new room (entries-with_room_by Reallocating most old.list) inserts.gap (k, v) p inserts.inserted
 
     numbers : (new.list.generation ≡ old.list.generation) × (new.list.maximum ≡ old.list.maximum)
-    numbers = numbers-inserted reallocating most old.list new.list (with_between inserts.gap) (k, v) p.0 p.1 inserts.inserted
+    numbers = numbers-inserted Reallocating most old.list new.list (with_between inserts.gap) (k, v) p.0 p.1 inserts.inserted
 
     pub inserts-put : Inserts cmp most (sorted_of old) p k v (sorted_of new)
     inserts-put = record {
@@ -85,9 +86,9 @@ module _ {K V : Type 0} (cmp : K → K → Ordering) (most : ℕ) (greatest : Op
       at_most_before = All-from_recursion _ _ (all_at_most cmp total k inserts.gap.front inserts.gap.back (rw (inserts.gap.cut) at order) inserts.place.at_most_before);
       greater_behind = All-from_recursion _ _ (greater cmp total k old.list.entries order inserts.gap inserts.place.greater_after);
       unused = facts.0;
-      of_generation = inserts.inserted.generation ∙ (numbers-with_room_by reallocating most old.list).0;
+      of_generation = inserts.inserted.generation ∙ (numbers-with_room_by Reallocating most old.list).0;
       generation = numbers.0;
-      capacity = capacity-inserted reallocating most old.list new.list (with_between inserts.gap) (k, v) p.0 p.1 inserts.inserted sound.counted holds.unlimited;
+      capacity = capacity-inserted Reallocating most old.list new.list (with_between inserts.gap) (k, v) p.0 p.1 inserts.inserted sound.counted holds.unlimited;
     }
 
     pub updates-put : Updates (sorted_of old) (sorted_of new) p (Some (k, v))
@@ -99,7 +100,7 @@ module _ {K V : Type 0} (cmp : K → K → Ordering) (most : ℕ) (greatest : Op
     pub arena-put : IsSortedArena cmp new
     arena-put = record {
       sorted = in_order-sorted cmp total new.list.entries
-          (kept_order (λ (q : ℕ × ℕ). q) item_key cmp total most reallocating (behind_key k) k old new (k, v) (Ok (New p, None)) (inr refl) (equal-itself cmp total k) sound.distinct order inserts);
+          (kept_order (λ (q : ℕ × ℕ). q) item_key cmp total most Reallocating (behind_key k) k old new (k, v) (Ok (New p, None)) (inr refl) (equal-itself cmp total k) sound.distinct order inserts);
       unlimited = numbers.1 ∙ holds.unlimited;
     }
 
@@ -107,13 +108,13 @@ module _ {K V : Type 0} (cmp : K → K → Ordering) (most : ℕ) (greatest : Op
     pub compact-put : IsCompact old.list → option_map (λ (q : ℕ × ℕ). q.0) (last_pointer new.list.entries) ≡ Some p.0 → IsCompact new.list
     compact-put compact last =
         let listed : new.list.entries ≡ inserts.gap.front ++ entry ∷ inserts.gap.back = ap (λ (c : Chain (K × V)). c.entries) (after-insertion room new.list (with_between inserts.gap) (k, v) p.0 p.1 inserts.inserted).1 in
-        let roomy = entries-with_room_by reallocating most old.list in
+        let roomy = entries-with_room_by Reallocating most old.list in
         let unused : times p.0 (inserts.gap.front ++ inserts.gap.back) ≡ 0 = ap (times p.0) (sym inserts.gap.cut ∙ sym roomy) ∙ inserts.inserted.vacant.free in
         let none : inserts.gap.back ≡ [] = none-behind inserts.gap.front entry inserts.gap.back (omega (arith, unused, times-append p.0 inserts.gap.front inserts.gap.back))
         (ap (λ (es : List (Entry (K × V))). option_map (λ (q : ℕ × ℕ). q.0) (last_pointer es)) (sym listed) ∙ last) in
         let front : room.entries ≡ inserts.gap.front = roomy ∙ inserts.gap.cut ∙ ap (λ (es : List (Entry (K × V))). inserts.gap.front ++ es) none ∙ append-nil inserts.gap.front in
         compact-inserted room new.list (with_between inserts.gap) (λ e. ap (λ (es : List (Entry (K × V))). inserts.gap.front ++ e ∷ es) none ∙ ap (λ (es : List (Entry (K × V))). es ++ e ∷ []) (sym front)) (k, v) p.0 p.1
-        (compact-roomy most greatest reallocating old.list sound compact) inserts.inserted
+        (compact-roomy most greatest Reallocating old.list sound compact) inserts.inserted
 
 -- an entry that goes to the place of another key
 module _ {K V : Type 0} (cmp : K → K → Ordering) (total : IsTotalOrder cmp) (old new : Tree (K × V)) (p : ℕ × ℕ) (k : K) (holds : IsSortedArena cmp old) where

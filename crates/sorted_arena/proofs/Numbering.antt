@@ -5,7 +5,9 @@ use Rattle.std.specs.{List.range_with_len, Option.option_map}
 use Rattle.triple_ord.specs.Chain.{Entry, Chain, times, entry_at, without, with_item_among, greatest_index, vacant_among, vacant_indexes, with_capacity, last_pointer, inserted_at, next_index, grown_capacity, IsSound}
 use Rattle.triple_ord.specs.{ChainCompression.numbered, ChainCompression.canonical, Insert.IsInsertion}
 use Rattle.triple_ord.specs.TreeAppend.{Appends}
-use Rattle.triple_ord.specs.Insertion.{Growth, with_room_by, within, reallocating}
+use Rattle.triple_ord.specs.Insertion.{with_room_by}
+use Rattle.triple_ord.specs.declared.growth.Growth.{Growth}
+use Rattle.triple_ord.specs.declared.growth.Growth.TheVariants.{Within, Reallocating}
 use Rattle.sorted_arena.specs.{Layout.AreNumbered, Layout.IsCompact, Place.position_of, Stretch.first_index}
 
 module _ {T : Type 0} where
@@ -213,8 +215,8 @@ module _ {T : Type 0} where
 
   -- grown, if there is no vacant slot
   pub compact-roomy : (most : ℕ) (greatest : Option ℕ) (growth : Growth) (c : Chain T) → IsSound most greatest c → IsCompact c → IsCompact (with_room_by growth most c)
-  compact-roomy most greatest within c sound h = h
-  compact-roomy most greatest reallocating c sound h = go (is_some (next_index c))
+  compact-roomy most greatest Within c sound h = h
+  compact-roomy most greatest Reallocating c sound h = go (is_some (next_index c))
     where
       go : (b : Bool) → IsCompact (if b then c else with_capacity c (grown_capacity most c))
       go true = h

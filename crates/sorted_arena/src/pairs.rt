@@ -5,7 +5,8 @@ ghost use Rattle.std.specs.Option.{option_map};
 ghost use Rattle.std.specs.Ordering.{is_le, is_lt};
 ghost use Rattle.triple_ord.specs.Chain.{Entry, last_pointer, chain_limit, IsSound};
 ghost use Rattle.triple_ord.specs.Gap.{last_of};
-ghost use Rattle.triple_ord.specs.Insertion.{reallocating, InsertsNew};
+ghost use Rattle.triple_ord.specs.Insertion.{InsertsNew};
+ghost use Rattle.triple_ord.specs.declared.growth.Growth.TheVariants.{Reallocating};
 ghost use Rattle.triple_ord.specs.{PastEquals.order_past_equals, Search.FindsSimilar};
 ghost use Rattle.triple_ord.specs.Place.{aim_of, behind_key, kind_now};
 ghost use Rattle.sorted_arena.specs.Layout.{item_key, pointer_among};
@@ -45,7 +46,7 @@ pub(crate) fn put<K: Ord + Drop, V: Drop, P: BasePtr, A: Allocator>(
     k: K,
     v: V,
 ) -> Result<P, ((K, V), ReallocationError)>
-    ensures ok { IfOk result (λ p. InsertsNew item_key K.cmp P.Inx.most reallocating
+    ensures ok { IfOk result (λ p. InsertsNew item_key K.cmp P.Inx.most Reallocating
         (behind_key k) pairs.old (k, v) (P.numbers p) pairs.new) }
     ensures back { IfErr result (λ e. e.0 ≡ (k, v)) }
     ensures full { (result ≡ Err ((k, v), ReallocationError.BeyondMaxCapacity))

@@ -5,7 +5,7 @@ use Rattle.std.specs.{List.AllByRecursion, Ordering.nat_cmp}
 use Rattle.std.specs.declared.cmp.Ordering.TheVariants.{Less}
 use Rattle.sorted_arena.specs.Gap.{last_of}
 use Rattle.sorted_arena.specs.Sorted.{Sorted, key_of, Inserts}
-use Rattle.timeline.specs.Timeline.{Change, most_changes, value_at, IsRising, AreChanges}
+use Rattle.timeline.specs.Timeline.{Change, most_entries, value_at, IsRising, AreChanges}
 use Rattle.timeline.specs.Layout.{change, changes_of, earlier, later, later_than, last_value, last_taken, held_or, or_else, end_value_of, IsChanged, IsAt, IsReached, IsBeyond, TakesSame, TakesOver, IsRefusable, IsJoinedTo, IsOpen, IsFinished, IsPainted, EndsAt, Sets, CannotEnd}
 use Rattle.timeline.proofs.Cutting.{AreBefore, AreUntil, AreAfter, all-append, all-front, all-back, all-weaker, earlier-before, later-after, cut-before, cut-after, cut-earlier, cut-later, rising-front, rising-back, rising-append, last-append}
 use Rattle.timeline.proofs.Values.{value-cut}
@@ -64,7 +64,7 @@ module _ {V : Type 0} where
       ]
 
   -- a change that an insertion puts between
-  module _ (old new : Sorted ℕ (Option V)) (p : ℕ × ℕ) (t : ℕ) (value : Option V) (inserts : Inserts nat_cmp most_changes old p t value new) where
+  module _ (old new : Sorted ℕ (Option V)) (p : ℕ × ℕ) (t : ℕ) (value : Option V) (inserts : Inserts nat_cmp most_entries old p t value new) where
     not-later : (es : List (Item V)) → AllByRecursion (λ (e : Item V). nat_cmp t (key_of e) ≢ Less) es → AreUntil t (map change es)
     not-later [] all = tt
     not-later (e ∷ es) all = (grind (arith, nat_tests, all.0), not-later es all.1)
@@ -135,7 +135,7 @@ module _ {V : Type 0} where
     pub finished-same : (value : Option V) → stands.at.entry.item.1 ≡ value → IsFinished stands value (changes_of mid)
     finished-same value same = record { mid = changes_of mid; begun = begun; ended = changed-same until (changes_of mid) value (rising-mid cut begun) (unmet-mid cut begun) (held-mid ∙ same) }
 
-    pub finished-other : (value : Option V) (q : ℕ × ℕ) (new : Sorted ℕ (Option V)) → stands.at.entry.item.1 ≢ value → Inserts nat_cmp most_changes mid q until value new → IsFinished stands value (changes_of new)
+    pub finished-other : (value : Option V) (q : ℕ × ℕ) (new : Sorted ℕ (Option V)) → stands.at.entry.item.1 ≢ value → Inserts nat_cmp most_entries mid q until value new → IsFinished stands value (changes_of new)
     finished-other value q new other inserts = record {
       mid = changes_of mid;
       begun = begun;
@@ -194,7 +194,7 @@ pub record IsCleared {V : Type 0} (old : List (Change V)) (from : ℕ) (until : 
   pub nothing : taken ≡ None → old ≡ map change at.front ++ map change at.back
   pub held : (u : ℕ) → until ≡ Some u → held_or (last_value None (map change at.front)) taken ≡ value_at old u
 
-module _ {V : Type 0} (old mid : Sorted ℕ (Option V)) (p : ℕ × ℕ) (from : ℕ) (until : Option ℕ) (value : Option V) (inserts : Inserts nat_cmp most_changes old p from value mid)
+module _ {V : Type 0} (old mid : Sorted ℕ (Option V)) (p : ℕ × ℕ) (from : ℕ) (until : Option ℕ) (value : Option V) (inserts : Inserts nat_cmp most_entries old p from value mid)
     (rising : IsRising (changes_of old)) (ordered : IfSome until (λ u. from < u)) where
   abbrev put : Item V
   put = record { index = p.0; generation = p.1; item = (from, value) }

@@ -3,6 +3,8 @@ use Rattle.std.specs.Prelude.{◌≡◌, ◌≢◌, ℕ, ◌+◌, ◌*◌, ◌<�
 use Rattle.std.specs.{List.AllByRecursion, Option.option_map, Borrow.Bor}
 use Rattle.sorted_arena.specs.PlainArena.{capacity_for}
 use Rattle.timeline.specs.declared.span.{Span.Span, WholeSpan.WholeSpan, Gap.Gap}
+-- how many changes there can be
+pub use Rattle.sorted_arena.specs.PlainPointer.{most_entries}
 
 -- a change: from this time on the value is this one, or there is none
 pub record Change (V : Type 0) : Type 0 where
@@ -13,10 +15,6 @@ pub record Change (V : Type 0) : Type 0 where
 pub record Timeline (V : Type 0) : Type 0 where
   pub changes : List (Change V)
   pub capacity : ℕ
-
--- how many changes there can be
-abbrev pub most_changes : ℕ
-most_changes = 4294967294
 
 module _ {V : Type 0} where
   -- the value at a time, where `held` is the one before these changes: that of the last change at or before the time
@@ -48,7 +46,7 @@ module _ {V : Type 0} where
     pub rising : IsRising t.changes
     pub joined : IsJoinedAfter None t.changes
     pub within : length t.changes ≤ t.capacity
-    pub limited : t.capacity ≤ most_changes
+    pub limited : t.capacity ≤ most_entries
 
   -- so many more settings fit without growing: each needs room for two changes
   abbrev pub HasRoomFor : ℕ → Timeline V → Type 0
@@ -56,7 +54,7 @@ module _ {V : Type 0} where
 
   -- the capacity with room for two more changes
   abbrev pub roomy_capacity : Timeline V → ℕ
-  roomy_capacity t = capacity_for most_changes t.capacity (length t.changes + 2)
+  roomy_capacity t = capacity_for most_entries t.capacity (length t.changes + 2)
 
   -- the capacity after a setting from one time until another; one over no time takes no room
   abbrev pub capacity_set : Timeline V → ℕ → ℕ → ℕ

@@ -4,7 +4,7 @@ ghost use Rattle.std.specs.Prelude.{◌≡◌, ◌≤◌, ◌<◌, ◌+◌, ◌+
 ghost use Rattle.std.specs.Option.{option_copied};
 ghost use Rattle.std.specs.Ordering.{nat_cmp};
 ghost use Rattle.sorted_arena.specs.Sorted.{Inserts};
-ghost use Rattle.timeline.specs.Timeline.{most_changes, roomy_capacity, value_at, IsRising};
+ghost use Rattle.timeline.specs.Timeline.{most_entries, roomy_capacity, value_at, IsRising};
 ghost use Rattle.timeline.specs.Layout.{changes_of, timeline_of, last_value, IsReached, IsBeyond, IsAt, TakesNext, TakesBehind, TakesSame};
 ghost use Rattle.timeline.specs.Layout.{end_value_of, IsOpen, TakesOver, IsJoinedTo, IsFinished, IsPainted, IsRefusable, CannotEnd};
 
@@ -31,7 +31,7 @@ pub(crate) fn make_room<V: TimelineValue, A: Allocator>(
     ensures spared { IfOk result (λ spare. IfSome spare
         (λ held. IfSome until (λ u. held ≡ value_at (changes_of changes.old) u))) }
     ensures full { (result ≡ Err ReallocationError.BeyondMaxCapacity)
-        ↔ (most_changes < length changes.old.entries + 2) }
+        ↔ (most_entries < length changes.old.entries + 2) }
     ensures memory { result ≡ Err ReallocationError.AllocError
         → changes.old.capacity < length changes.old.entries + 2 }
     ensures err { OnErr result (changes.new ≡ changes.old) }
@@ -60,7 +60,7 @@ pub(crate) fn make_room<V: TimelineValue, A: Allocator>(
 // Inserts a change, for which there is room, and returns its pointer.
 fn insert_at<V: Drop, A: Allocator>(changes: &mut Changes<V, A>, time: u64, value: Option<V>) -> P0
     requires { length changes.old.entries < changes.old.capacity }
-    ensures inserted { Inserts nat_cmp most_changes changes.old result time value changes.new }
+    ensures inserted { Inserts nat_cmp most_entries changes.old result time value changes.new }
     ensures capacity { changes.new.capacity ≡ changes.old.capacity }
     ensures count { length changes.new.entries ≡ length changes.old.entries + 1 }
 {

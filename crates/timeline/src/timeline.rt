@@ -3,7 +3,7 @@
 ghost use Rattle.std.specs.Prelude.{◌≡◌, true, false, ◌<◌, ◌+◌, ◌*◌, ◌↔◌, ◌⊎◌, [], Some, None, Err, OnOk, OnErr, IfSome, IfNone, length};
 ghost use Rattle.std.specs.Option.{option_copied};
 ghost use Rattle.sorted_arena.specs.PlainArena.{capacity_for};
-ghost use Rattle.timeline.specs.Timeline.{most_changes, roomy_capacity, capacity_set, value_at, shown_whole, IsTimeline, HasRoomFor};
+ghost use Rattle.timeline.specs.Timeline.{most_entries, roomy_capacity, capacity_set, value_at, shown_whole, IsTimeline, HasRoomFor};
 ghost use Rattle.timeline.specs.Timeline.{IsSet, IsSetFrom, IsWholeSpan, IsNextChange, HoldsRefusable};
 ghost use Rattle.timeline.specs.Layout.{pieces_of, capacity_put, Sets, CannotEnd, IsEmptyTime};
 
@@ -135,10 +135,10 @@ impl<V, A: Allocator> Timeline<V, A> {
     pub fn reserve(&mut self, settings: usize) -> Result<(), ReallocationError>
         ensures changes { self.new.changes ≡ self.old.changes }
         ensures room { OnOk result (HasRoomFor settings self.new) }
-        ensures capacity { OnOk result (self.new.capacity ≡ capacity_for most_changes
+        ensures capacity { OnOk result (self.new.capacity ≡ capacity_for most_entries
             self.old.capacity (length self.old.changes + 2 * settings)) }
         ensures full { (result ≡ Err ReallocationError.BeyondMaxCapacity)
-            ↔ (most_changes < length self.old.changes + 2 * settings) }
+            ↔ (most_entries < length self.old.changes + 2 * settings) }
         ensures memory { result ≡ Err ReallocationError.AllocError
             → self.old.capacity < length self.old.changes + 2 * settings }
         ensures err { OnErr result (self.new ≡ self.old) }
@@ -178,7 +178,7 @@ impl<V: TimelineValue, A: Allocator> Timeline<V, A> {
     pub fn set(&mut self, from: u64, until: u64, value: V) -> Result<(), ReallocationError>
         ensures set { OnOk result (IsSet self.old.changes from until (Some value) self.new.changes) }
         ensures full { (result ≡ Err ReallocationError.BeyondMaxCapacity)
-            ↔ ((from < until) × (most_changes < length self.old.changes + 2)) }
+            ↔ ((from < until) × (most_entries < length self.old.changes + 2)) }
         ensures memory { result ≡ Err ReallocationError.AllocError
             → (from < until) × ((self.old.capacity < length self.old.changes + 2)
             ⊎ HoldsRefusable V.is_infallible self.old.changes from until) }
@@ -197,7 +197,7 @@ impl<V: TimelineValue, A: Allocator> Timeline<V, A> {
     pub fn clear(&mut self, from: u64, until: u64) -> Result<(), ReallocationError>
         ensures set { OnOk result (IsSet self.old.changes from until None self.new.changes) }
         ensures full { (result ≡ Err ReallocationError.BeyondMaxCapacity)
-            ↔ ((from < until) × (most_changes < length self.old.changes + 2)) }
+            ↔ ((from < until) × (most_entries < length self.old.changes + 2)) }
         ensures memory { result ≡ Err ReallocationError.AllocError
             → (from < until) × ((self.old.capacity < length self.old.changes + 2)
             ⊎ HoldsRefusable V.is_infallible self.old.changes from until) }
@@ -222,7 +222,7 @@ impl<V: TimelineValue, A: Allocator> Timeline<V, A> {
     pub fn set_from(&mut self, from: u64, value: V) -> Result<(), ReallocationError>
         ensures set { OnOk result (IsSetFrom self.old.changes from (Some value) self.new.changes) }
         ensures full { (result ≡ Err ReallocationError.BeyondMaxCapacity)
-            ↔ (most_changes < length self.old.changes + 2) }
+            ↔ (most_entries < length self.old.changes + 2) }
         ensures memory { result ≡ Err ReallocationError.AllocError
             → self.old.capacity < length self.old.changes + 2 }
         ensures capacity { OnOk result (self.new.capacity ≡ roomy_capacity self.old) }
@@ -240,7 +240,7 @@ impl<V: TimelineValue, A: Allocator> Timeline<V, A> {
     pub fn clear_from(&mut self, from: u64) -> Result<(), ReallocationError>
         ensures set { OnOk result (IsSetFrom self.old.changes from None self.new.changes) }
         ensures full { (result ≡ Err ReallocationError.BeyondMaxCapacity)
-            ↔ (most_changes < length self.old.changes + 2) }
+            ↔ (most_entries < length self.old.changes + 2) }
         ensures memory { result ≡ Err ReallocationError.AllocError
             → self.old.capacity < length self.old.changes + 2 }
         ensures capacity { OnOk result (self.new.capacity ≡ roomy_capacity self.old) }
@@ -259,7 +259,7 @@ impl<V: TimelineValue, A: Allocator> Timeline<V, A> {
     ) -> Result<(), ReallocationError>
         ensures set { OnOk result (Sets self.old.changes from until value self.new.changes) }
         ensures full { (result ≡ Err ReallocationError.BeyondMaxCapacity)
-            ↔ (IfSome until (λ u. from < u) × (most_changes < length self.old.changes + 2)) }
+            ↔ (IfSome until (λ u. from < u) × (most_entries < length self.old.changes + 2)) }
         ensures memory { result ≡ Err ReallocationError.AllocError
             → IfSome until (λ u. from < u) × ((self.old.capacity < length self.old.changes + 2)
             ⊎ CannotEnd V.is_infallible self.old.changes from until) }

@@ -11,7 +11,7 @@ use Rattle.triple_ord.proofs.Words.{Replacing, OrdInsertKind, item_of, items, co
 use Rattle.triple_ord.proofs.Words.{◌<◌, Result, Err, ◌⊎◌, nil_from_length, Bor, IsSound, greatest_index, clone-same, Transferring, TransferStep, IsTransfer, FoldsTo, length-map, entry_at-absent, entry_at-without_other, IsDistinct, removed}
 use Rattle.triple_ord.proofs.Words.{renewed, after-insertion, IsInsertion, moved, at_compressed_index, numbered, entry_at-numbered_before, generation-numbered, items-numbered, generation-moved, generation-relocated, length-with_generation}
 use Rattle.triple_ord.proofs.Words.{entry_at-between_other, entry_at-between, length-between, entry_at-numbered, entry_at-without, length-without, entry_at-with_item_among_other, entry_at-with_item_among, length-with_item_among}
-use Rattle.triple_ord.proofs.Words.{entry_at-with_generation_other, entry_at-with_generation, common_steps, refused-found, Shape, within, reallocating, next_index, true}
+use Rattle.triple_ord.proofs.Words.{entry_at-with_generation_other, entry_at-with_generation, common_steps, refused-found, Shape, Within, Reallocating, next_index, true}
 use Rattle.triple_ord.proofs.Inserting.{entry_at-after, similar-here, IsInsertion-same}
 use Rattle.ord_tree.proofs.ChainLemmas.{with_new, roomy_capacity, capacity-vacant, capacity-with_room}
 use Rattle.triple_ord.specs.{Arena.entry_at, Clone.cloned, Clone.refused_clone, Clone.FindsFallible, Entry.InsertsThere, Entry.Awaits, Entry.IsEntryFor}
@@ -187,8 +187,8 @@ module _ {T : Type 0} where
 
   module _ (most : ℕ) (c : Chain T) (counted : length c.entries + length c.vacant ≡ c.capacity) (unlimited : c.maximum ≡ None) where
     pub capacity-with_room_by : (growth : Growth) → let d = with_room_by growth most c in is_some (next_index d) ≡ true → d.capacity ≡ roomy_capacity most c
-    capacity-with_room_by within some = capacity-vacant most c counted some
-    capacity-with_room_by reallocating some = capacity-with_room most c counted unlimited
+    capacity-with_room_by Within some = capacity-vacant most c counted some
+    capacity-with_room_by Reallocating some = capacity-with_room most c counted unlimited
 
   -- a new entry keeps the generation and the maximum, and the capacity after making room for it
   module _ (growth : Growth) (most : ℕ) (old new : Chain T) (place : Entry T → List (Entry T)) (item : T) (i g : ℕ)

@@ -1,8 +1,9 @@
 -- A list cut at one of its elements: its ends, the entry that an index occurring once finds, and the gap where a search by a key that
 -- ended there puts a new entry.
 use Rattle.std.proofs.Math.Path.{fun_ext}
-use Rattle.triple_ord.proofs.Words.{◌≡◌, ℕ, List, [], ◌∷◌, ◌++◌, Option, Some, None, IsSome, length, refl, ap, arith, inl, inr, eqb_tells, position_of, ◌≢◌, true, false, ◌≤◌, sym, ◌∙◌, ◌⊎◌, append_assoc, is_eq, Ordering, Less, Equal}
+use Rattle.triple_ord.proofs.Words.{◌≡◌, ℕ, List, [], ◌∷◌, ◌++◌, Option, Some, None, IsSome, length, refl, ap, arith, inl, inr, eqb_tells, position_of, ◌≢◌, true, false, ◌≤◌, sym, ◌∙◌, ◌⊎◌, append_assoc, Side, Lesser, OnGreater, is_eq, Ordering, Less, Equal}
 use Rattle.triple_ord.proofs.Words.{common_steps, option_map, Link, Entry, times, IsDistinct, entry_at, link_between, link_at, from_index, Greater, Gap, order_to, IsFirstEqual, StopsAt, IsBeside, FindsKey, FindsSimilar, where_equal, Chain}
+use Rattle.triple_ord.specs.Prepared.{order_on}
 use Rattle.triple_ord.proofs.Words.{insert_after, insert_before, with_item_among, times-append, entry_at-between, first_of, last_of, IsInsertion, put_on, before, after, with_between}
 
 module _ {X : Type 0} where
@@ -188,8 +189,9 @@ module _ {T : Type 0} (c d : Chain T) (place other : Entry T → List (Entry T))
   pub IsInsertion-same : IsInsertion c d place item i g → IsInsertion c d other item i g
   IsInsertion-same ins = rw (fun_ext same) at ins
 
-pub not_equal : (o : Ordering) → is_eq o ≡ false → o ≢ Equal
-not_equal o test same = let yes : is_eq o ≡ true = ap is_eq same in cc
+order_on-unequal : (side : Side) → order_on side ≢ Equal
+order_on-unequal Lesser same = cc
+order_on-unequal OnGreater same = cc
 
 -- the place that a search found for a new entry is a gap that fits
 module _ {T K : Type 0} (key : T → K) (cmp : K → K → Ordering) (es : List (Entry T)) (k : K) where
@@ -219,22 +221,21 @@ module _ {T K : Type 0} (key : T → K) (cmp : K → K → Ordering) (es : List 
     pub similar-occupied : IsSome (entry_at es p.0)
     similar-occupied = rw (← named, similar-here) refl
 
-    beside_placed : (b : IsBeside key cmp es k c found.0) (o2 : Ordering) → order_to key cmp k found.0 ≡ o2 → o2 ≢ Equal → HasPlace c (put_on o2 found.0.index es)
-    beside_placed b Equal is other = absurd (other refl)
-    beside_placed b Less is other = elim b.2 [
+    beside_placed : (b : IsBeside key cmp es k c found.0) (side : Side) → order_to key cmp k found.0 ≡ order_on side → HasPlace c (put_on side found.0.index es)
+    beside_placed b Lesser is = elim b.2 [
       | inl low ↦ absurd (let more = rw low at b.1.fits.lesser_before in cc)
       | inr high ↦ record { gap = b.0; stops = b.1; puts = puts-before es found.0 distinct b.0 high }
     ]
-    beside_placed b Greater is other = elim b.2 [
+    beside_placed b OnGreater is = elim b.2 [
       | inl low ↦ record { gap = b.0; stops = b.1; puts = puts-after es found.0 distinct b.0 low }
       | inr high ↦ absurd (let less = rw high at b.1.fits.greater_after in cc)
     ]
 
     -- a new entry beside it is in a gap that fits
-    pub similar-placed : is_eq o ≡ false → HasPlace c (put_on o p.0 es)
-    similar-placed test =
-        let beside = stop-of_other key cmp es k c found.0 found.2 (λ same. not_equal o test (sym ordered ∙ same)) in
-        rw (← named) (beside_placed beside o ordered (not_equal o test))
+    pub similar-placed : (side : Side) → o ≡ order_on side → HasPlace c (put_on side p.0 es)
+    similar-placed side on =
+        let beside = stop-of_other key cmp es k c found.0 found.2 (λ same. order_on-unequal side (sym on ∙ sym ordered ∙ same)) in
+        rw (← named) (beside_placed beside side (ordered ∙ on))
 
-    pub similar-first : is_eq o ≡ true → IsFirstEqual key cmp es k found.0
-    similar-first test = (first-of_equal key cmp es k c found.0 found.2 (ordered ∙ equal_by o test)).0
+    pub similar-first : o ≡ Equal → IsFirstEqual key cmp es k found.0
+    similar-first equal = (first-of_equal key cmp es k c found.0 found.2 (ordered ∙ equal)).0

@@ -1,32 +1,43 @@
 -- The place of an insertion, from the answer of a search or from an index.
 use Rattle.triple_ord.proofs.Words.{◌≡◌, ◌≢◌, ◌==◌, if◌then◌else◌, IfNone, is_some, ℕ, ◌+◌, ◌≤◌, false, true, length, List, [], ◌∷◌, ◌++◌, Option, Some, None, IsSome, Result, Ok, Err, IfErr, refl, sym, ap, ◌∙◌, arith, append_assoc, eq-eqb}
-use Rattle.triple_ord.proofs.Words.{after, with_between, FindsSimilar, taken, Ties, Sought, Passed, Aim, alone, at_key, behind_key, beside, Place, into, over, nowhere, IsPlace, aim_of, Growth, within, reallocating, slice_get_cases}
+use Rattle.triple_ord.proofs.Words.{after, with_between, FindsSimilar, taken, Ties, Sought, Passed, Aim, alone, at_key, behind_key, beside, Place, into, over, nowhere, IsPlace, aim_of, Growth, Within, Reallocating, Side, Lesser, OnGreater, slice_get_cases}
 use Rattle.triple_ord.proofs.Words.{with_room_by, Entry, Chain, entry_at, next_index, IsDistinct, IsSound, IsInsertion, Tree, IsGrown, put_on, put_at, nat_tests, nil_from_length, IfSome_then, option_map, is_eq, Ordering, Less, Equal}
 use Rattle.triple_ord.proofs.Words.{Greater, IsErrAnd, with_item, item_of, count, Updates, IsNearHint, IsWithinBounds, IsWithinHintedBounds, Gap, before, LacksSlot, IsRefused, InsertsBeside, OrdInsertKind, OrdInsertionError}
-use Rattle.triple_ord.proofs.Inserting.{last_of-append, stands, HasPlace, place-alone, similar-placed, similar-occupied, similar-here, similar-first, similar-seen, not_equal, IsInsertion-same, puts-before, puts-after}
+use Rattle.triple_ord.proofs.Inserting.{last_of-append, stands, HasPlace, place-alone, similar-placed, similar-occupied, similar-here, similar-first, similar-seen, IsInsertion-same, puts-before, puts-after}
 use Rattle.triple_ord.proofs.{CallerLemmas.entries-with_room_by, CallerLemmas.updates-written, CallerLemmas.count-written, CallerLemmas.inserted-new, OrderLaws.taken-less, OrderLaws.taken-greater, OrderLaws.passed-unequal}
+use Rattle.std.specs.Prelude.{ok_or}
 use Rattle.triple_ord.proofs.Words.{NotWithinCapacity, common_steps}
 use Rattle.triple_ord.specs.declared.prepared.InsertPlace.{InsertPlace, TheVariants.New, TheVariants.Replacing}
-use Rattle.triple_ord.specs.Prepared.{Keeps, IsFoundPlace, IsPlaceBeside, IsPlaceFor, HasRoomAt, kind_by, kind_near}
+use Rattle.triple_ord.specs.Prepared.{Keeps, IsFoundPlace, IsPlaceBeside, IsPlaceFor, HasRoomAt, order_on, side_by, place_at, kind_by, kind_near}
 use Rattle.triple_ord.specs.{declared.error.OrdInsertionError.TheVariants.BeyondMaxCapacity, declared.error.OrdInsertionError.TheVariants.AllocError, EntryVisits.HasSeen}
 
 pub item_here : {T : Type 0} (t : Tree T) (i : ℕ) (x : ℕ × T) → entry_at t.list.entries i ≡ Some x → IsSome (item_of t (i, x.0))
 item_here t i x there = rw (there, eq-eqb x.0 x.0 refl) refl
 
+-- the order that a side is named by
+pub side-order : (o : Ordering) (side : Side) → side_by o ≡ Some side → o ≡ order_on side
+side-order Less side is = grind (arith, common_steps)
+side-order Equal side is = absurd cc
+side-order Greater side is = grind (arith, common_steps)
+
+pub side-none : (o : Ordering) → side_by o ≡ None → o ≡ Equal
+side-none Less is = absurd cc
+side-none Equal is = refl
+side-none Greater is = absurd cc
+
 -- a side of the entry with an index is a gap
 module _ {T K : Type 0} (key : T → K) (cmp : K → K → Ordering) (es : List (Entry T)) (distinct : IsDistinct es) (i : ℕ) (there : IsSome (entry_at es i)) where
-  pub record OnSide (o : Ordering) : Type 0 where
+  pub record OnSide (side : Side) : Type 0 where
     pub gap : Gap es
-    pub at : IsPlace key cmp (beside i o) (into gap)
-    pub puts : (new : Entry T) → put_on o i es new ≡ with_between gap new
+    pub at : IsPlace key cmp (beside i (order_on side)) (into gap)
+    pub puts : (new : Entry T) → put_on side i es new ≡ with_between gap new
 
-  pub on-side : (o : Ordering) → o ≢ Equal → OnSide o
-  on-side Equal other = absurd (other refl)
-  on-side Less other =
+  pub on-side : (side : Side) → OnSide side
+  on-side Lesser =
       let s = stands es i there in
       let gap : Gap es = record { front = s.front; back = s.entry ∷ s.back; cut = s.cut } in
       record { gap = gap; at = s.here; puts = λ new. rw s.here at (puts-before es s.entry distinct gap refl new) }
-  on-side Greater other =
+  on-side OnGreater =
       let s = stands es i there in
       let gap : Gap es = record { front = s.front ++ s.entry ∷ []; back = s.back; cut = s.cut ∙ simp append_assoc } in
       let last = last_of-append None s.front s.entry [] in
@@ -35,7 +46,7 @@ module _ {T K : Type 0} (key : T → K) (cmp : K → K → Ordering) (es : List 
 module _ {P T K : Type 0} (numbers : P → ℕ × ℕ) (key : T → K) (cmp : K → K → Ordering) (t : Tree T) where
   module _ (k : K) (c : ℕ) where
     -- a gap where a search by a key stops is its place
-    module _ (at : Option (P × Ordering)) (can : HasRoomAt numbers at t.list) where
+    module _ (at : Option (P × Side)) (can : HasRoomAt numbers at t.list) where
       found-gap : HasPlace key cmp t.list.entries k c (put_at (λ p. (numbers p).0) at t.list.entries) → (t.list.entries ≢ [] → 1 ≤ c)
           → IsFoundPlace numbers key cmp t (at_key k) c (New at)
       found-gap place some =
@@ -46,22 +57,29 @@ module _ {P T K : Type 0} (numbers : P → ℕ × ℕ) (key : T → K) (cmp : K 
     found-alone empty = found-gap None (ap length empty) (place-alone key cmp t.list.entries k empty c) (λ some. absurd (some empty))
 
     module _ (distinct : IsDistinct t.list.entries) (p : P) (o : Ordering) (found : FindsSimilar key cmp t.list.entries k (Some (numbers p, o)) c) where
-      pub found-beside : is_eq o ≡ false → IsFoundPlace numbers key cmp t (at_key k) c (New (Some (p, o)))
-      found-beside test =
-          found-gap (Some (p, o)) (similar-occupied key cmp t.list.entries k distinct (numbers p) o c found, not_equal o test)
-          (similar-placed key cmp t.list.entries k distinct (numbers p) o c found test)
+      found-beside : (side : Side) → o ≡ order_on side → IsFoundPlace numbers key cmp t (at_key k) c (New (Some (p, side)))
+      found-beside side on =
+          found-gap (Some (p, side)) (similar-occupied key cmp t.list.entries k distinct (numbers p) o c found)
+          (similar-placed key cmp t.list.entries k distinct (numbers p) o c found side on)
           (λ some. similar-seen key cmp t.list.entries k distinct (numbers p) o c found)
 
-      pub found-over : is_eq o ≡ true → IsFoundPlace numbers key cmp t (at_key k) c (Replacing p)
-      found-over test =
+      found-over : o ≡ Equal → IsFoundPlace numbers key cmp t (at_key k) c (Replacing p)
+      found-over equal =
           let there = similar-here key cmp t.list.entries k distinct (numbers p) o c found in
           let here = item_here t found.0.index (found.0.generation, found.0.item) there in
           record {
             place = over found.0;
-            chosen = similar-first key cmp t.list.entries k distinct (numbers p) o c found test;
+            chosen = similar-first key cmp t.list.entries k distinct (numbers p) o c found equal;
             keeps = (ap (λ a. a.0) found.1, rw (ap (λ a. a.0) found.1) here);
             seen = record { some = λ some. similar-seen key cmp t.list.entries k distinct (numbers p) o c found; beside = tt };
           }
+
+    -- where a search by a key ended is its place
+    pub found-at : IsDistinct t.list.entries → (p : P) (o : Ordering) → FindsSimilar key cmp t.list.entries k (Some (numbers p, o)) c
+        → IsFoundPlace numbers key cmp t (at_key k) c (place_at (p, o))
+    found-at distinct p Less found = found-beside distinct p Less found Lesser refl
+    found-at distinct p Equal found = found-over distinct p Equal found refl
+    found-at distinct p Greater found = found-beside distinct p Greater found OnGreater refl
 
   -- a place by the order with equal keys counting as smaller lies behind the key
   behind : (k : K) (place : Place t.list.entries) → IsPlace key (taken Passed cmp) (at_key k) place → IsPlace key cmp (behind_key k) place
@@ -96,15 +114,20 @@ module _ {P T K : Type 0} (numbers : P → ℕ × ℕ) (key : T → K) (cmp : K 
 
   -- the entry with an index: beside it, or in place of its item
   module _ (distinct : IsDistinct t.list.entries) (p : P) (i g : ℕ) (item : T) (named : numbers p ≡ (i, g)) (there : entry_at t.list.entries i ≡ Some (g, item)) where
-    pub beside-over : IsPlaceBeside numbers key cmp t (beside i Equal) (Some (Replacing p))
+    beside-over : IsPlaceBeside numbers key cmp t (beside i Equal) (Some (Replacing p))
     beside-over = (over (record { index = i; generation = g; item = item }), (refl, there), (named, rw named (item_here t i (g, item) there)))
 
-    pub beside-put : (o : Ordering) → o ≢ Equal → IsPlaceBeside numbers key cmp t (beside i o) (Some (New (Some (p, o))))
-    beside-put o other =
+    beside-put : (side : Side) → IsPlaceBeside numbers key cmp t (beside i (order_on side)) (Some (New (Some (p, side))))
+    beside-put side =
         let some : IsSome (entry_at t.list.entries i) = rw there refl in
-        let side = on-side key cmp t.list.entries distinct i some o other in
+        let on = on-side key cmp t.list.entries distinct i some side in
         let index : (numbers p).0 ≡ i = ap (λ n. n.0) named in
-        (into side.gap, side.at, ((rw index some, other), rw index side.puts))
+        (into on.gap, on.at, (rw index some, rw index on.puts))
+
+    pub beside-at : (o : Ordering) → IsPlaceBeside numbers key cmp t (beside i o) (Some (place_at (p, o)))
+    beside-at Less = beside-put Lesser
+    beside-at Equal = beside-over
+    beside-at Greater = beside-put OnGreater
 
   -- as the only entry
   pub alone-here : (length t.list.entries == 0) ≡ true → IsPlaceBeside numbers key cmp t alone (Some (New None))
@@ -117,14 +140,14 @@ module _ {P T K : Type 0} (numbers : P → ℕ × ℕ) (key : T → K) (cmp : K 
 
 -- a place beside an entry, or for the only one, is a gap
 module _ {P T : Type 0} (numbers : P → ℕ × ℕ) (t : Tree T) (distinct : IsDistinct t.list.entries) where
-  pub put-gap : (at : Option (P × Ordering)) → HasRoomAt numbers at t.list
+  pub put-gap : (at : Option (P × Side)) → HasRoomAt numbers at t.list
       → (gap : Gap t.list.entries) × ((new : Entry T) → put_at (λ p. (numbers p).0) at t.list.entries new ≡ with_between gap new)
   put-gap None none =
       let empty = nil_from_length t.list.entries none in
       (record { front = []; back = []; cut = empty }, λ new. ap (λ xs. new ∷ xs) empty)
-  put-gap (Some (p, o)) can =
-      let side = on-side (λ (item : T). tt {0}) (λ k l. Equal) t.list.entries distinct (numbers p).0 can.0 o can.1 in
-      (side.gap, side.puts)
+  put-gap (Some (p, side)) can =
+      let on = on-side (λ (item : T). tt {0}) (λ k l. Equal) t.list.entries distinct (numbers p).0 can side in
+      (on.gap, on.puts)
 
 -- an insertion returns the pointer that was next
 module _ {T : Type 0} (c d : Chain T) (put : Entry T → List (Entry T)) (item : T) (i g j h : ℕ) (next : next_index c ≡ Some j)
@@ -142,13 +165,13 @@ err-and r has step = grind (arith, common_steps)
 module _ {T K : Type 0} (key : T → K) (cmp : K → K → Ordering) (most : ℕ) (aim : Aim K) (old : Tree T) (gap : Gap old.list.entries)
     (at : IsPlace key cmp aim (into gap)) where
   gap-refused : (growth : Growth) (e : OrdInsertionError) → LacksSlot growth most old.list e → IsRefused key cmp most growth aim old e
-  gap-refused within NotWithinCapacity lacks = (gap, at, lacks)
-  gap-refused reallocating BeyondMaxCapacity lacks = (gap, at, lacks)
-  gap-refused reallocating AllocError lacks = (gap, at, lacks)
+  gap-refused Within NotWithinCapacity lacks = (gap, at, lacks)
+  gap-refused Reallocating BeyondMaxCapacity lacks = (gap, at, lacks)
+  gap-refused Reallocating AllocError lacks = (gap, at, lacks)
   gap-refused growth e lacks = absurd lacks
 
 module _ {P T K I G : Type 0} (numbers : P → ℕ × ℕ) (key : T → K) (cmp : K → K → Ordering) (number : I → ℕ) (growth : Growth) (most : ℕ)
-    (old : Tree T) (kind : OrdInsertKind P K I G) (c : ℕ) (at : Option (P × Ordering))
+    (old : Tree T) (kind : OrdInsertKind P K I G) (c : ℕ) (at : Option (P × Side))
     (found : IsPlaceFor numbers key cmp old number kind (New at) c)
     (e : OrdInsertionError) (lacks : LacksSlot growth most old.list e) where
   pub new-refused : IsRefused key cmp most growth (aim_of number kind) old e
@@ -162,6 +185,12 @@ module _ {P T K I G : Type 0} (numbers : P → ℕ × ℕ) (key : T → K) (cmp 
 -- no slot is vacant if there is no next index
 pub full : {T : Type 0} (most : ℕ) (greatest : Option ℕ) (c : Chain T) → IsSound most greatest c → next_index c ≡ None → length c.entries ≡ c.capacity
 full most greatest c sound none = grind (arith, common_steps, slice_get_cases c.vacant 0, sound.counted)
+
+-- a pointer that is wanted and isn't there shows that no slot is vacant
+module _ {P T : Type 0} (most : ℕ) (c : Chain T) where
+  pub lacks-within : (p : Option P) (r : Result P OrdInsertionError) → r ≡ ok_or p NotWithinCapacity → (p ≡ None → length c.entries ≡ c.capacity) → IfErr r (LacksSlot Within most c)
+  lacks-within None r is none = rw is (none refl)
+  lacks-within (Some p) r is none = rw is tt
 
 -- an insertion beside the entry with an index
 module _ {T : Type 0} (most : ℕ) (old new : Tree T) (distinct : IsDistinct old.list.entries) (item : T) (i : ℕ) where
@@ -182,19 +211,19 @@ module _ {T : Type 0} (most : ℕ) (old new : Tree T) (distinct : IsDistinct old
         counted = rw after (count-written old i item);
       }
 
-  module _ (o : Ordering) (other : o ≢ Equal) (occupied : IsSome (entry_at old.list.entries i)) where
-    side : OnSide (λ (item : T). tt {0}) (λ k l. Equal) old.list.entries distinct i occupied o
-    side = on-side (λ (item : T). tt {0}) (λ k l. Equal) old.list.entries distinct i occupied o other
+  module _ (side : Side) (occupied : IsSome (entry_at old.list.entries i)) where
+    on : OnSide (λ (item : T). tt {0}) (λ k l. Equal) old.list.entries distinct i occupied side
+    on = on-side (λ (item : T). tt {0}) (λ k l. Equal) old.list.entries distinct i occupied side
 
-    pub beside-inserted : (p : ℕ × ℕ) → IsInsertion (with_room_by reallocating most old.list) new.list (put_on o i old.list.entries) item p.0 p.1
-        → IsGrown old.shape new.shape → IsBesideDone o None
+    pub beside-inserted : (p : ℕ × ℕ) → IsInsertion (with_room_by Reallocating most old.list) new.list (put_on side i old.list.entries) item p.0 p.1
+        → IsGrown old.shape new.shape → IsBesideDone (order_on side) None
     beside-inserted p inserted grown =
-        let there = IsInsertion-same _ _ _ _ item _ _ side.puts inserted in
-        let done = inserted-new old new (with_room_by reallocating most old.list) (entries-with_room_by reallocating most old.list) side.gap item p there in
-        record { inserts = (p, record { gap = side.gap; place = side.at; inserted = there; grown = grown }); updates = (p, done.1); counted = done.2 }
+        let there = IsInsertion-same _ _ _ _ item _ _ on.puts inserted in
+        let done = inserted-new old new (with_room_by Reallocating most old.list) (entries-with_room_by Reallocating most old.list) on.gap item p there in
+        record { inserts = (p, record { gap = on.gap; place = on.at; inserted = there; grown = grown }); updates = (p, done.1); counted = done.2 }
 
-    module _ (f : OrdInsertionError) (lacks : LacksSlot reallocating most old.list f) (same : new ≡ old) where
-      pub beside-refused : (r : Result (Option T) OrdInsertionError) → IsErrAnd r (λ e. e ≡ f) → InsertsBeside most i o old item r new
+    module _ (f : OrdInsertionError) (lacks : LacksSlot Reallocating most old.list f) (same : new ≡ old) where
+      pub beside-refused : (r : Result (Option T) OrdInsertionError) → IsErrAnd r (λ e. e ≡ f) → InsertsBeside most i (order_on side) old item r new
       beside-refused (Ok x) none = absurd none
       beside-refused (Err e) is =
-          record { refused = gap-refused (λ item. tt {0}) (λ k l. Equal) most (beside i o) old side.gap side.at reallocating e (rw is lacks); after = same }
+          record { refused = gap-refused (λ item. tt {0}) (λ k l. Equal) most (beside i (order_on side)) old on.gap on.at Reallocating e (rw is lacks); after = same }

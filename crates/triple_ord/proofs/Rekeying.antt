@@ -1,9 +1,8 @@
 -- An entry that gets another item and moves to a gap of its list.
-use Rattle.std.specs.Ordering.{is_lt}
 use Rattle.triple_ord.proofs.Words.{true, false, ◌≡◌, ◌≢◌, ℕ, ◌+◌, ◌≤◌, List, [], ◌∷◌, ◌++◌, Option, Some, None, IfSome, IsSome, length, refl, sym, ap, subst, ◌∙◌, arith, common_steps, eqb_tells, inl, inr, ◌⊎◌, append_assoc, option_map, IfSome_then}
 use Rattle.triple_ord.proofs.Words.{Entry, Chain, times, IsDistinct, entry_at, times-append, with_item_among, entry_at-with_item_among, entry_at-with_item_among_other, entry_at-without_other, length-without}
 use Rattle.triple_ord.proofs.Words.{Link, link_at, entry_at-link, insert_before, insert_after}
-use Rattle.triple_ord.proofs.Words.{Gap, first_of, last_of, before, after, Ordering, Less, Equal, Greater, Tree, with_item, put_on, cases_eq, item_of, item_if, count, Updates, entry_at-between, entry_at-between_other, length-between}
+use Rattle.triple_ord.proofs.Words.{Gap, first_of, last_of, before, after, Ordering, Less, Equal, Greater, Side, Lesser, OnGreater, Tree, with_item, put_on, cases_eq, item_of, item_if, count, Updates, entry_at-between, entry_at-between_other, length-between}
 use Rattle.triple_ord.proofs.CallerLemmas.{item_if-found}
 use Rattle.triple_ord.specs.{Rekey.RekeysCounted, Arena.FindSame}
 use Rattle.ord_tree.specs.{Move.IsRearranged, Tree.CanPutAt}
@@ -12,9 +11,30 @@ use Rattle.triple_ord.proofs.Inserting.{StandsAt, stands, IsLinked, link-read, n
 use Rattle.triple_ord.proofs.Stepping.{read_index}
 use Rattle.triple_ord.proofs.Without.{without-absent, without-append, without-last, without-first, first-kept, last-kept, without-written, times-without}
 use Rattle.triple_ord.specs.Around.{EndsAround, FindsAround}
+use Rattle.triple_ord.specs.Prepared.{order_on, beside_by}
 use Rattle.ord_tree.specs.{Chain.without, ChainMove.with_entry_moved, ChainMove.list_with, ChainMove.without_entry}
 
+-- a side, by the order that names it
+side-greater : (side : Side) → order_on side ≡ Greater → side ≡ OnGreater
+side-greater Lesser is = absurd cc
+side-greater OnGreater is = refl
+
+side-lesser : (side : Side) → order_on side ≡ Less → side ≡ Lesser
+side-lesser Lesser is = refl
+side-lesser OnGreater is = absurd cc
+
 module _ {T K : Type 0} (key : T → K) (cmp : K → K → Ordering) (es : List (Entry T)) (k : K) (c : ℕ) where
+  -- a search that ends on a side of an entry, named by an order or as a side
+  pub around-sided : {P : Type 0} (numbers : P → ℕ × ℕ) (i : ℕ) (found : Option (P × Ordering)) → FindsAround key cmp es i k (option_map (λ (a : P × Ordering). (numbers a.0, a.1)) found) c
+      → FindsAround key cmp es i k (option_map (λ (a : P × Side). (numbers a.0, order_on a.1)) (beside_by found)) c
+  around-sided numbers i None found = found
+  around-sided numbers i (Some (p, Less)) found = found
+  around-sided numbers i (Some (p, Equal)) found = absurd (elim found.2.beside [
+    | inl low ↦ absurd (let more = low.1 in cc)
+    | inr high ↦ absurd (let less = high.1 in cc)
+  ])
+  around-sided numbers i (Some (p, Greater)) found = found
+
   module _ (distinct : IsDistinct es) (p : ℕ × ℕ) (was : T) (there : entry_at es p.0 ≡ Some (p.1, was)) (item : T) (e : Entry T) (o : Ordering) (m : EndsAround key cmp es p.0 k c e o) where
     abbrev i : ℕ
     i = p.0
@@ -42,19 +62,19 @@ module _ {T K : Type 0} (key : T → K) (cmp : K → K → Ordering) (es : List 
     }
 
     -- beside another entry
-    put-left : e.index ≢ i → put_on o e.index (without i es) entry ≡ put_there
-    put-left other =
+    put-left : (side : Side) → o ≡ order_on side → e.index ≢ i → put_on side e.index (without i es) entry ≡ put_there
+    put-left side on other =
         let distinct2 : IsDistinct (without i es) = λ j. omega (arith, distinct j, times-without i j es) in
         elim m.beside [
-          | inl low ↦ rw low.1 (puts-after (without i es) e distinct2 gap_left (last-kept i m.gap.front e other low.0) entry)
-          | inr high ↦ rw high.1 (puts-before (without i es) e distinct2 gap_left (first-kept i m.gap.back e other high.0) entry)
+          | inl low ↦ rw (side-greater side (sym on ∙ low.1)) (puts-after (without i es) e distinct2 gap_left (last-kept i m.gap.front e other low.0) entry)
+          | inr high ↦ rw (side-lesser side (sym on ∙ high.1)) (puts-before (without i es) e distinct2 gap_left (first-kept i m.gap.back e other high.0) entry)
         ]
 
-    pub listed-moved : e.index ≢ i → list_with (put_on o e.index) i (entry_at (with_item_among es i item) i) (without i (with_item_among es i item)) ≡ put_there
-    listed-moved other =
-        ap (λ (x : Option (ℕ × T)). list_with (put_on o e.index) i x (without i (with_item_among es i item)))
+    pub listed-moved : (side : Side) → o ≡ order_on side → e.index ≢ i → list_with (put_on side e.index) i (entry_at (with_item_among es i item) i) (without i (with_item_among es i item)) ≡ put_there
+    listed-moved side on other =
+        ap (λ (x : Option (ℕ × T)). list_with (put_on side e.index) i x (without i (with_item_among es i item)))
         (entry_at-with_item_among es i item ∙ ap (option_map (λ (x : ℕ × T). (x.0, item))) there)
-        ∙ ap (λ (es : List (Entry T)). put_on o e.index es entry) (without-written i es item) ∙ put-left other
+        ∙ ap (λ (es : List (Entry T)). put_on side e.index es entry) (without-written i es item) ∙ put-left side on other
 
     -- or at its old position
     pub listed-left : e.index ≡ i → with_item_among es i item ≡ put_there
@@ -139,25 +159,12 @@ module _ {T K : Type 0} (key : T → K) (cmp : K → K → Ordering) (old new : 
           found_here key cmp old.list.entries (key item) c distinct p has.0 has.1 item e o ended,
         ) refl
 
-    pub unequal : o ≢ Equal
-    unequal is = elim ended.beside [
-      | inl low ↦ absurd (let more = low.1 in cc)
-      | inr high ↦ absurd (let less = high.1 in cc)
-    ]
-
-    pub rekeyed_moved : new.list ≡ with_entry_moved (with_item old p.0 item).list p.0 (put_on o q.0) → ((new.shape ≡ old.shape) ⊎ IsRearranged old.shape new.shape) → RekeysCounted key cmp old p item c new
-    rekeyed_moved after shape =
+    pub rekeyed_moved : (side : Side) → o ≡ order_on side → new.list ≡ with_entry_moved (with_item old p.0 item).list p.0 (put_on side q.0) → ((new.shape ≡ old.shape) ⊎ IsRearranged old.shape new.shape) → RekeysCounted key cmp old p item c new
+    rekeyed_moved side on after shape =
         rekeyed
-        (after ∙ ap (λ (n : ℕ). with_entry_moved (with_item old p.0 item).list p.0 (put_on o n)) (sym index_is)
-        ∙ ap (λ es. record old.list { entries = es }) (listed-moved key cmp old.list.entries (key item) c distinct p has.0 has.1 item e o ended index_other))
+        (after ∙ ap (λ (n : ℕ). with_entry_moved (with_item old p.0 item).list p.0 (put_on side n)) (sym index_is)
+        ∙ ap (λ es. record old.list { entries = es }) (listed-moved key cmp old.list.entries (key item) c distinct p has.0 has.1 item e o ended side on index_other))
         shape
-
--- a side that isn't Equal
-pub less_by : (o : Ordering) → is_lt o ≡ true → o ≡ Less
-less_by o test = grind (arith, common_steps)
-
-pub greater_by : (o : Ordering) → is_lt o ≡ false → o ≢ Equal → o ≡ Greater
-greater_by o test unequal = grind (arith, common_steps)
 
 -- an entry that is already directly on a side of another
 module _ {T : Type 0} (c : Chain T) (distinct : IsDistinct c.entries) (i q g : ℕ) (l : Link T) (there : link_at c.entries q ≡ Some (g, l)) (apart : q ≢ i) where
@@ -178,24 +185,24 @@ module _ {T : Type 0} (c : Chain T) (distinct : IsDistinct c.entries) (i q g : �
         ap (without i) cut ∙ without-append i front (f ∷ back) (subst (λ es. times i es ≤ 1) cut (distinct i))
         ∙ ap (λ xs. xs ++ without i (f ∷ back)) (without-absent i front (omega (arith, alone, counted))) ∙ ap (λ xs. front ++ xs) (without-first i f back here)
 
-    put_again : (o : Ordering) → list_with (put_on o q) i (entry_at c.entries i) (without i c.entries) ≡ put_on o q (front ++ back) f
-    put_again o =
-        ap (λ (x : Option (ℕ × T)). list_with (put_on o q) i x (without i c.entries)) (ap (entry_at c.entries) (sym here) ∙ entry_at-here c.entries distinct front f back cut)
-        ∙ ap (λ n. put_on o q (without i c.entries) (record { index = n; generation = f.generation; item = f.item })) (sym here)
-        ∙ ap (λ es. put_on o q es f) rest_is
+    put_again : (side : Side) → list_with (put_on side q) i (entry_at c.entries i) (without i c.entries) ≡ put_on side q (front ++ back) f
+    put_again side =
+        ap (λ (x : Option (ℕ × T)). list_with (put_on side q) i x (without i c.entries)) (ap (entry_at c.entries) (sym here) ∙ entry_at-here c.entries distinct front f back cut)
+        ∙ ap (λ n. put_on side q (without i c.entries) (record { index = n; generation = f.generation; item = f.item })) (sym here)
+        ∙ ap (λ es. put_on side q es f) rest_is
 
     rest_distinct : IsDistinct (front ++ back)
     rest_distinct j = subst (λ es. times j es ≤ 1) rest_is (omega (arith, distinct j, times-without i j c.entries))
 
-  pub stays_before : l.prev ≡ Some i → c ≡ with_entry_moved c i (put_on Less q)
+  pub stays_before : l.prev ≡ Some i → c ≡ with_entry_moved c i (put_on Lesser q)
   stays_before named =
       let n = read_index (last_of None at.front) i (linked.prev ∙ named) in
       let end = ends at.front n.0 n.1 in
       let cut : c.entries ≡ end.0 ++ n.0 ∷ (at.entry ∷ at.back) = at.cut ∙ ap (λ xs. xs ++ at.entry ∷ at.back) end.1 ∙ simp append_assoc in
       let put = insert_before-here (end.0 ++ at.entry ∷ at.back) (rest_distinct end.0 (at.entry ∷ at.back) n.0 n.2 cut) end.0 at.entry at.back refl n.0 in
-      ap (λ es. record c { entries = es }) (cut ∙ sym put ∙ ap (λ k. insert_before k n.0 (end.0 ++ at.entry ∷ at.back)) at.here ∙ sym (put_again end.0 (at.entry ∷ at.back) n.0 n.2 cut Less))
+      ap (λ es. record c { entries = es }) (cut ∙ sym put ∙ ap (λ k. insert_before k n.0 (end.0 ++ at.entry ∷ at.back)) at.here ∙ sym (put_again end.0 (at.entry ∷ at.back) n.0 n.2 cut Lesser))
 
-  pub stays_after : l.next ≡ Some i → c ≡ with_entry_moved c i (put_on Greater q)
+  pub stays_after : l.next ≡ Some i → c ≡ with_entry_moved c i (put_on OnGreater q)
   stays_after named =
       let n = read_index (first_of at.back) i (linked.next ∙ named) in
       let begin = begins at.back n.0 n.1 in
@@ -203,7 +210,7 @@ module _ {T : Type 0} (c : Chain T) (distinct : IsDistinct c.entries) (i q g : �
       let whole : (at.front ++ at.entry ∷ []) ++ begin.0 ≡ at.front ++ at.entry ∷ begin.0 = simp append_assoc refl in
       let put = insert_after-here ((at.front ++ at.entry ∷ []) ++ begin.0) (rest_distinct (at.front ++ at.entry ∷ []) begin.0 n.0 n.2 cut) at.front at.entry begin.0 whole n.0 in
       ap (λ es. record c { entries = es }) (at.cut ∙ ap (λ xs. at.front ++ at.entry ∷ xs) begin.1 ∙ sym put ∙ ap (λ k. insert_after k n.0 ((at.front ++ at.entry ∷ []) ++ begin.0)) at.here
-      ∙ sym (put_again (at.front ++ at.entry ∷ []) begin.0 n.0 n.2 cut Greater))
+      ∙ sym (put_again (at.front ++ at.entry ∷ []) begin.0 n.0 n.2 cut OnGreater))
 
 -- two pointers are equal or differ
 cases_pair : (q p : ℕ × ℕ) → (q ≡ p) ⊎ (q ≢ p)
@@ -249,29 +256,29 @@ module _ {T : Type 0} where
 -- from what the steps of a call ensure: the search, the write of the item and the move
 module _ {P T K : Type 0} (numbers : P → ℕ × ℕ) (key : T → K) (cmp : K → K → Ordering) (old mid new : Tree T) (distinct : IsDistinct old.list.entries) (p : ℕ × ℕ) (item : T)
     (named : IsSome (item_of old p)) (c : ℕ) (written : mid ≡ with_item old p.0 item) where
-  abbrev Answers : Option (P × Ordering) → Type 0
-  Answers at = FindsAround key cmp old.list.entries p.0 (key item) (option_map (λ (a : P × Ordering). (numbers a.0, a.1)) at) c
+  abbrev Answers : Option (P × Side) → Type 0
+  Answers at = FindsAround key cmp old.list.entries p.0 (key item) (option_map (λ (a : P × Side). (numbers a.0, order_on a.1)) at) c
 
   pub can_stay : IsSome (entry_at mid.list.entries p.0)
   can_stay =
       let was = item_if-found p.1 (entry_at old.list.entries p.0) named in
       rw (written, entry_at-with_item_among old.list.entries p.0 item, was.1) refl
 
-  pub can_go : (at : Option (P × Ordering)) → Answers at → IfSome at (λ a. (numbers a.0).0 ≢ p.0 → CanPutAt (λ q. (numbers q).0) (Some a) (without_entry mid.list p.0))
+  pub can_go : (at : Option (P × Side)) → Answers at → IfSome at (λ a. (numbers a.0).0 ≢ p.0 → CanPutAt (λ q. (numbers q).0) (Some a) (without_entry mid.list p.0))
   can_go None found = tt
   can_go (Some a) found = λ other.
       let apart : p.0 ≢ (numbers a.0).0 = λ same. other (sym same) in
-      (rw written (occupied_there key cmp old new distinct p item named (numbers a.0) a.1 c found apart), unequal key cmp old new distinct p item named (numbers a.0) a.1 c found apart)
+      rw written (occupied_there key cmp old new distinct p item named (numbers a.0) (order_on a.1) c found apart)
 
-  pub rekeyed_by : (at : Option (P × Ordering)) → Answers at → IfSome at (λ a. (numbers a.0).0 ≡ p.0 → new ≡ mid)
+  pub rekeyed_by : (at : Option (P × Side)) → Answers at → IfSome at (λ a. (numbers a.0).0 ≡ p.0 → new ≡ mid)
       → IfSome at (λ a. (numbers a.0).0 ≢ p.0 → new.list ≡ with_entry_moved mid.list p.0 (put_on a.1 (numbers a.0).0))
       → IfSome at (λ a. (numbers a.0).0 ≢ p.0 → (new.shape ≡ mid.shape) ⊎ IsRearranged mid.shape new.shape) → RekeysCounted key cmp old p item c new
   rekeyed_by None found stays list shape =
       absurd (let was = (item_if-found p.1 (entry_at old.list.entries p.0) named).1 in let none = ap (λ es. entry_at es p.0) found in cc)
   rekeyed_by (Some a) found stays list shape = elim (cases_eq (numbers a.0).0 p.0) [
-    | inl same ↦ rekeyed_left key cmp old new distinct p item named (numbers a.0) a.1 c found (sym same) (stays same ∙ written)
+    | inl same ↦ rekeyed_left key cmp old new distinct p item named (numbers a.0) (order_on a.1) c found (sym same) (stays same ∙ written)
     | inr other ↦
         let apart : p.0 ≢ (numbers a.0).0 = λ same. other (sym same) in
-        rekeyed_moved key cmp old new distinct p item named (numbers a.0) a.1 c found apart
+        rekeyed_moved key cmp old new distinct p item named (numbers a.0) (order_on a.1) c found apart a.1 refl
         (list other ∙ ap (λ (t : Tree T). with_entry_moved t.list p.0 (put_on a.1 (numbers a.0).0)) written) (rw written at (shape other))
   ]

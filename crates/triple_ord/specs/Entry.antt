@@ -3,7 +3,7 @@ use Rattle.std.specs.{Prelude.◌≡◌, Prelude.ℕ, Prelude.List, Prelude.Opti
 use Rattle.ord_tree.specs.{Chain.Entry, Chain.next_index, Insert.IsInsertion}
 use Rattle.ord_tree.specs.Tree.{Tree, IsGrown, with_item}
 use Rattle.triple_ord.specs.{declared.entry_kind.OrdEntryKind.OrdEntryKind, declared.entry_kind.OrdEntryKind.TheVariants.New, declared.entry_kind.OrdEntryKind.TheVariants.Replacing, declared.insert_kind.OrdInsertKind.OrdInsertKind}
-use Rattle.triple_ord.specs.{Place.Place, Place.into, Place.over, Place.IsPlace, Place.aim_of, Insertion.Growth, Insertion.with_room_by, Gap.Gap, Gap.with_between, EntryVisits.VisitsFor, Search.pointer, Arena.item_of}
+use Rattle.triple_ord.specs.{Place.Place, Place.into, Place.over, Place.IsPlace, Place.aim_of, declared.growth.Growth.Growth, Insertion.with_room_by, Gap.Gap, Gap.with_between, EntryVisits.VisitsFor, Search.pointer, Arena.item_of}
 
 module _ {P T : Type 0} (numbers : P → ℕ × ℕ) where
   -- The item went into the arena as the entry showed: as a new entry under its pointer, at the place where `put` inserts it, or in place

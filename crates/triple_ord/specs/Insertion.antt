@@ -3,26 +3,22 @@ use Rattle.std.specs.{Prelude.◌≡◌, Prelude.◌≢◌, Prelude.ℕ, Prelude
 use Rattle.ord_tree.specs.{Chain.Entry, Chain.Chain, Chain.chain_limit, Chain.with_room, Insert.IsInsertion}
 use Rattle.ord_tree.specs.Tree.{Tree, IsGrown, with_item}
 use Rattle.triple_ord.specs.declared.error.OrdInsertionError.TheVariants.{FailedOrdRequirement, NotWithinCapacity, BeyondMaxCapacity, AllocError}
+use Rattle.triple_ord.specs.{declared.growth.Growth.Growth, declared.growth.Growth.TheVariants.Within, declared.growth.Growth.TheVariants.Reallocating}
 use Rattle.triple_ord.specs.{declared.entry_kind.OrdEntryKind.OrdEntryKind, declared.entry_kind.OrdEntryKind.TheVariants.New, declared.entry_kind.OrdEntryKind.TheVariants.Replacing, declared.error.OrdInsertionError.OrdInsertionError}
 use Rattle.triple_ord.specs.{Place.Aim, Place.at_key, Place.beside, Place.into, Place.over, Place.nowhere, Place.IsPlace, Gap.Gap, Gap.with_between, Search.pointer}
-
--- whether an insertion stays within the capacity, or grows if no slot is vacant
-pub data Growth : Type 0 where
-  within : Growth
-  reallocating : Growth
 
 module _ {T : Type 0} where
   -- the list before an insertion that needs a slot: grown, if that is allowed and no slot is vacant
   abbrev pub with_room_by : Growth → ℕ → Chain T → Chain T
-  with_room_by within most c = c
-  with_room_by reallocating most c = with_room most c
+  with_room_by Within most c = c
+  with_room_by Reallocating most c = with_room most c
 
   -- There is no slot: none is vacant within the capacity, or the length is at the limit, or a growth that is needed and allowed fails for
   -- lack of memory.
   abbrev pub LacksSlot : Growth → ℕ → Chain T → OrdInsertionError → Type 0
-  LacksSlot within most c NotWithinCapacity = length c.entries ≡ c.capacity
-  LacksSlot reallocating most c BeyondMaxCapacity = length c.entries ≡ chain_limit most c
-  LacksSlot reallocating most c AllocError = (length c.entries ≢ chain_limit most c) × (length c.entries ≡ c.capacity)
+  LacksSlot Within most c NotWithinCapacity = length c.entries ≡ c.capacity
+  LacksSlot Reallocating most c BeyondMaxCapacity = length c.entries ≡ chain_limit most c
+  LacksSlot Reallocating most c AllocError = (length c.entries ≢ chain_limit most c) × (length c.entries ≡ c.capacity)
   LacksSlot growth most c refusal = ⊥
 
 -- The parameters: the key of an item, the order of keys, the greatest index of an entry, how the insertion gets its slot, and what it
@@ -70,10 +66,10 @@ told (Err refusal) = Err refusal
 module _ {T K : Type 0} (key : T → K) (cmp : K → K → Ordering) (most : ℕ) where
   -- an insertion by the item's key that may grow, and one that stays within the capacity
   abbrev pub Inserts : {P : Type 0} → (P → ℕ × ℕ) → Tree T → T → Result (P × Option T) OrdInsertionError → Tree T → Type 0
-  Inserts numbers old item answer new = InsertsBy key cmp most reallocating (at_key (key item)) numbers old item (told answer) new
+  Inserts numbers old item answer new = InsertsBy key cmp most Reallocating (at_key (key item)) numbers old item (told answer) new
 
   abbrev pub InsertsWithin : {P : Type 0} → (P → ℕ × ℕ) → Tree T → T → Result (P × Option T) OrdInsertionError → Tree T → Type 0
-  InsertsWithin numbers old item answer new = InsertsBy key cmp most within (at_key (key item)) numbers old item (told answer) new
+  InsertsWithin numbers old item answer new = InsertsBy key cmp most Within (at_key (key item)) numbers old item (told answer) new
 
 -- an item without a key, for an insertion that compares none
 abbrev keyless : {T : Type 0} → T → Unit {0}
@@ -86,7 +82,7 @@ alike k l = Equal
 -- compared.
 module _ {T : Type 0} (most : ℕ) (i : ℕ) (order : Ordering) where
   abbrev pub InsertsBeside : Tree T → T → Result (Option T) OrdInsertionError → Tree T → Type 0
-  InsertsBeside old item (Ok None) new = (p : ℕ × ℕ) × InsertsNew keyless alike most reallocating (beside i order) old item p new
+  InsertsBeside old item (Ok None) new = (p : ℕ × ℕ) × InsertsNew keyless alike most Reallocating (beside i order) old item p new
   InsertsBeside old item (Ok (Some before)) new =
-      (p : ℕ × ℕ) × Replaces keyless alike most reallocating (beside i order) old item p before new
-  InsertsBeside old item (Err refusal) new = Refuses keyless alike most reallocating (beside i order) old refusal new
+      (p : ℕ × ℕ) × Replaces keyless alike most Reallocating (beside i order) old item p before new
+  InsertsBeside old item (Err refusal) new = Refuses keyless alike most Reallocating (beside i order) old refusal new

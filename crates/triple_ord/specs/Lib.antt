@@ -1,5 +1,6 @@
 -- What public clauses cite.
 pub mod Arena
+pub mod PlainPointer
 pub mod Search
 pub mod Gap
 pub mod VisitBounds

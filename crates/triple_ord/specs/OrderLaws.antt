@@ -3,7 +3,7 @@ use Rattle.std.specs.{Prelude.◌≡◌, Prelude.◌≢◌, Prelude.◌↔◌, P
 use Rattle.std.specs.declared.cmp.Ordering.{Ordering, TheVariants.Less, TheVariants.Equal, TheVariants.Greater}
 use Rattle.ord_tree.specs.Chain.{Entry, IsDistinct}
 use Rattle.ord_tree.specs.{Half.IsRebuilt, Shape.Shape, Shape.missing, Shape.node, Shape.size_of, Tree.Tree}
-use Rattle.triple_ord.specs.{declared.entry_kind.OrdEntryKind.OrdEntryKind, declared.error.OrdInsertionError.OrdInsertionError, Search.pointer, Search.order_to, Search.FindsKey, Search.FindsSimilar, Insertion.Growth, Insertion.InsertsBy}
+use Rattle.triple_ord.specs.{declared.entry_kind.OrdEntryKind.OrdEntryKind, declared.error.OrdInsertionError.OrdInsertionError, Search.pointer, Search.order_to, Search.FindsKey, Search.FindsSimilar, declared.growth.Growth.Growth, Insertion.InsertsBy}
 use Rattle.triple_ord.specs.{ClosureSearch.Shown, ClosureSearch.FindsWith, Place.Aim, Place.at_key, Place.behind_key, Gap.Gap, Gap.before, Gap.after, Order.IsInOrder}
 
 module _ {T K : Type 0} (key : T → K) (cmp : K → K → Ordering) where

@@ -1,6 +1,7 @@
 -- The place of an insertion as the arena stores it: beside an entry, or the pointer of an entry. No public clause cites this file.
-use Rattle.std.specs.Prelude.{◌≡◌, ◌≢◌, ℕ, Option, Some, None, IsSome, length}
-use Rattle.std.{proofs.Props.props, specs.declared.cmp.Ordering.Ordering, specs.declared.cmp.Ordering.TheVariants.Equal}
+use Rattle.std.specs.Prelude.{◌≡◌, ℕ, Option, Some, None, IsSome, length, option_map}
+use Rattle.std.{proofs.Props.props, specs.declared.cmp.Ordering.Ordering, specs.declared.cmp.Ordering.TheVariants.Less, specs.declared.cmp.Ordering.TheVariants.Equal, specs.declared.cmp.Ordering.TheVariants.Greater}
+use Rattle.ord_tree.specs.{declared.tree_links.Side.Side, declared.tree_links.Side.TheVariants.Lesser as OnLesser, declared.tree_links.Side.TheVariants.Greater as OnGreater}
 use Rattle.ord_tree.specs.Chain.{Entry, Chain, entry_at, next_index}
 use Rattle.ord_tree.specs.Tree.{Tree, put_at}
 use Rattle.triple_ord.specs.declared.insert_kind.OrdInsertKind.TheVariants.{Normal, Nonhereditary, Linear, NonhereditaryLinear}
@@ -13,8 +14,30 @@ use Rattle.triple_ord.specs.declared.entry_kind.OrdEntryKind.TheVariants as show
 abbrev pub index_in : {P : Type 0} → (P → ℕ × ℕ) → P → ℕ
 index_in numbers p = (numbers p).0
 
+-- the order to an entry of what stands on that side of it
+abbrev pub order_on : Side → Ordering
+order_on OnLesser = Less
+order_on OnGreater = Greater
+
+-- the side of an entry on which something of this order to it stands; none for `Equal`
+abbrev pub side_by : Ordering → Option Side
+side_by Less = Some OnLesser
+side_by Equal = None
+side_by Greater = Some OnGreater
+
+-- the place of this order to the entry of a pointer: beside it, or that of its item
+abbrev pub place_at : {P : Type 0} → P × Ordering → InsertPlace P
+place_at (p, Less) = New (Some (p, OnLesser))
+place_at (p, Equal) = Replacing p
+place_at (p, Greater) = New (Some (p, OnGreater))
+
+-- the entry beside which a search ended, and the side
+abbrev pub beside_by : {P : Type 0} → Option (P × Ordering) → Option (P × Side)
+beside_by None = None
+beside_by (Some a) = option_map (λ side. (a.0, side)) (side_by a.1)
+
 -- a place beside an entry, with the number of the entry's name
-abbrev pub by_number : {I : Type 0} → (I → ℕ) → Option (I × Ordering) → Option (ℕ × Ordering)
+abbrev pub by_number : {I : Type 0} → (I → ℕ) → Option (I × Side) → Option (ℕ × Side)
 by_number number None = None
 by_number number (Some a) = Some (number a.0, a.1)
 
@@ -29,9 +52,9 @@ kind_near Passed i num k = NonhereditaryLinear i num k
 
 module _ {P T : Type 0} (numbers : P → ℕ × ℕ) where
   -- there is a place for a new entry: as the only one, or on a side of the entry with the pointer's index
-  abbrev pub HasRoomAt : Option (P × Ordering) → Chain T → Type 0
+  abbrev pub HasRoomAt : Option (P × Side) → Chain T → Type 0
   HasRoomAt None c = length c.entries ≡ 0
-  HasRoomAt (Some at) c = IsSome (entry_at c.entries (index_in numbers at.0)) × (at.1 ≢ Equal)
+  HasRoomAt (Some at) c = IsSome (entry_at c.entries (index_in numbers at.0))
 
   -- the arena stores the place in this form
   abbrev pub Keeps : (t : Tree T) → InsertPlace P → Place t.list.entries → Type 0
@@ -60,15 +83,15 @@ module _ {P T : Type 0} (numbers : P → ℕ × ℕ) where
       pub visits : VisitsFor key cmp number kind t place c
 
   -- an item can go there without memory: beside an entry, under the next pointer, or in place of the item that the pointer finds
-  abbrev pub IsReady : OrdEntryKind P → Option (P × Ordering) → Tree T → Type 0
+  abbrev pub IsReady : OrdEntryKind P → Option (P × Side) → Tree T → Type 0
   IsReady (shown.New p) at t = HasRoomAt at t.list × (next_index t.list ≡ Some (numbers p).0) × ((numbers p).1 ≡ t.list.generation)
   IsReady (shown.Replacing p) at t = IsSome (item_of t (numbers p))
 
   -- each of these is a proposition
-  pub HasRoomAt-prop : (at : Option (P × Ordering)) (c : Chain T) → IsProp (HasRoomAt at c)
+  pub HasRoomAt-prop : (at : Option (P × Side)) (c : Chain T) → IsProp (HasRoomAt at c)
   HasRoomAt-prop None c = hlevel props
   HasRoomAt-prop (Some at) c = hlevel props
 
-  pub IsReady-prop : (kind : OrdEntryKind P) (at : Option (P × Ordering)) (t : Tree T) → IsProp (IsReady kind at t)
+  pub IsReady-prop : (kind : OrdEntryKind P) (at : Option (P × Side)) (t : Tree T) → IsProp (IsReady kind at t)
   IsReady-prop (shown.New p) at t = hlevel (props, HasRoomAt-prop)
   IsReady-prop (shown.Replacing p) at t = hlevel props

@@ -6,6 +6,7 @@ mod around;
 mod descent;
 mod entry_kind;
 mod error;
+mod growth;
 mod insert_kind;
 mod item;
 pub mod laws;

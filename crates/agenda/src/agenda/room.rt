@@ -2,7 +2,7 @@
 
 ghost use Rattle.std.specs.Prelude.{◌≡◌, ◌↔◌, ◌+◌, ◌<◌, [], Err, IfOk, IsOk, OnOk, OnErr};
 ghost use Rattle.triple_ord.specs.PlainArena.{capacity_for};
-ghost use Rattle.agenda.specs.Agenda.{most_jobs, count, with_left, HasRoomFor};
+ghost use Rattle.agenda.specs.Agenda.{most_entries, count, with_left, HasRoomFor};
 ghost use Rattle.agenda.specs.Tickets.{IsStep};
 
 use super::Agenda;
@@ -23,10 +23,10 @@ impl<J, A: Allocator> Agenda<J, A> {
         ensures jobs { self.new.jobs ≡ self.old.jobs }
         ensures generation { self.new.generation ≡ self.old.generation }
         ensures capacity { OnOk result
-            (self.new.capacity ≡ capacity_for most_jobs self.old.capacity (count self.old + additional)) }
+            (self.new.capacity ≡ capacity_for most_entries self.old.capacity (count self.old + additional)) }
         ensures room { OnOk result (HasRoomFor additional self.new) }
         ensures full { (result ≡ Err ReallocationError.BeyondMaxCapacity)
-            ↔ (most_jobs < count self.old + additional) }
+            ↔ (most_entries < count self.old + additional) }
         ensures memory { result ≡ Err ReallocationError.AllocError
             → self.old.capacity < count self.old + additional }
         ensures err { OnErr result (self.new ≡ self.old) }

@@ -3,8 +3,8 @@ use super::support::{
     Keys, Place, index_of, moved, place_around, places, potential, rank_changes, steps, toggle,
 };
 use arena_base::ItemsMut;
+use ord_tree::Side;
 use std::alloc::Global;
-use std::cmp::Ordering;
 
 /// Returns whether no node has both children two below it.
 fn is_tight(places: &[Place]) -> bool {
@@ -70,9 +70,9 @@ fn other_of(key: u8) -> u8 {
 }
 
 /// Moves an entry beside another, and gives it a key. Returns whether the tree has both entries.
-fn move_beside(tree: &mut Keys, index: u32, at: (u32, Ordering), key: u8) -> bool {
+fn move_beside(tree: &mut Keys, index: u32, at: (u32, Side), key: u8) -> bool {
     let are_there = tree.contains_inx(index) && tree.contains_inx(at.0);
-    if !are_there || at.0 == index || at.1 == Ordering::Equal {
+    if !are_there || at.0 == index {
         return false;
     }
     tree.move_beside(index, at);

@@ -1,8 +1,8 @@
 //! Rebuilt trees, compared place by place with a recursive function of the length.
 use super::support::{Keys, Place, insert_at, places};
 use arena_base::{BasePtr, InvalidationOption, P0, ReallocationError};
+use ord_tree::Side;
 use std::alloc::{AllocError, Global};
-use std::cmp::Ordering;
 
 /// Returns the index in the middle of a run.
 fn middle_of(start: u32, len: u32) -> Option<u32> {
@@ -70,7 +70,7 @@ fn fill(tree: &mut Keys, len: u32) -> bool {
         let Some(Ok(p)) = insert_at(tree, last, 0) else {
             return false;
         };
-        last = Some((p.inx(), Ordering::Greater));
+        last = Some((p.inx(), Side::Greater));
     }
     true
 }

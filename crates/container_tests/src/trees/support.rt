@@ -1,9 +1,8 @@
 //! What several of these files use.
 use arena_base::{Advancer, BasePtr, InsertionError, ItemsMut, P0};
 use chain_base::ChainPtrAdvancer;
-use ord_tree::OrdTree;
+use ord_tree::{OrdTree, Side};
 use std::alloc::{Allocator, Global};
-use std::cmp::Ordering;
 
 pub(super) type Keys<A = Global> = OrdTree<P0, u8, A>;
 
@@ -45,25 +44,21 @@ pub(super) fn places<A: Allocator>(alloc: Global, tree: &Keys<A>) -> Vec<Place> 
 }
 
 /// Returns where a key goes: before the first greater one, or behind the last.
-pub(super) fn place_of(places: &[Place], key: u8) -> Option<(u32, Ordering)> {
+pub(super) fn place_of(places: &[Place], key: u8) -> Option<(u32, Side)> {
     place_around(places, None, key)
 }
 
 /// Returns the same among all entries except the one at `index`.
-pub(super) fn place_around(
-    places: &[Place],
-    index: Option<u32>,
-    key: u8,
-) -> Option<(u32, Ordering)> {
+pub(super) fn place_around(places: &[Place], index: Option<u32>, key: u8) -> Option<(u32, Side)> {
     let mut at = None;
     for place in places {
         if Some(place.index) == index {
             continue;
         }
         if place.key < key {
-            at = Some((place.index, Ordering::Greater));
+            at = Some((place.index, Side::Greater));
         } else if at.is_none() {
-            at = Some((place.index, Ordering::Less));
+            at = Some((place.index, Side::Lesser));
         }
     }
     at
@@ -72,12 +67,12 @@ pub(super) fn place_around(
 /// Inserts a key at a place and returns the call's result; `None` if the tree has no such place.
 pub(super) fn insert_at<A: Allocator>(
     tree: &mut Keys<A>,
-    at: Option<(u32, Ordering)>,
+    at: Option<(u32, Side)>,
     key: u8,
 ) -> Option<Result<P0, InsertionError>> {
     let is_there = match at {
         None => tree.is_empty(),
-        Some((index, side)) => tree.contains_inx(index) && side != Ordering::Equal,
+        Some((index, _)) => tree.contains_inx(index),
     };
     if !is_there {
         return None;

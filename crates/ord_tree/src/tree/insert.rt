@@ -11,7 +11,7 @@ ghost use Rattle.ord_tree.specs.Promote.{IsRepaired};
 ghost use Rattle.ord_tree.specs.Account.{IsSpelledWithin, rank_in};
 ghost use Rattle.ord_tree.specs.Tree.{put_at, CanPutAt, IsGrown};
 ghost use Rattle.ord_tree.specs.Layout.{IsLaidOut};
-ghost use Rattle.ord_tree.specs.LeafBranch.{side_at, kind_at, IsLeafBranch, IsLeafBranchAt};
+ghost use Rattle.ord_tree.specs.LeafBranch.{kind_at, IsLeafBranch, IsLeafBranchAt};
 
 use super::OrdTree;
 use crate::leaf::add_leaf;
@@ -22,10 +22,9 @@ use crate::tree_links::{Branch, Side};
 use arena_base::{BasePtr, InsertionError};
 use chain_base::{ChainArena, LinkInsertKind};
 use std::alloc::Allocator;
-use std::cmp::Ordering;
 
 impl<P: BasePtr, T: Drop, A: Allocator> OrdTree<P, T, A> {
-    /// Inserts an item directly before (`Less`) or after (`Greater`) the entry at an index, or as the only entry (`None`), and returns
+    /// Inserts an item directly on a side of the entry at an index, or as the only entry (`None`), and returns
     /// its pointer.
     ///
     /// It takes the slot freed last, or else the least one never used, and has the arena's generation. Takes no memory.
@@ -37,7 +36,7 @@ impl<P: BasePtr, T: Drop, A: Allocator> OrdTree<P, T, A> {
     #[inline(always)]
     pub fn insert_within_capacity(
         &mut self,
-        at: Option<(P::Inx, Ordering)>,
+        at: Option<(P::Inx, Side)>,
         t: T,
     ) -> Result<P, InsertionError>
         requires { CanPutAt P.Inx.number at self.old.list }
@@ -72,7 +71,7 @@ impl<P: BasePtr, T: Drop, A: Allocator> OrdTree<P, T, A> {
     /// - `AllocError`: growing failed.
     pub fn insert_reallocating(
         &mut self,
-        at: Option<(P::Inx, Ordering)>,
+        at: Option<(P::Inx, Side)>,
         t: T,
     ) -> Result<P, InsertionError>
         requires { CanPutAt P.Inx.number at self.old.list }
@@ -101,23 +100,13 @@ fn parent_in<I: Copy>(branch: Option<Branch<I>>) -> Option<I>
 }
 
 // The place in the chain that `at` names.
-pub(super) fn kind_of<P: BasePtr>(at: Option<(P::Inx, Ordering)>) -> LinkInsertKind<P>
+pub(super) fn kind_of<P: BasePtr>(at: Option<(P::Inx, Side)>) -> LinkInsertKind<P>
     ensures { result ≡ kind_at at }
 {
     match at {
         None => LinkInsertKind::Disconnected,
-        Some((i, Ordering::Less)) => LinkInsertKind::PrevToInx(i),
-        Some((i, _)) => LinkInsertKind::NextToInx(i),
-    }
-}
-
-// The side of an entry that an ordering names.
-pub(super) fn side_of(ordering: Ordering) -> Side
-    ensures { result ≡ side_at ordering }
-{
-    match ordering {
-        Ordering::Less => Side::Lesser,
-        Ordering::Equal | Ordering::Greater => Side::Greater,
+        Some((i, Side::Lesser)) => LinkInsertKind::PrevToInx(i),
+        Some((i, Side::Greater)) => LinkInsertKind::NextToInx(i),
     }
 }
 
@@ -167,7 +156,7 @@ fn branch_on<P: BasePtr, T, A: Allocator>(
 // The branch for a new leaf before or after an entry, or none for the only entry.
 fn branch_at<P: BasePtr, T, A: Allocator>(
     chain: &ChainArena<P, SimpleOrdArenaNode<P, T>, A>,
-    at: Option<(P::Inx, Ordering)>,
+    at: Option<(P::Inx, Side)>,
 ) -> Option<Branch<NodeInx<P::Inx>>>
     requires { CanPutAt P.Inx.number at chain.now }
     ensures { (root : Option ℕ) (s : Shape)
@@ -176,7 +165,7 @@ fn branch_at<P: BasePtr, T, A: Allocator>(
 {
     match at {
         None => None,
-        Some((i, ordering)) => branch_on(chain, node_at(chain, i), side_of(ordering)),
+        Some((i, side)) => branch_on(chain, node_at(chain, i), side),
     }
 }
 

@@ -9,7 +9,7 @@ ghost use Rattle.ord_tree.specs.Move.{IsRearranged, IsAside};
 ghost use Rattle.ord_tree.specs.LeafBranch.{IsLeafBranch};
 
 use super::OrdTree;
-use super::insert::{kind_of, neighbour, side_of};
+use super::insert::{kind_of, neighbour};
 use crate::detach::detach;
 use crate::leaf::add_leaf;
 use crate::node::SimpleOrdArenaNode;
@@ -19,17 +19,16 @@ use crate::tree_links::{Branch, Side, TreeLinks};
 use arena_base::BasePtr;
 use chain_base::ChainArena;
 use std::alloc::Allocator;
-use std::cmp::Ordering;
 
 impl<P: BasePtr, T, A: Allocator> OrdTree<P, T, A> {
-    /// Moves the entry at `i` directly before (`Less`) or after (`Greater`) another entry. It keeps its pointer and its item.
+    /// Moves the entry at `i` directly beside another entry, on that side of it. It keeps its pointer and its item.
     ///
     /// The other entries keep their order. If the entry is already at that place, the list is unchanged.
     ///
     /// # Complexity
     ///
     /// O(log n), and no memory. At most fifteen nodes get a new parent. The amortized number of rank changes is at most 14.
-    pub fn move_beside(&mut self, i: P::Inx, at: (P::Inx, Ordering))
+    pub fn move_beside(&mut self, i: P::Inx, at: (P::Inx, Side))
         requires entry { IsOccupied self.old.list (P.Inx.number i) }
         requires place { CanPutAt P.Inx.number (Some at) (without_entry self.old.list (P.Inx.number i)) }
         ensures list { self.new.list
@@ -42,7 +41,7 @@ impl<P: BasePtr, T, A: Allocator> OrdTree<P, T, A> {
         detach(&mut self.chain, &mut self.root, z, before);
         self.chain.move_beside(i, kind_of(Some(at)));
         let y = node_at(&self.chain, at.0);
-        let branch = branch_across(&self.chain, y, side_of(at.1), z);
+        let branch = branch_across(&self.chain, y, at.1, z);
         let leaf = TreeLinks {
             back: Some(branch.parent),
             lesser: None,

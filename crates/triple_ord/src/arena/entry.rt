@@ -8,7 +8,8 @@ ghost use Rattle.ord_tree.specs.Tree.{CanPutAt, IsGrown, put_at};
 ghost use Rattle.triple_ord.specs.Arena.{item_of, count, Updates, FindSame};
 ghost use Rattle.triple_ord.specs.Entry.{InsertsThere, IsEntryFor};
 ghost use Rattle.triple_ord.specs.EntryKind.{pointer_of_kind};
-ghost use Rattle.triple_ord.specs.Insertion.{within, reallocating, IsRefused};
+ghost use Rattle.triple_ord.specs.Insertion.{IsRefused};
+ghost use Rattle.triple_ord.specs.declared.growth.Growth.TheVariants.{Within, Reallocating};
 ghost use Rattle.triple_ord.specs.InsertEntry.{entry_arena, entry_shown, entry_put, entry_visits, entry_lender, rests_if_refused};
 ghost use Rattle.triple_ord.specs.Place.{aim_of, kind_now};
 ghost use Rattle.triple_ord.specs.Prepared.{IsReady};
@@ -17,6 +18,7 @@ use super::SimpleOrdArena;
 use super::insert_entry::SimpleOrdArenaInsertEntry;
 use crate::entry_kind::OrdEntryKind;
 use crate::error::OrdInsertionError;
+use crate::growth::Growth;
 use crate::insert_kind::OrdInsertKind;
 use crate::item::SimpleOrdItem;
 use crate::prepared::{InsertPlace, Prepared};
@@ -90,15 +92,15 @@ impl<P: BasePtr, T: SimpleOrdItem + Drop, A: Allocator> SimpleOrdArena<P, T, A> 
             P.Gen.BasePtrGen.own P.Gen.PartialEq A.Allocator
             self.entry result) }
         ensures place { IfOk result (λ e. IsEntryFor P.numbers T.key_of T.Key.cmp P.Inx.number
-            within P.Inx.most (kind_now kind.entry) self.old (entry_shown e)
+            Within P.Inx.most (kind_now kind.entry) self.old (entry_shown e)
             (entry_put P.numbers e) (entry_visits e) (entry_arena e)) }
         ensures found { IfOk result (λ e. FindSame self.old (entry_arena e)) }
         ensures count { IfOk result (λ e. count (entry_arena e) ≡ count self.old) }
-        ensures refused { IfErr result (IsRefused T.key_of T.Key.cmp P.Inx.most within
+        ensures refused { IfErr result (IsRefused T.key_of T.Key.cmp P.Inx.most Within
             (aim_of P.Inx.number (kind_now kind.entry)) self.old) }
         ensures same_reference { IfOk result (λ e. entry_lender e ≡ self.entry.ghost_name) }
     {
-        let prepared = self.prepare_within(kind)?;
+        let prepared = self.prepare(Growth::Within, kind)?;
         Ok(SimpleOrdArenaInsertEntry {
             arena: self,
             prepared,
@@ -130,15 +132,15 @@ impl<P: BasePtr, T: SimpleOrdItem + Drop, A: Allocator> SimpleOrdArena<P, T, A> 
             P.Gen.BasePtrGen.own P.Gen.PartialEq A.Allocator
             self.entry result) }
         ensures place { IfOk result (λ e. IsEntryFor P.numbers T.key_of T.Key.cmp P.Inx.number
-            reallocating P.Inx.most (kind_now kind.entry) self.old (entry_shown e)
+            Reallocating P.Inx.most (kind_now kind.entry) self.old (entry_shown e)
             (entry_put P.numbers e) (entry_visits e) (entry_arena e)) }
         ensures found { IfOk result (λ e. FindSame self.old (entry_arena e)) }
         ensures count { IfOk result (λ e. count (entry_arena e) ≡ count self.old) }
-        ensures refused { IfErr result (IsRefused T.key_of T.Key.cmp P.Inx.most reallocating
+        ensures refused { IfErr result (IsRefused T.key_of T.Key.cmp P.Inx.most Reallocating
             (aim_of P.Inx.number (kind_now kind.entry)) self.old) }
         ensures same_reference { IfOk result (λ e. entry_lender e ≡ self.entry.ghost_name) }
     {
-        let prepared = self.prepare_reallocating(kind)?;
+        let prepared = self.prepare(Growth::Reallocating, kind)?;
         Ok(SimpleOrdArenaInsertEntry {
             arena: self,
             prepared,
@@ -171,11 +173,11 @@ impl<P: BasePtr, T: SimpleOrdItem + Drop, A: Allocator> SimpleOrdArena<P, T, A> 
             P.Gen.BasePtrGen.own P.Gen.PartialEq A.Allocator
             self.entry result) }
         ensures place { IfOk result (λ e. IsEntryFor P.numbers T.key_of T.Key.cmp P.Inx.number
-            reallocating P.Inx.most (kind_now kind.entry) self.old (entry_shown e)
+            Reallocating P.Inx.most (kind_now kind.entry) self.old (entry_shown e)
             (entry_put P.numbers e) (entry_visits e) (entry_arena e)) }
         ensures found { IfOk result (λ e. FindSame self.old (entry_arena e)) }
         ensures count { IfOk result (λ e. count (entry_arena e) ≡ count self.old) }
-        ensures refused { IfErr result (IsRefused T.key_of T.Key.cmp P.Inx.most reallocating
+        ensures refused { IfErr result (IsRefused T.key_of T.Key.cmp P.Inx.most Reallocating
             (aim_of P.Inx.number (kind_now kind.entry)) self.old) }
         ensures same_reference { IfOk result (λ e. entry_lender e ≡ self.entry.ghost_name) }
     {

@@ -6,13 +6,17 @@ ghost use Rattle.ord_tree.specs.Chain.{IsOccupied};
 ghost use Rattle.triple_ord.specs.Arena.{item_of, entry_at, count, Updates};
 ghost use Rattle.ord_tree.specs.Insert.{IsInsertion};
 ghost use Rattle.ord_tree.specs.Tree.{CanPutAt, IsGrown, put_at};
-ghost use Rattle.triple_ord.specs.Insertion.{reallocating, with_room_by, LacksSlot, Inserts, InsertsWithin, InsertsBeside};
+ghost use Rattle.triple_ord.specs.Insertion.{with_room_by, LacksSlot, Inserts, InsertsWithin, InsertsBeside};
+ghost use Rattle.triple_ord.specs.declared.growth.Growth.TheVariants.{Reallocating};
 
 use super::SimpleOrdArena;
 use crate::error::OrdInsertionError;
+use crate::growth::Growth;
 use crate::insert_kind::OrdInsertKind;
 use crate::item::SimpleOrdItem;
-use arena_base::{BasePtr, ItemsMut};
+use crate::prepared::side_by;
+use arena_base::BasePtr;
+use ord_tree::Side;
 use std::alloc::Allocator;
 use std::cmp::Ordering;
 
@@ -36,7 +40,7 @@ impl<P: BasePtr, T: SimpleOrdItem + Drop, A: Allocator> SimpleOrdArena<P, T, A> 
     {
         // For the prover: the list is sound.
         let _ = self.len();
-        let prepared = self.prepare_within(OrdInsertKind::Normal(t.key()))?;
+        let prepared = self.prepare(Growth::Within, OrdInsertKind::Normal(t.key()))?;
         let p = prepared.shown.any();
         Ok((p, self.insert_prepared(prepared, t)))
     }
@@ -69,7 +73,7 @@ impl<P: BasePtr, T: SimpleOrdItem + Drop, A: Allocator> SimpleOrdArena<P, T, A> 
     {
         // For the prover: the list is sound.
         let _ = self.len();
-        let prepared = self.prepare_reallocating(OrdInsertKind::Normal(t.key()))?;
+        let prepared = self.prepare(Growth::Reallocating, OrdInsertKind::Normal(t.key()))?;
         let p = prepared.shown.any();
         Ok((p, self.insert_prepared(prepared, t)))
     }
@@ -118,24 +122,22 @@ impl<P: BasePtr, T: Drop, A: Allocator> SimpleOrdArena<P, T, A> {
     {
         // For the prover: the list is sound.
         let _ = self.len();
-        match direction {
-            Ordering::Equal => Ok(Some(self.replace(p, t))),
-            _ => {
-                self.put_growing((p, direction), t)?;
-                Ok(None)
-            }
-        }
+        let Some(side) = side_by(direction) else {
+            return Ok(Some(self.replace(p, t)));
+        };
+        self.put_growing((p, side), t)?;
+        Ok(None)
     }
 
-    // Inserts a new entry directly before or after another.
-    fn put_growing(&mut self, at: (P::Inx, Ordering), t: T) -> Result<P, OrdInsertionError>
+    // Inserts a new entry directly beside another.
+    fn put_growing(&mut self, at: (P::Inx, Side), t: T) -> Result<P, OrdInsertionError>
         requires { CanPutAt P.Inx.number (Some at) self.old.list }
         ensures inserted { IfOk result
-            (λ p. IsInsertion (with_room_by reallocating P.Inx.most self.old.list) self.new.list
+            (λ p. IsInsertion (with_room_by Reallocating P.Inx.most self.old.list) self.new.list
             (put_at P.Inx.number (Some at) self.old.list.entries)
             t (P.numbers p).0 (P.numbers p).1) }
         ensures grown { OnOk result (IsGrown self.old.shape self.new.shape) }
-        ensures refused { IfErr result (LacksSlot reallocating P.Inx.most self.old.list) }
+        ensures refused { IfErr result (LacksSlot Reallocating P.Inx.most self.old.list) }
         ensures err { OnErr result (self.new ≡ self.old) }
     {
         let p = self.tree.insert_reallocating(Some(at), t)?;

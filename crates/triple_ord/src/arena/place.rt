@@ -9,7 +9,7 @@ use super::SimpleOrdArena;
 use crate::error::OrdInsertionError;
 use crate::insert_kind::OrdInsertKind;
 use crate::item::SimpleOrdItem;
-use crate::prepared::InsertPlace;
+use crate::prepared::{InsertPlace, place_at};
 use crate::ties::Ties;
 use crate::visits::Visits;
 use arena_base::BasePtr;
@@ -94,8 +94,7 @@ impl<P: BasePtr, T: SimpleOrdItem, A: Allocator> SimpleOrdArena<P, T, A> {
         let _ = self.len();
         match found {
             None => InsertPlace::New(None),
-            Some(similar) if similar.1.is_eq() => InsertPlace::Replacing(similar.0),
-            Some(similar) => InsertPlace::New(Some(similar)),
+            Some(at) => place_at(at),
         }
     }
 
@@ -119,9 +118,6 @@ impl<P: BasePtr, T: SimpleOrdItem, A: Allocator> SimpleOrdArena<P, T, A> {
         let _ = self.len();
         let (generation, _item) = self.get_inx(i)?;
         let p = P::_from_raw(i, generation);
-        match direction {
-            Ordering::Equal => Some(InsertPlace::Replacing(p)),
-            _ => Some(InsertPlace::New(Some((p, direction)))),
-        }
+        Some(place_at((p, direction)))
     }
 }

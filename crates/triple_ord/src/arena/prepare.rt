@@ -7,72 +7,39 @@ ghost use Rattle.ord_tree.specs.Tree.{IsGrown, put_at, with_item};
 ghost use Rattle.triple_ord.specs.Arena.{item_of, entry_at, count, Updates, FindSame};
 ghost use Rattle.triple_ord.specs.Entry.{InsertsThere, IsEntryFor};
 ghost use Rattle.triple_ord.specs.EntryKind.{pointer_of_kind};
-ghost use Rattle.triple_ord.specs.Insertion.{within, reallocating, with_room_by, LacksSlot, IsRefused};
+ghost use Rattle.triple_ord.specs.Insertion.{with_room_by, LacksSlot, IsRefused};
+ghost use Rattle.triple_ord.specs.declared.growth.Growth.TheVariants.{Reallocating};
 ghost use Rattle.triple_ord.specs.Place.{aim_of, kind_now};
 ghost use Rattle.triple_ord.specs.Prepared.{HasRoomAt, IsReady, by_number};
 
 use super::SimpleOrdArena;
 use crate::entry_kind::OrdEntryKind;
 use crate::error::OrdInsertionError;
+use crate::growth::Growth;
 use crate::insert_kind::OrdInsertKind;
 use crate::item::SimpleOrdItem;
 use crate::prepared::{InsertPlace, Prepared};
 use arena_base::{BasePtr, ItemsMut};
+use ord_tree::Side;
 use std::alloc::Allocator;
-use std::cmp::Ordering;
 use std::mem;
 
-// Inlined into `insert` and `entry_insert`, so that the kind is known, only one search remains, and the prepared place stays in
+// Inlined into `insert` and `entry_insert`, so that growth and kind are known, only one search remains, and the prepared place stays in
 // registers.
 impl<P: BasePtr, T: SimpleOrdItem + Drop, A: Allocator> SimpleOrdArena<P, T, A> {
-    // The place of an insertion within the capacity.
+    // The place of an insertion, with a slot if it needs one.
     #[inline(always)]
-    pub(super) fn prepare_within(
+    pub(super) fn prepare(
         &mut self,
+        growth: Growth,
         kind: OrdInsertKind<P, &T::Key>,
     ) -> Result<Prepared<P>, OrdInsertionError>
         ensures place { IfOk result (λ e. IsEntryFor P.numbers T.key_of T.Key.cmp P.Inx.number
-            within P.Inx.most (kind_now kind.entry) self.old e.shown
-            (put_at (λ p. (P.numbers p).0) e.at self.new.list.entries) e.visits self.new) }
-        ensures ready { IfOk result (λ e. IsReady P.numbers e.shown e.at self.new) }
-        ensures same { self.new ≡ self.old }
-        ensures refused { IfErr result (IsRefused T.key_of T.Key.cmp P.Inx.most within
-            (aim_of P.Inx.number (kind_now kind.entry)) self.old) }
-    {
-        // For the prover: the list is sound.
-        let _ = self.len();
-        let (place, visits) = self.place_for(kind)?;
-        match place {
-            InsertPlace::Replacing(p) => Ok(Prepared {
-                shown: OrdEntryKind::Replacing(p),
-                at: None,
-                visits,
-            }),
-            InsertPlace::New(at) => {
-                let Some(p) = self.next_pointer() else {
-                    return Err(OrdInsertionError::NotWithinCapacity);
-                };
-                Ok(Prepared {
-                    shown: OrdEntryKind::New(p),
-                    at,
-                    visits,
-                })
-            }
-        }
-    }
-
-    // The place of an insertion that may grow, with a slot if it needs one.
-    #[inline(always)]
-    pub(super) fn prepare_reallocating(
-        &mut self,
-        kind: OrdInsertKind<P, &T::Key>,
-    ) -> Result<Prepared<P>, OrdInsertionError>
-        ensures place { IfOk result (λ e. IsEntryFor P.numbers T.key_of T.Key.cmp P.Inx.number
-            reallocating P.Inx.most (kind_now kind.entry) self.old e.shown
+            growth P.Inx.most (kind_now kind.entry) self.old e.shown
             (put_at (λ p. (P.numbers p).0) e.at self.new.list.entries) e.visits self.new) }
         ensures ready { IfOk result (λ e. IsReady P.numbers e.shown e.at self.new) }
         ensures entries { self.new.list.entries ≡ self.old.list.entries }
-        ensures refused { IfErr result (IsRefused T.key_of T.Key.cmp P.Inx.most reallocating
+        ensures refused { IfErr result (IsRefused T.key_of T.Key.cmp P.Inx.most growth
             (aim_of P.Inx.number (kind_now kind.entry)) self.old) }
         ensures err { OnErr result (self.new ≡ self.old) }
     {
@@ -86,8 +53,7 @@ impl<P: BasePtr, T: SimpleOrdItem + Drop, A: Allocator> SimpleOrdArena<P, T, A> 
                 visits,
             }),
             InsertPlace::New(at) => {
-                self.make_room()?;
-                let p = self.next_pointer().unwrap();
+                let p = self.next_slot(growth)?;
                 Ok(Prepared {
                     shown: OrdEntryKind::New(p),
                     at,
@@ -126,7 +92,7 @@ impl<P: BasePtr, T: Drop, A: Allocator> SimpleOrdArena<P, T, A> {
 
     // Inserts a new entry at a place; a slot is vacant.
     #[inline(always)]
-    fn put(&mut self, at: Option<(P, Ordering)>, t: T) -> P
+    fn put(&mut self, at: Option<(P, Side)>, t: T) -> P
         requires can { HasRoomAt P.numbers at self.old.list }
         requires vacant { IsSome (next_index self.old.list) }
         ensures inserted { IsInsertion self.old.list self.new.list
@@ -140,37 +106,54 @@ impl<P: BasePtr, T: Drop, A: Allocator> SimpleOrdArena<P, T, A> {
         self.tree.insert_within_capacity(at, t).unwrap()
     }
 
+    // The pointer of the next new entry, which has a vacant slot.
+    #[inline(always)]
+    fn next_slot(&mut self, growth: Growth) -> Result<P, OrdInsertionError>
+        ensures room { OnOk result
+            (self.new ≡ record self.old { list = with_room_by growth P.Inx.most self.old.list }) }
+        ensures index { IfOk result (λ p. next_index self.new.list ≡ Some (P.numbers p).0) }
+        ensures generation { IfOk result (λ p. (P.numbers p).1 ≡ self.new.list.generation) }
+        ensures entries { self.new.list.entries ≡ self.old.list.entries }
+        ensures refused { IfErr result (LacksSlot growth P.Inx.most self.old.list) }
+        ensures err { OnErr result (self.new ≡ self.old) }
+    {
+        // For the prover: the list is sound.
+        let _ = self.len();
+        match growth {
+            Growth::Within => self
+                .tree
+                .next_insertion_ptr()
+                .ok_or(OrdInsertionError::NotWithinCapacity),
+            Growth::Reallocating => {
+                self.make_room()?;
+                Ok(self.tree.next_insertion_ptr().unwrap())
+            }
+        }
+    }
+
     // Makes sure that a slot is vacant.
     #[inline(always)]
     fn make_room(&mut self) -> Result<(), OrdInsertionError>
         ensures ok { OnOk result
             (self.new ≡ record self.old {
-              list = with_room_by reallocating P.Inx.most self.old.list;
+              list = with_room_by Reallocating P.Inx.most self.old.list;
             }) }
         ensures next { OnOk result (IsSome (next_index self.new.list)) }
         ensures entries { self.new.list.entries ≡ self.old.list.entries }
-        ensures refused { IfErr result (LacksSlot reallocating P.Inx.most self.old.list) }
+        ensures refused { IfErr result (LacksSlot Reallocating P.Inx.most self.old.list) }
         ensures err { OnErr result (self.new ≡ self.old) }
     {
         self.tree.make_room()?;
         Ok(())
     }
-
-    // The pointer of the next new entry, if a slot is vacant.
-    fn next_pointer(&self) -> Option<P>
-        ensures index { option_map (λ p. (P.numbers p).0) result ≡ next_index self.now.list }
-        ensures generation { IfSome result (λ p. (P.numbers p).1 ≡ self.now.list.generation) }
-    {
-        self.tree.chain().arena().next_insertion_ptr()
-    }
 }
 
 // The index of the entry beside which a new one goes, and the side.
-fn index_beside<P: BasePtr>(at: Option<(P, Ordering)>) -> Option<(P::Inx, Ordering)>
+fn index_beside<P: BasePtr>(at: Option<(P, Side)>) -> Option<(P::Inx, Side)>
     ensures { by_number P.Inx.number result ≡ by_number (λ p. (P.numbers p).0) at }
 {
-    let (p, order) = at?;
-    Some((p.inx(), order))
+    let (p, side) = at?;
+    Some((p.inx(), side))
 }
 
 impl<P: BasePtr, T, A: Allocator> SimpleOrdArena<P, T, A> {

@@ -1,7 +1,6 @@
 //! Moving an entry to the place of its key. The entry keeps its pointer.
 ghost use Rattle.std.specs.Prelude.{◌≡◌, ◌≢◌, ◌↔◌, ◌⊎◌, Some, None, OnOk, IfOk, IfErr, OnErr, IfSome, IsTrue, is_some, length};
 ghost use Rattle.std.specs.Bool.{OnFalse};
-ghost use Rattle.std.specs.declared.cmp.Ordering.TheVariants.{Equal};
 ghost use Rattle.std.specs.Option.{option_map};
 ghost use Rattle.ord_tree.specs.Chain.{IsOccupied};
 ghost use Rattle.ord_tree.specs.ChainMove.{with_entry_moved, without_entry};
@@ -9,6 +8,7 @@ ghost use Rattle.ord_tree.specs.Move.{IsRearranged};
 ghost use Rattle.ord_tree.specs.Tree.{CanPutAt, put_on, with_item};
 ghost use Rattle.triple_ord.specs.Arena.{item_of, entry_at, count, Updates, FindSame};
 ghost use Rattle.triple_ord.specs.Around.{FindsAround};
+ghost use Rattle.triple_ord.specs.Prepared.{order_on, beside_by};
 ghost use Rattle.triple_ord.specs.Rekey.{Rekeys, RekeysCounted};
 ghost use Rattle.triple_ord.specs.VisitBounds.{IsWithinBounds};
 
@@ -16,9 +16,11 @@ use super::SimpleOrdArena;
 use crate::around::descend_around;
 use crate::item::SimpleOrdItem;
 use crate::pair::OrdPair;
+use crate::prepared::side_by;
 use crate::probe::Probe;
 use crate::visits::Visits;
 use arena_base::{BasePtr, BasePtrInx, ItemsMut};
+use ord_tree::Side;
 use std::alloc::Allocator;
 use std::cmp::Ordering;
 
@@ -103,13 +105,13 @@ impl<P: BasePtr, T: SimpleOrdItem, A: Allocator> SimpleOrdArena<P, T, A> {
     }
 
     // The place of a key among all entries but that of a pointer, and the number of entries that its search visited.
-    fn place_around(&self, p: P, k: &T::Key) -> (Option<(P, Ordering)>, Visits)
+    fn place_around(&self, p: P, k: &T::Key) -> (Option<(P, Side)>, Visits)
         ensures found { FindsAround T.key_of T.Key.cmp self.now.list.entries (P.numbers p).0 k.now
-            (option_map (λ a. (P.numbers a.0, a.1)) result.0) result.1 }
+            (option_map (λ a. (P.numbers a.0, order_on a.1)) result.0) result.1 }
         ensures visits { IsWithinBounds (length self.now.list.entries) self.now.shape result.1 }
     {
         let mut probe = Probe::new(&self.tree);
-        let found = descend_around(&mut probe, p.inx(), k);
+        let found = beside(descend_around(&mut probe, p.inx(), k));
         (found, probe.visits())
     }
 }
@@ -160,7 +162,7 @@ impl<P: BasePtr, K: Ord, V, A: Allocator> SimpleOrdArena<P, OrdPair<K, V>, A> {
 
 impl<P: BasePtr, T, A: Allocator> SimpleOrdArena<P, T, A> {
     // Moves the entry of a pointer beside another, if one is given and has another index. If it is already there, nothing moves.
-    fn go_beside(&mut self, p: P, at: Option<(P, Ordering)>)
+    fn go_beside(&mut self, p: P, at: Option<(P, Side)>)
         requires entry { IsOccupied self.old.list (P.numbers p).0 }
         requires place { IfSome at (λ a. (P.numbers a.0).0 ≢ (P.numbers p).0
             → CanPutAt (λ q. (P.numbers q).0) (Some a) (without_entry self.old.list (P.numbers p).0)) }
@@ -183,9 +185,9 @@ impl<P: BasePtr, T, A: Allocator> SimpleOrdArena<P, T, A> {
     }
 
     // Whether the entry at an index is already directly on this side of another.
-    fn stands_beside(&self, i: P::Inx, at: (P, Ordering)) -> bool
+    fn stands_beside(&self, i: P::Inx, at: (P, Side)) -> bool
         requires { IsOccupied self.now.list (P.Inx.number i) }
-        ensures { IsTrue result → (P.numbers at.0).0 ≢ P.Inx.number i → at.1 ≢ Equal
+        ensures { IsTrue result → (P.numbers at.0).0 ≢ P.Inx.number i
             → self.now.list ≡ with_entry_moved self.now.list (P.Inx.number i) (put_on at.1 (P.numbers at.0).0) }
     {
         // For the prover: the list is sound.
@@ -193,13 +195,20 @@ impl<P: BasePtr, T, A: Allocator> SimpleOrdArena<P, T, A> {
         let Some((_, link)) = self.get_inx_node(at.0.inx()) else {
             return false;
         };
-        let neighbour = if at.1.is_lt() {
-            link.prev()
-        } else {
-            link.next()
-        };
-        is_named(neighbour, i)
+        match at.1 {
+            Side::Lesser => is_named(link.prev(), i),
+            Side::Greater => is_named(link.next(), i),
+        }
     }
+}
+
+// The entry beside which a search ended, and the side.
+fn beside<P: Copy>(found: Option<(P, Ordering)>) -> Option<(P, Side)>
+    ensures { result ≡ beside_by found }
+{
+    let (p, order) = found?;
+    let side = side_by(order)?;
+    Some((p, side))
 }
 
 // Whether two pointers have the same index.

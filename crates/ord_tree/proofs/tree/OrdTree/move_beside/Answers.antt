@@ -81,7 +81,7 @@ branch_across-branch-requires-clause-aside g c =
     c.detach.new.nodes (option_map number c.detach.new.root) c.detach.ensures.kept (rw c.node_at-z.ensures at c.detach.ensures.built) (rw c.node_at-z.ensures at c.detach.ensures.backs)
     (rw c.node_at-z.ensures at c.detach.ensures.account) in
     let can = rw (← c.self.view_is) at c.requires.place in
-    rw (c.side_of.ensures, c.node_at-y.ensures, c.node_at-z.ensures) (_, _, aside out number c.args.at can c.move_beside.new.self c.kind_of.result c.kind_of.ensures c.move_beside.ensures)
+    rw (c.node_at-y.ensures, c.node_at-z.ensures) (_, _, aside out number c.args.at can c.move_beside.new.self c.kind_of.result c.kind_of.ensures c.move_beside.ensures)
 
 pub set_links-requires : goal.set_links-requires
 set_links-requires g c =
@@ -103,7 +103,7 @@ add_leaf-requires g c =
     c.detach.new.nodes (option_map number c.detach.new.root) c.detach.ensures.kept (rw c.node_at-z.ensures at c.detach.ensures.built) (rw c.node_at-z.ensures at c.detach.ensures.backs)
     (rw c.node_at-z.ensures at c.detach.ensures.account) in
     let can = rw (← c.self.view_is) at c.requires.place in
-    let bud = rw (c.side_of.ensures, c.node_at-y.ensures, c.node_at-z.ensures) at c.branch_across-branch.ensures in
+    let bud = rw (c.node_at-y.ensures, c.node_at-z.ensures) at c.branch_across-branch.ensures in
     let branch = bud _ _ (aside out number c.args.at can c.move_beside.new.self c.kind_of.result c.kind_of.ensures c.move_beside.ensures) in
     rw c.node_at-z.ensures (_, 1, new_leaf out number c.args.at can c.move_beside.new.self c.kind_of.result c.kind_of.ensures c.move_beside.ensures c.set_links.new.self _ branch c.set_links.ensures.kept (rw c.node_at-z.ensures at c.set_links.ensures.here) (rw c.node_at-z.ensures at c.set_links.ensures.elsewhere))
 
@@ -116,7 +116,7 @@ invariant_of-self g c =
     c.detach.new.nodes (option_map number c.detach.new.root) c.detach.ensures.kept (rw c.node_at-z.ensures at c.detach.ensures.built) (rw c.node_at-z.ensures at c.detach.ensures.backs)
     (rw c.node_at-z.ensures at c.detach.ensures.account) in
     let can = rw (← c.self.view_is) at c.requires.place in
-    let bud = rw (c.side_of.ensures, c.node_at-y.ensures, c.node_at-z.ensures) at c.branch_across-branch.ensures in
+    let bud = rw (c.node_at-y.ensures, c.node_at-z.ensures) at c.branch_across-branch.ensures in
     let branch = bud _ _ (aside out number c.args.at can c.move_beside.new.self c.kind_of.result c.kind_of.ensures c.move_beside.ensures) in
     laid_again out number c.args.at can c.move_beside.new.self c.kind_of.result c.kind_of.ensures c.move_beside.ensures c.set_links.new.self _ branch c.set_links.ensures.kept (rw c.node_at-z.ensures at c.set_links.ensures.here) (rw c.node_at-z.ensures at c.set_links.ensures.elsewhere)
     c.self.invariant c.add_leaf.new.nodes (option_map number c.add_leaf.new.root) c.add_leaf.ensures.kept (rw c.node_at-z.ensures at c.add_leaf.ensures.repaired)
@@ -130,7 +130,7 @@ returns-clause-list g c =
     c.detach.new.nodes (option_map number c.detach.new.root) c.detach.ensures.kept (rw c.node_at-z.ensures at c.detach.ensures.built) (rw c.node_at-z.ensures at c.detach.ensures.backs)
     (rw c.node_at-z.ensures at c.detach.ensures.account) in
     let can = rw (← c.self.view_is) at c.requires.place in
-    let bud = rw (c.side_of.ensures, c.node_at-y.ensures, c.node_at-z.ensures) at c.branch_across-branch.ensures in
+    let bud = rw (c.node_at-y.ensures, c.node_at-z.ensures) at c.branch_across-branch.ensures in
     let branch = bud _ _ (aside out number c.args.at can c.move_beside.new.self c.kind_of.result c.kind_of.ensures c.move_beside.ensures) in
     rw (← c.self.view_is) (list_moved out number c.args.at can c.move_beside.new.self c.kind_of.result c.kind_of.ensures c.move_beside.ensures c.set_links.new.self _ branch c.set_links.ensures.kept (rw c.node_at-z.ensures at c.set_links.ensures.here) (rw c.node_at-z.ensures at c.set_links.ensures.elsewhere)
     c.self.invariant c.add_leaf.new.nodes (option_map number c.add_leaf.new.root) c.add_leaf.ensures.kept (rw c.node_at-z.ensures at c.add_leaf.ensures.repaired))
@@ -144,7 +144,7 @@ returns-clause-shape g c =
     c.detach.new.nodes (option_map number c.detach.new.root) c.detach.ensures.kept (rw c.node_at-z.ensures at c.detach.ensures.built) (rw c.node_at-z.ensures at c.detach.ensures.backs)
     (rw c.node_at-z.ensures at c.detach.ensures.account) in
     let can = rw (← c.self.view_is) at c.requires.place in
-    let bud = rw (c.side_of.ensures, c.node_at-y.ensures, c.node_at-z.ensures) at c.branch_across-branch.ensures in
+    let bud = rw (c.node_at-y.ensures, c.node_at-z.ensures) at c.branch_across-branch.ensures in
     let branch = bud _ _ (aside out number c.args.at can c.move_beside.new.self c.kind_of.result c.kind_of.ensures c.move_beside.ensures) in
     rw (← c.self.view_is) (rearranged out number c.args.at can c.move_beside.new.self c.kind_of.result c.kind_of.ensures c.move_beside.ensures c.set_links.new.self _ branch c.set_links.ensures.kept (rw c.node_at-z.ensures at c.set_links.ensures.here) (rw c.node_at-z.ensures at c.set_links.ensures.elsewhere)
     c.self.invariant c.add_leaf.new.nodes (option_map number c.add_leaf.new.root) c.add_leaf.ensures.kept (rw c.node_at-z.ensures at c.add_leaf.ensures.repaired)
