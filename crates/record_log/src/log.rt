@@ -37,8 +37,10 @@ impl<D: Device> Log<D> {
     /// - `Corrupt`: a record is cut short or doesn't have its checksum, which no crash causes. The file is unchanged.
     pub fn open(alloc: Global, device: D) -> Result<(Log<D>, Vec<Vec<u8>>), (LogError, D)>
         requires { IsTrue D.is_modelled → IsDurable (D.seen device) (D.may_leave device) }
-        ensures records { IsTrue D.is_modelled → IfOk result (λ opened. Holds (D.seen device) (contents opened.1.items)) }
-        ensures ok { IsTrue D.is_modelled → IfOk result (λ opened. Keeps D.seen D.may_leave opened.0 (contents opened.1.items)) }
+        ensures records { IsTrue D.is_modelled
+            → IfOk result (λ opened. Holds (D.seen device) (contents opened.1.items)) }
+        ensures ok { IsTrue D.is_modelled
+            → IfOk result (λ opened. Keeps D.seen D.may_leave opened.0 (contents opened.1.items)) }
         ensures any_moment { IsTrue D.is_modelled → IfOk result (λ opened.
             LeavesOnly D.moment D.left_since device (device_of opened.0) (HoldsTheSame (D.seen device))) }
         ensures any_moment_err { IsTrue D.is_modelled → IfErr result (λ e.
@@ -46,7 +48,8 @@ impl<D: Device> Log<D> {
         ensures refused { IsTrue D.is_modelled → IfErr result (λ e. IsRefused (D.seen device) e.0) }
         ensures unchanged { IsTrue D.is_modelled → IfErr result (λ e. IsDeviceError e.0
             ⊎ LeavesOnly D.moment D.left_since device e.1 (λ c. c ≡ D.seen device)) }
-        ensures failed { IsTrue D.is_modelled → IfErr result (λ e. e.0 ≡ LogError.Device DeviceError.Failed
+        ensures failed { IsTrue D.is_modelled
+            → IfErr result (λ e. e.0 ≡ LogError.Device DeviceError.Failed
             → D.faults device < D.faults e.1) }
     {
         let mut device = device;
@@ -80,12 +83,15 @@ impl<D: Device> Log<D> {
     pub fn append(&mut self, alloc: Global, bytes: &[u8]) -> Result<(), LogError>
         requires size { Fits bytes.now }
         requires settled { IsTrue D.is_modelled → IsSettled D.seen D.may_leave self.old }
-        ensures acknowledged { IsTrue D.is_modelled → (records : List (List ℕ)) → Keeps D.seen D.may_leave self.old records
+        ensures acknowledged { IsTrue D.is_modelled → (records : List (List ℕ))
+            → Keeps D.seen D.may_leave self.old records
             → OnOk result (Keeps D.seen D.may_leave self.new (records ++ bytes.now ∷ [])) }
-        ensures any_moment { IsTrue D.is_modelled → (records : List (List ℕ)) → Keeps D.seen D.may_leave self.old records
-            → LeavesOnly D.moment D.left_since (device_of self.old) (device_of self.new) (HoldsBeforeOrAfter records bytes.now) }
-        ensures err { SaysWhy D.is_modelled D.faults (device_of self.old) (device_of self.new) result
-            (2 ^ 62 ≤ self.old.end) }
+        ensures any_moment { IsTrue D.is_modelled → (records : List (List ℕ))
+            → Keeps D.seen D.may_leave self.old records
+            → LeavesOnly D.moment D.left_since (device_of self.old) (device_of self.new)
+            (HoldsBeforeOrAfter records bytes.now) }
+        ensures err { SaysWhy D.is_modelled D.faults (device_of self.old) (device_of self.new)
+            result (2 ^ 62 ≤ self.old.end) }
     {
         if self.end >= MAX_SIZE {
             return Err(LogError::Full);
@@ -110,11 +116,14 @@ impl<D: Device> Log<D> {
     pub fn rewrite(&mut self, alloc: Global, records: &[Vec<u8>]) -> Result<(), LogError>
         requires size { AllByRecursion Fits (contents records.now) }
         requires settled { IsTrue D.is_modelled → IsSettled D.seen D.may_leave self.old }
-        ensures acknowledged { IsTrue D.is_modelled → OnOk result (Keeps D.seen D.may_leave self.new (contents records.now)) }
-        ensures any_moment { IsTrue D.is_modelled → (old : List (List ℕ)) → Keeps D.seen D.may_leave self.old old
-            → LeavesOnly D.moment D.left_since (device_of self.old) (device_of self.new) (HoldsEither old (contents records.now)) }
-        ensures err { SaysWhy D.is_modelled D.faults (device_of self.old) (device_of self.new) result
-            (2 ^ 62 ≤ length (front (contents records.now))) }
+        ensures acknowledged { IsTrue D.is_modelled
+            → OnOk result (Keeps D.seen D.may_leave self.new (contents records.now)) }
+        ensures any_moment { IsTrue D.is_modelled
+            → (old : List (List ℕ)) → Keeps D.seen D.may_leave self.old old
+            → LeavesOnly D.moment D.left_since (device_of self.old) (device_of self.new)
+            (HoldsEither old (contents records.now)) }
+        ensures err { SaysWhy D.is_modelled D.faults (device_of self.old) (device_of self.new)
+            result (2 ^ 62 ≤ length (front (contents records.now))) }
     {
         let end = write_beside(alloc, &mut self.device, records)?;
         take_place_and_sync(&mut self.device)?;
@@ -130,13 +139,17 @@ impl<D: Device> Log<D> {
     pub fn flush(&mut self) -> Result<(), LogError>
         ensures durable { IsTrue D.is_modelled → OnOk result
             (IsDurable (D.seen (device_of self.new)) (D.may_leave (device_of self.new))) }
-        ensures file { IsTrue D.is_modelled → D.seen (device_of self.new) ≡ D.seen (device_of self.old) }
-        ensures keeps { IsTrue D.is_modelled → (records : List (List ℕ)) → Keeps D.seen D.may_leave self.old records
+        ensures file { IsTrue D.is_modelled
+            → D.seen (device_of self.new) ≡ D.seen (device_of self.old) }
+        ensures keeps { IsTrue D.is_modelled → (records : List (List ℕ))
+            → Keeps D.seen D.may_leave self.old records
             → Keeps D.seen D.may_leave self.new records }
-        ensures any_moment { IsTrue D.is_modelled → (records : List (List ℕ)) → Keeps D.seen D.may_leave self.old records
-            → LeavesOnly D.moment D.left_since (device_of self.old) (device_of self.new) (λ c. Holds c records) }
-        ensures err { SaysWhy D.is_modelled D.faults (device_of self.old) (device_of self.new) result
-            ⊥ }
+        ensures any_moment { IsTrue D.is_modelled → (records : List (List ℕ))
+            → Keeps D.seen D.may_leave self.old records
+            → LeavesOnly D.moment D.left_since (device_of self.old) (device_of self.new)
+            (λ c. Holds c records) }
+        ensures err { SaysWhy D.is_modelled D.faults (device_of self.old) (device_of self.new)
+            result ⊥ }
     {
         self.device.sync()?;
         Ok(())

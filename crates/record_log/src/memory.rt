@@ -50,7 +50,8 @@ fn turn(
     next: Vec<u8>,
 ) -> Result<(), AllocError>
     ensures ok { OnOk result (bytes.new.items ≡ next.items) }
-    ensures past { OnOk result (contents past.new.items ≡ contents past.old.items ++ bytes.old.items ∷ []) }
+    ensures past { OnOk result (contents past.new.items
+        ≡ contents past.old.items ++ bytes.old.items ∷ []) }
     ensures err { OnErr result (bytes.new.items ≡ bytes.old.items) }
     ensures past_err { OnErr result (past.new.items ≡ past.old.items) }
 {

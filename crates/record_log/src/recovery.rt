@@ -31,8 +31,10 @@ fn behind_open_gate(bytes: &[u8]) -> Option<&[u8]>
 
 /// Reads the records behind a header, up to the first closed gate.
 fn read_records(alloc: Global, bytes: &[u8]) -> Result<Recovered, LogError>
-    ensures ok { IfOk result (λ found. IsReadTo found.end bytes.now (contents found.records.items)) }
-    ensures fault { IfErr result (λ e. IsDeviceError e ⊎ ((e ≡ LogError.Corrupt) × HasNoBlocks bytes.now)) }
+    ensures ok { IfOk result
+        (λ found. IsReadTo found.end bytes.now (contents found.records.items)) }
+    ensures fault { IfErr result
+        (λ e. IsDeviceError e ⊎ ((e ≡ LogError.Corrupt) × HasNoBlocks bytes.now)) }
     ensures failed { IsErrOf result (LogError.Device DeviceError.Failed) → ⊥ }
 {
     let mut records = Vec::new(alloc);
@@ -53,7 +55,8 @@ fn read_records(alloc: Global, bytes: &[u8]) -> Result<Recovered, LogError>
 /// Reads the records of a file that is longer than a header.
 fn read_file(alloc: Global, bytes: &[u8]) -> Result<Recovered, LogError>
     requires { 8 < length bytes.now }
-    ensures ok { IfOk result (λ found. IsLaidOut found.end bytes.now (contents found.records.items)) }
+    ensures ok { IfOk result
+        (λ found. IsLaidOut found.end bytes.now (contents found.records.items)) }
     ensures refused { IfErr result (IsRefused bytes.now) }
     ensures failed { IsErrOf result (LogError.Device DeviceError.Failed) → ⊥ }
 {
@@ -70,10 +73,12 @@ fn read_file(alloc: Global, bytes: &[u8]) -> Result<Recovered, LogError>
 
 /// Puts a header into a new file.
 fn begin<D: Device>(alloc: Global, device: &mut D) -> Result<Recovered, LogError>
-    requires { IsTrue D.is_modelled → IsOnDisk D.seen D.may_leave device.old (λ file. length file ≤ 8) }
+    requires { IsTrue D.is_modelled
+        → IsOnDisk D.seen D.may_leave device.old (λ file. length file ≤ 8) }
     ensures ok { IsTrue D.is_modelled → IfOk result
         (λ found. LaysOut (D.seen device.old) (D.seen device.new) found.end (contents found.records.items)) }
-    ensures step { IsTrue D.is_modelled → EndsOnDisk D.seen D.may_leave D.moment D.left_since D.faults device.old device.new
+    ensures step { IsTrue D.is_modelled
+        → EndsOnDisk D.seen D.may_leave D.moment D.left_since D.faults device.old device.new
         result (LogError.Device DeviceError.Failed) (λ c. length c ≤ 8) }
     ensures refused { IfErr result IsDeviceError }
 {
@@ -86,10 +91,12 @@ fn begin<D: Device>(alloc: Global, device: &mut D) -> Result<Recovered, LogError
 
 /// Reads the records of a file with these bytes. A new file gets a header.
 fn lay_out<D: Device>(alloc: Global, device: &mut D, bytes: &[u8]) -> Result<Recovered, LogError>
-    requires { IsTrue D.is_modelled → IsOnDisk D.seen D.may_leave device.old (λ file. bytes.now ≡ file) }
+    requires { IsTrue D.is_modelled
+        → IsOnDisk D.seen D.may_leave device.old (λ file. bytes.now ≡ file) }
     ensures ok { IsTrue D.is_modelled → IfOk result
         (λ found. LaysOut (D.seen device.old) (D.seen device.new) found.end (contents found.records.items)) }
-    ensures step { IsTrue D.is_modelled → EndsOnDisk D.seen D.may_leave D.moment D.left_since D.faults device.old device.new
+    ensures step { IsTrue D.is_modelled
+        → EndsOnDisk D.seen D.may_leave D.moment D.left_since D.faults device.old device.new
         result (LogError.Device DeviceError.Failed) (HoldsTheSame (D.seen device.old)) }
     ensures refused { IsTrue D.is_modelled → IfErr result (IsRefused (D.seen device.old)) }
     ensures unchanged { IfErr result (λ e. IsDeviceError e ⊎ (device.new ≡ device.old)) }
@@ -104,10 +111,12 @@ fn lay_out<D: Device>(alloc: Global, device: &mut D, bytes: &[u8]) -> Result<Rec
 /// Reads the records of a file that a crash may have left, and repairs its end.
 pub(crate) fn recover<D: Device>(alloc: Global, device: &mut D) -> Result<Recovered, LogError>
     requires { IsTrue D.is_modelled → IsDurable (D.seen device.old) (D.may_leave device.old) }
-    ensures records { IsTrue D.is_modelled → IfOk result (λ found. Holds (D.seen device.old) (contents found.records.items)) }
+    ensures records { IsTrue D.is_modelled
+        → IfOk result (λ found. Holds (D.seen device.old) (contents found.records.items)) }
     ensures at_rest { IsTrue D.is_modelled → IfOk result
         (λ found. IsAtRest found.end (D.seen device.new) (contents found.records.items)) }
-    ensures step { IsTrue D.is_modelled → EndsOnDisk D.seen D.may_leave D.moment D.left_since D.faults device.old device.new
+    ensures step { IsTrue D.is_modelled
+        → EndsOnDisk D.seen D.may_leave D.moment D.left_since D.faults device.old device.new
         result (LogError.Device DeviceError.Failed) (HoldsTheSame (D.seen device.old)) }
     ensures refused { IsTrue D.is_modelled → IfErr result (IsRefused (D.seen device.old)) }
     ensures unchanged { IsTrue D.is_modelled → IfErr result (λ e. IsDeviceError e

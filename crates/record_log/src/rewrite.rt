@@ -15,8 +15,10 @@ use std::alloc::Global;
 /// Begins a file beside with a header.
 fn begin<D: Device>(device: &mut D) -> Result<(), DeviceError>
     ensures begun { IsTrue D.is_modelled → OnOk result (D.beside device.new ≡ header) }
-    ensures quiet { IsTrue D.is_modelled → IsQuiet D.seen D.may_leave D.moment D.left_since device.old device.new }
-    ensures cause { IsTrue D.is_modelled → HasCause D.faults device.old device.new result DeviceError.Failed }
+    ensures quiet { IsTrue D.is_modelled
+        → IsQuiet D.seen D.may_leave D.moment D.left_since device.old device.new }
+    ensures cause { IsTrue D.is_modelled
+        → HasCause D.faults device.old device.new result DeviceError.Failed }
 {
     device.begin_beside()?;
     device.append_beside(&HEADER)
@@ -28,7 +30,8 @@ fn put<D: Device>(alloc: Global, device: &mut D, bytes: &[u8]) -> Result<usize, 
     ensures len { IfOk result (λ len. len ≡ length (frame bytes.now) + 1) }
     ensures appended { IsTrue D.is_modelled → OnOk result
         (D.beside device.new ≡ D.beside device.old ++ 1 ∷ frame bytes.now) }
-    ensures beside { WritesBeside D.is_modelled D.seen D.may_leave D.moment D.left_since D.faults device.old device.new result
+    ensures beside { WritesBeside D.is_modelled D.seen D.may_leave D.moment D.left_since D.faults
+        device.old device.new result
         ⊥ }
 {
     let block = block_of(alloc, bytes)?;
@@ -41,8 +44,10 @@ fn put_all<D: Device>(alloc: Global, device: &mut D, records: &[Vec<u8>]) -> Res
     requires size { AllByRecursion Fits (contents records.now) }
     requires begun { IsTrue D.is_modelled → D.beside device.old ≡ header }
     ensures end { IfOk result (λ end. end ≡ length (front (contents records.now))) }
-    ensures records { IsTrue D.is_modelled → OnOk result (D.beside device.new ≡ front (contents records.now)) }
-    ensures beside { WritesBeside D.is_modelled D.seen D.may_leave D.moment D.left_since D.faults device.old device.new result
+    ensures records { IsTrue D.is_modelled
+        → OnOk result (D.beside device.new ≡ front (contents records.now)) }
+    ensures beside { WritesBeside D.is_modelled D.seen D.may_leave D.moment D.left_since D.faults
+        device.old device.new result
         (2 ^ 62 ≤ length (front (contents records.now))) }
 {
     let mut end = HEADER.len();
@@ -63,9 +68,12 @@ pub(crate) fn write_beside<D: Device>(
 ) -> Result<usize, LogError>
     requires { AllByRecursion Fits (contents records.now) }
     ensures end { IfOk result (λ end. end ≡ length (front (contents records.now))) }
-    ensures records { IsTrue D.is_modelled → OnOk result (D.beside device.new ≡ front (contents records.now) ++ 0 ∷ []) }
-    ensures durable { IsTrue D.is_modelled → OnOk result (IsDurable (D.beside device.new) (D.beside_may_leave device.new)) }
-    ensures beside { WritesBeside D.is_modelled D.seen D.may_leave D.moment D.left_since D.faults device.old device.new result
+    ensures records { IsTrue D.is_modelled
+        → OnOk result (D.beside device.new ≡ front (contents records.now) ++ 0 ∷ []) }
+    ensures durable { IsTrue D.is_modelled
+        → OnOk result (IsDurable (D.beside device.new) (D.beside_may_leave device.new)) }
+    ensures beside { WritesBeside D.is_modelled D.seen D.may_leave D.moment D.left_since D.faults
+        device.old device.new result
         (2 ^ 62 ≤ length (front (contents records.now))) }
 {
     begin(device)?;
@@ -77,10 +85,13 @@ pub(crate) fn write_beside<D: Device>(
 
 /// Puts the file beside, which is on the disk, in the place of the file, and that on the disk.
 pub(crate) fn take_place_and_sync<D: Device>(device: &mut D) -> Result<(), DeviceError>
-    requires durable { IsTrue D.is_modelled → IsDurable (D.seen device.old) (D.may_leave device.old) }
-    requires beside { IsTrue D.is_modelled → IsDurable (D.beside device.old) (D.beside_may_leave device.old) }
+    requires durable { IsTrue D.is_modelled
+        → IsDurable (D.seen device.old) (D.may_leave device.old) }
+    requires beside { IsTrue D.is_modelled
+        → IsDurable (D.beside device.old) (D.beside_may_leave device.old) }
     ensures taken { IsTrue D.is_modelled → OnOk result (D.seen device.new ≡ D.beside device.old) }
-    ensures step { IsTrue D.is_modelled → EndsOnDisk D.seen D.may_leave D.moment D.left_since D.faults device.old device.new
+    ensures step { IsTrue D.is_modelled
+        → EndsOnDisk D.seen D.may_leave D.moment D.left_since D.faults device.old device.new
         result DeviceError.Failed (λ c. (c ≡ D.seen device.old) ⊎ (c ≡ D.beside device.old)) }
 {
     device.take_place()?;

@@ -13,8 +13,10 @@ pub(crate) fn read_durable<D: Device>(alloc: Global, device: &mut D) -> Result<V
     requires { IsTrue D.is_modelled → IsDurable (D.seen device.old) (D.may_leave device.old) }
     ensures bytes { IsTrue D.is_modelled → IfOk result (λ bytes. bytes.items ≡ D.seen device.old) }
     ensures seen { IsTrue D.is_modelled → D.seen device.new ≡ D.seen device.old }
-    ensures durable { IsTrue D.is_modelled → IsDurable (D.seen device.new) (D.may_leave device.new) }
-    ensures step { IsTrue D.is_modelled → EndsOnDisk D.seen D.may_leave D.moment D.left_since D.faults device.old device.new
+    ensures durable { IsTrue D.is_modelled
+        → IsDurable (D.seen device.new) (D.may_leave device.new) }
+    ensures step { IsTrue D.is_modelled
+        → EndsOnDisk D.seen D.may_leave D.moment D.left_since D.faults device.old device.new
         result DeviceError.Failed (λ c. c ≡ D.seen device.old) }
 {
     device.read(alloc)
@@ -26,9 +28,12 @@ pub(crate) fn write_and_sync<D: Device>(
     at: usize,
     bytes: &[u8],
 ) -> Result<(), DeviceError>
-    requires { IsTrue D.is_modelled → IsOnDisk D.seen D.may_leave device.old (λ file. at ≤ length file) }
-    ensures written { IsTrue D.is_modelled → OnOk result (Overwrites (D.seen device.old) at bytes.now (D.seen device.new)) }
-    ensures step { IsTrue D.is_modelled → EndsOnDisk D.seen D.may_leave D.moment D.left_since D.faults device.old device.new
+    requires { IsTrue D.is_modelled
+        → IsOnDisk D.seen D.may_leave device.old (λ file. at ≤ length file) }
+    ensures written { IsTrue D.is_modelled
+        → OnOk result (Overwrites (D.seen device.old) at bytes.now (D.seen device.new)) }
+    ensures step { IsTrue D.is_modelled
+        → EndsOnDisk D.seen D.may_leave D.moment D.left_since D.faults device.old device.new
         result DeviceError.Failed (IsTorn at (length bytes.now) (D.seen device.old)) }
 {
     device.write_at(at, bytes)?;
@@ -38,9 +43,12 @@ pub(crate) fn write_and_sync<D: Device>(
 
 /// Cuts the file, and puts that on the disk.
 fn cut_and_sync<D: Device>(device: &mut D, len: usize) -> Result<(), DeviceError>
-    requires { IsTrue D.is_modelled → IsOnDisk D.seen D.may_leave device.old (λ file. len ≤ length file) }
-    ensures cut { IsTrue D.is_modelled → OnOk result (D.seen device.new ≡ take len (D.seen device.old)) }
-    ensures step { IsTrue D.is_modelled → EndsOnDisk D.seen D.may_leave D.moment D.left_since D.faults device.old device.new
+    requires { IsTrue D.is_modelled
+        → IsOnDisk D.seen D.may_leave device.old (λ file. len ≤ length file) }
+    ensures cut { IsTrue D.is_modelled
+        → OnOk result (D.seen device.new ≡ take len (D.seen device.old)) }
+    ensures step { IsTrue D.is_modelled
+        → EndsOnDisk D.seen D.may_leave D.moment D.left_since D.faults device.old device.new
         result DeviceError.Failed (IsPartlyCut len (D.seen device.old)) }
 {
     device.cut(len)?;
@@ -50,9 +58,12 @@ fn cut_and_sync<D: Device>(device: &mut D, len: usize) -> Result<(), DeviceError
 
 /// Cuts the file, and puts a closed gate behind what is left.
 pub(crate) fn seal<D: Device>(device: &mut D, end: usize) -> Result<(), DeviceError>
-    requires { IsTrue D.is_modelled → IsOnDisk D.seen D.may_leave device.old (λ file. end ≤ length file) }
-    ensures sealed { IsTrue D.is_modelled → OnOk result (D.seen device.new ≡ take end (D.seen device.old) ++ 0 ∷ []) }
-    ensures step { IsTrue D.is_modelled → EndsOnDisk D.seen D.may_leave D.moment D.left_since D.faults device.old device.new
+    requires { IsTrue D.is_modelled
+        → IsOnDisk D.seen D.may_leave device.old (λ file. end ≤ length file) }
+    ensures sealed { IsTrue D.is_modelled
+        → OnOk result (D.seen device.new ≡ take end (D.seen device.old) ++ 0 ∷ []) }
+    ensures step { IsTrue D.is_modelled
+        → EndsOnDisk D.seen D.may_leave D.moment D.left_since D.faults device.old device.new
         result DeviceError.Failed (IsPartlySealed end (D.seen device.old)) }
 {
     // The cut has to be on the disk first: behind a gate that is torn open, what was there would count.
