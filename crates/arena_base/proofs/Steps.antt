@@ -196,6 +196,14 @@ get_or-padded [] (suc m) (suc k) d = get_or-padded [] m k d
 get_or-padded (x ∷ xs) m (suc k) d = get_or-padded xs m k d
 get_or-padded xs m k d = refl
 
+-- vacant slots that were added are vacant, and those that are cut off don't matter
+module _ {T G : Type 0} (slots padded : List (Slot T G)) (m : ℕ) (is : padded ≡ slots ++ replicate m Vacant) where
+  pub added-vacant : AllVacantFrom (length slots) padded
+  added-vacant = λ k past. rw is (get_or-padded slots m k Vacant ∙ get_or_past slots k Vacant past)
+
+  pub added-vacant_cut : (n : ℕ) → AllVacantFrom (length slots) (take n padded)
+  added-vacant_cut n = λ k past. grind (arith, get_or-take n padded k Vacant, get_or_past (take n padded) k Vacant, length-take n padded, added-vacant k past)
+
 -- slots are padded to the wanted number
 pub length-padded : {X : Type 0} (n : ℕ) (xs padded : List X) (d : X)
     → padded ≡ xs ++ replicate (n - length xs) d → length xs ≤ n → length padded ≡ n

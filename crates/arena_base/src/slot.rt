@@ -1,5 +1,5 @@
 //! One slot of an arena.
-ghost use Rattle.std.specs.Prelude.{◌≡◌, IsSome, Some};
+ghost use Rattle.std.specs.Prelude.{◌≡◌, is_none, IsSome, Some};
 ghost use Rattle.std.specs.Option.{option_map};
 ghost use Rattle.std.specs.Borrow.{sem, Lends};
 
@@ -19,6 +19,16 @@ const _: () = prove!(size_of::<Slot<u64, u64>>() <= 24);
 impl<T, G> Slot<T, G> {
     ghost use Rattle.arena_base.specs.Slot.{slot_entry, with_slot_item, with_slot_generation};
     ghost use Rattle.arena_base.specs.contracts.slot.Slot.{the_row};
+
+    // Whether there is no entry.
+    pub(crate) fn is_vacant(&self) -> bool
+        ensures { result ≡ is_none (slot_entry self.now) }
+    {
+        match self {
+            Slot::Occupied(_, _) => false,
+            Slot::Vacant => true,
+        }
+    }
 
     // Takes out the entry with its generation.
     pub(crate) fn take(&mut self) -> (G, T)

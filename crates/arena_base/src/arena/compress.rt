@@ -50,7 +50,8 @@ impl<P: BasePtr, T, A: Allocator> Arena<P, T, A> {
     {
         let overflow = self.restart(reset);
         move_down::<P, T, A, M>(&mut self.slots, self.generation, map);
-        list_vacant(self.slots.as_slice(), 0, &mut self.vacant);
+        let fresh = self.slots.len();
+        list_vacant(self.slots.as_slice(), 0, fresh, &mut self.vacant);
         overflow
     }
 

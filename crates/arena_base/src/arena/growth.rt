@@ -1,9 +1,9 @@
 //! New arenas, and changes of the capacity.
-ghost use Rattle.std.specs.Prelude.{◌≡◌, ◌≢◌, ◌+◌, ◌-◌, ◌<◌, ◌≤◌, ◌↔◌, ◌++◌, ◌⊎◌, ℕ, map, max, reverse, take, replicate, length, vec_len, vec_capacity, slice_index_or, IsOk, IsErr, IfOk, OnOk, OnErr, MatchResult};
+ghost use Rattle.std.specs.Prelude.{◌≡◌, ◌≢◌, ◌+◌, ◌-◌, ◌<◌, ◌≤◌, ◌↔◌, ◌++◌, ◌⊎◌, ℕ, map, max, reverse, take, replicate, length, vec_len, vec_capacity, slice_index_or, is_none, IsOk, IsErr, IfOk, OnOk, OnErr, MatchResult};
 ghost use Rattle.arena_base.specs.Arena.{doubled_capacity, IsOccupied, slot, arena_len, arena_capacity, arena_limit, new_arena, with_capacity, cleared, emptied, greatest_occupied};
 ghost use Rattle.arena_base.specs.Generation.{overflows_after};
 ghost use Rattle.arena_base.specs.Invalidation.{is_overflow};
-ghost use Rattle.arena_base.specs.Slot.{vacant_slots, AllVacantFrom};
+ghost use Rattle.arena_base.specs.Slot.{vacant_slots, slot_entry, AllVacantFrom};
 
 use super::Arena;
 use super::get::inx_at;
@@ -174,10 +174,11 @@ impl<P: BasePtr, T, A: Allocator> Arena<P, T, A> {
         ensures err { OnErr result (self.new ≡ self.old) }
     {
         let full = self.full_positions();
+        let fresh = self.slots.len();
         reserve(&mut self.slots, &mut self.vacant, n)?;
         add_vacant(&mut self.slots, n);
         cut_vacant(&mut self.slots, n);
-        list_vacant(self.slots.as_slice(), full, &mut self.vacant);
+        list_vacant(self.slots.as_slice(), full, fresh, &mut self.vacant);
         Ok(())
     }
 }
@@ -216,8 +217,9 @@ pub(super) fn fill_up<T, G, I: BasePtrInx, A: Allocator>(
         ≡ reverse (vacant_slots 1 slots.new.items) }
     ensures capacity { vec_capacity vacant.new ≡ vec_capacity vacant.old }
 {
+    let fresh = slots.len();
     add_vacant(slots, n);
-    list_vacant(slots.as_slice(), 0, vacant);
+    list_vacant(slots.as_slice(), 0, fresh, vacant);
 }
 
 // Adds vacant slots until there are `n`.
@@ -246,22 +248,34 @@ fn cut_vacant<T, G: Copy, A: Allocator>(slots: &mut Vec<Slot<T, G>, A>, n: usize
     }
 }
 
-// Lists the vacant indexes from the last to the first. The first `full` slots are occupied and aren't looked at.
+// Lists the vacant indexes from the last to the first. Only the slots from position `full` up to `fresh` are looked at: those before are
+// occupied, and those behind are vacant.
 pub(super) fn list_vacant<T, G, I: BasePtrInx, A: Allocator>(
     slots: &[Slot<T, G>],
     full: usize,
+    fresh: usize,
     vacant: &mut Vec<I, A>,
 )
     requires room { length slots.now ≤ vec_capacity vacant.old }
     requires named { length slots.now ≤ I.most }
     requires full { (k : ℕ) → k < full → slice_index_or slots.now k Slot.Vacant ≢ Slot.Vacant }
+    requires fresh { AllVacantFrom fresh slots.now }
     ensures items { map I.number vacant.new.items ≡ reverse (vacant_slots 1 slots.now) }
     ensures capacity { vec_capacity vacant.new ≡ vec_capacity vacant.old }
 {
     vacant.clear();
     for position in (full..slots.len()).rev() {
-        if let Slot::Vacant = slots[position] {
+        if is_vacant_at(slots, fresh, position) {
             vacant.push_reserved(inx_at(position));
         }
     }
+}
+
+// Whether the slot at a position is vacant. Those from `fresh` on are, and aren't looked at.
+fn is_vacant_at<T, G>(slots: &[Slot<T, G>], fresh: usize, position: usize) -> bool
+    requires within { position < length slots.now }
+    requires fresh { AllVacantFrom fresh slots.now }
+    ensures { result ≡ is_none (slot_entry (slice_index_or slots.now position Slot.Vacant)) }
+{
+    fresh <= position || slots[position].is_vacant()
 }

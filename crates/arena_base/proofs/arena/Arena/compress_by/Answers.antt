@@ -1,4 +1,4 @@
-use Rattle.arena_base.proofs.Words.{length, arith, common_steps, ◌∙◌, length-map, entry_in}
+use Rattle.arena_base.proofs.Words.{length, arith, get_or_past, Vacant, common_steps, ◌∙◌, length-map, entry_in}
 use Rattle.arena_base.proofs.{Steps.relisted-fresh, Steps.relisted-sound, Compressing.compressed-lawful, Compressing.entries-compressed, Compressing.compressed-after}
 use Rattle.arena_base.proofs.arena.Arena.compress_by.Goals as goal
 
@@ -22,6 +22,10 @@ pub returns-clause-fresh : goal.returns-clause-fresh
 returns-clause-fresh g c =
     let all = rw c.as_slice.ensures.value at c.list_vacant.ensures.items in
     relisted-fresh g.P.Gen.BasePtrGen g.P.Inx.BasePtrInx c.move_down.new.slots.items _ c.self.inside.generation c.self.inside.maximum all
+
+pub list_vacant-requires-clause-fresh : goal.list_vacant-requires-clause-fresh
+list_vacant-requires-clause-fresh g c = λ k past.
+    rw c.as_slice.ensures.value (get_or_past c.move_down.new.slots.items k Vacant (omega (arith, past, c.move_down.new.slots.ok.0, c.len-fresh.ensures)))
 
 pub list_vacant-requires-clause-named : goal.list_vacant-requires-clause-named
 list_vacant-requires-clause-named g c = grind (arith, common_steps)

@@ -1,5 +1,5 @@
 use Rattle.arena_base.proofs.Words.{◌≡◌, suc, ◌+◌, ◌++◌, length, replicate, ◌-◌, refl, arith, ap, ◌∙◌, add-one, length-take, Vacant, common_steps}
-use Rattle.arena_base.proofs.{Steps.resized-cons, Steps.entries-resized, Steps.padded-vacant, Steps.resized-full, Steps.relisted, Steps.relisted-sound, arena.Arena.set_capacity.Goals.After-add_vacant, arena.Arena.set_capacity.Given.Over}
+use Rattle.arena_base.proofs.{Steps.resized-cons, Steps.entries-resized, Steps.padded-vacant, Steps.resized-full, Steps.added-vacant_cut, Steps.relisted, Steps.relisted-sound, arena.Arena.set_capacity.Goals.After-add_vacant, arena.Arena.set_capacity.Given.Over}
 use Rattle.arena_base.proofs.arena.Arena.set_capacity.Goals as goal
 
 -- the slots with vacant ones added
@@ -36,6 +36,11 @@ returns-clause-ok g c =
     let is = entries-resized g.P.Gen.BasePtrGen.number c.args.n c.self.inside.slots.items _ grown _ c.cut_vacant.ensures.items in
     relisted g.P.Gen.BasePtrGen g.P.Inx.BasePtrInx c.cut_vacant.new.slots.items _ c.self.inside.generation c.self.inside.maximum all
     ∙ rw (← c.self.view_is, is, resized-cons) refl
+
+pub list_vacant-requires-clause-fresh : goal.list_vacant-requires-clause-fresh
+list_vacant-requires-clause-fresh g c =
+    let is = padded g (goal.at.list_vacant-requires-clause-fresh g c).After-add_vacant in
+    rw (c.as_slice.ensures.value, c.cut_vacant.ensures.items, c.len-fresh.ensures, c.self.inside.slots.ok.0) (added-vacant_cut c.self.inside.slots.items _ _ is c.args.n)
 
 pub list_vacant-requires-clause-room : goal.list_vacant-requires-clause-room
 list_vacant-requires-clause-room g c = grind (arith, common_steps)

@@ -18,8 +18,5 @@ push_reserved-requires g c =
 pub loop-position-init : goal.loop-position-init
 loop-position-init g c = grind (arith, common_steps)
 
-pub loop-position-preserved-in-Vacant : goal.loop-position-preserved-in-Vacant
-loop-position-preserved-in-Vacant g c = grind (arith, common_steps)
-
 pub loop-position-preserved : goal.loop-position-preserved
 loop-position-preserved g c = grind (arith, common_steps)
