@@ -1,9 +1,9 @@
 -- The steps of a rebuild: opening a run, meeting an entry, ending a run.
-use Rattle.std.proofs.Common.{◌≡◌, ◌≢◌, ℕ, zero, suc, ◌+◌, ◌-◌, ◌*◌, ◌/◌, ◌^◌, ◌<◌, ◌≤◌, inr, ⊎_elim, Option, Some, None, List, [], ◌∷◌, ◌++◌, length, length-append, append_assoc, arith, refl, sym, ◌∙◌, ap, subst, is_some, true, slice_get}
+use Rattle.std.proofs.Common.{◌≡◌, ◌≢◌, ℕ, zero, suc, ◌+◌, ◌-◌, ◌*◌, ◌/◌, ◌^◌, ◌<◌, ◌≤◌, inr, ⊎_elim, Option, Some, None, List, [], ◌∷◌, ◌++◌, length, length-append, append_assoc, arith, refl, sym, ◌∙◌, ap, subst, is_some, true, slice_get, option_map}
 use Rattle.std.proofs.{Math.Nat.mul-le-mul_right, Math.Nat.one-le-pow, Math.Nat.pow-suc, Math.Nat.two-pow-succ, lemmas.Grind.common_steps}
-use Rattle.std.proofs.{lemmas.Bool.cases_lt, lemmas.Bool.eq-eqb, lemmas.Nat.leading_length, lemmas.List.append-nil, Math.Pow.pow_mono}
+use Rattle.std.proofs.{lemmas.Bool.cases_lt, lemmas.Bool.eq-eqb, lemmas.Nat.leading_length, lemmas.Option.none-some, lemmas.List.append-nil, Math.Pow.pow_mono}
 use Rattle.std.specs.Int.Count.{count_leading_zeros}
-use Rattle.ord_tree.specs.Rebuild.{ahead, behind, IsFacing, IsFew, IsPlan, IsMiddle, IsStack, IsUnopened, IsFinished, IsWaiting, IsOpening, IsPassing}
+use Rattle.ord_tree.specs.Rebuild.{ahead, IsFacing, IsFew, IsPlan, IsMiddle, IsStack, IsUnopened, IsFinished, IsWaiting, IsOpening, IsPassing}
 use Rattle.ord_tree.specs.Slots.{Slots, Holds, Way, top, up, plug, here, times, times_in, times_way, IsOnce}
 use Rattle.ord_tree.specs.{declared.tree_links.Side.TheVariants.Lesser, declared.tree_links.Side.TheVariants.Greater, Numbers.IsTop}
 use Rattle.ord_tree.specs.{Shape.Shape, Shape.missing, Shape.node, Shape.fork, Shape.size_of, Shape.walk, Leaf.list_head, Leaf.following}
@@ -40,12 +40,6 @@ size-plug (up side i k far rest) t q h =
     halved (size_of t) (size_of (fork side t i k far)) (2 ^ depth rest) (size_of (plug rest (fork side t i k far))) (2 ^ suc (depth rest)) (pow-suc 2 (depth rest))
     (IsHalf-near side t far i k (q - depth rest) (IsHalf-plug rest (fork side t i k far) q (q - depth rest) refl h)).1
     (size-plug rest (fork side t i k far) q h)
-
--- the nodes before the end of a path and the shape there are part of the whole
-behind-plug : (way : Way) (t : Shape) → behind way + size_of t ≤ size_of (plug way t)
-behind-plug top t = omega arith
-behind-plug (up Lesser i k far rest) t = omega (arith, behind-plug rest (node t i k far))
-behind-plug (up Greater i k far rest) t = omega (arith, behind-plug rest (node far i k t))
 
 below_power : (k l n d : ℕ) → 0 < l → n < 2 ^ d → l * 2 ^ k ≤ n → k < d
 below_power k l n d p s g =
@@ -96,7 +90,7 @@ module _ where
   pub length-stack : (at : Slots) (way : Way) (n : ℕ) (frames : List Frame) → IsStack at way n frames → length frames ≡ depth way
   length-stack at top n frames h = ap length h
   length-stack at (up side i k far rest) n frames h =
-      omega (arith, ap length h.2, length-append h.0 (h.1 ∷ []), length-stack at rest (n + 1 + size_of far) h.0 h.6)
+      omega (arith, ap length h.2, length-append h.0 (h.1 ∷ []), length-stack at rest (n + 1 + size_of far) h.0 h.5)
 
   -- so there are at most as many as the size of the plan has digits
   few-frames : {at : Slots} {q : ℕ} {s : Shape} (frames : List Frame) → IsPlan at q s → (way : Way) (t : Shape) → plug way t ≡ s → IsStack at way (size_of t) frames → IsFew frames s
@@ -118,23 +112,23 @@ module _ where
     pub IsStack-frame : (way : Way) (n : ℕ) (frames : List Frame) → ((j : ℕ) → 0 < times_way j way → new j ≡ old j) → IsStack old way n frames → IsStack new way n frames
     IsStack-frame top n frames same h = h
     IsStack-frame (up side i k far rest) n frames same h =
-        (h.0, h.1, h.2, IsMiddle-frame i k far h.1.middle (λ j inside. same j (omega arith)) side h.3, h.4, h.5, IsStack-frame rest (n + 1 + size_of far) h.0 (λ j inside. same j (omega arith)) h.6)
+        (h.0, h.1, h.2, IsMiddle-frame i k far h.1.middle (λ j inside. same j (omega arith)) side h.3, h.4, IsStack-frame rest (n + 1 + size_of far) h.0 (λ j inside. same j (omega arith)) h.5)
 
   pub sizeless : (s : Shape) → size_of s ≡ 0 → s ≡ missing
   sizeless missing none = refl
   sizeless (node l i k r) none = absurd (omega arith)
 
   -- opening
-  abbrev frame_over : ℕ → ℕ → Frame
-  frame_over start len = record { start = start; len = len; middle = None }
+  abbrev frame_over : ℕ → Frame
+  frame_over len = record { len = len; middle = None }
 
   module _ {at : Slots} {q : ℕ} {s : Shape} (plan : IsPlan at q s) {todo : List ℕ} where
-    module _ {frames : List Frame} {start len : ℕ} (u : IsUnopened at frames s start len todo) where
+    module _ {frames : List Frame} {len : ℕ} (u : IsUnopened at frames s len todo) where
       -- one frame more
-      pub opened-more : 0 < len → (length frames < 64) × IsOpening at (frames ++ frame_over start len ∷ []) s start (len / 2) todo
+      pub opened-more : 0 < len → (length frames < 64) × IsOpening at (frames ++ frame_over len ∷ []) s (len / 2) todo
       opened-more some = go u.run refl
         where
-          go : (run : Shape) → u.run ≡ run → (length frames < 64) × IsOpening at (frames ++ frame_over start len ∷ []) s start (len / 2) todo
+          go : (run : Shape) → u.run ≡ run → (length frames < 64) × IsOpening at (frames ++ frame_over len ∷ []) s (len / 2) todo
           go missing is = absurd (omega (arith, some, u.size, ap size_of is))
           go (node l i k r) is =
               let whole = rw is at u.whole in
@@ -148,9 +142,8 @@ module _ where
                     way = up Lesser i k r u.way;
                     run = l;
                     whole = whole;
-                    stack = (frames, frame_over start len, refl, refl, size, u.position, stack);
+                    stack = (frames, frame_over len, refl, refl, size, stack);
                     size = omega (arith, half.0, size);
-                    position = u.position;
                     todo_is = sym (append_assoc (walk l) (i ∷ walk r) (ahead u.way)) ∙ rw is at u.todo_is;
                   };
                   facing = inr tt;
@@ -163,8 +156,8 @@ module _ where
           let is : u.run ≡ missing = sizeless u.run (omega (arith, none, u.size)) in
           record { way = u.way; done = missing; whole = rw is at u.whole; stack = rw is at u.stack; held = refl; todo_is = rw is at u.todo_is }
 
-    pub IsWaiting-opened : {frames : List Frame} {start len : ℕ} → IsOpening at frames s start len todo → len ≡ 0 → IsWaiting at frames s None todo
-    IsWaiting-opened {frames} {start} {len} o none =
+    pub IsWaiting-opened : {frames : List Frame} {len : ℕ} → IsOpening at frames s len todo → len ≡ 0 → IsWaiting at frames s None todo
+    IsWaiting-opened {frames} {len} o none =
         ⊎_elim (λ some. absurd (omega (arith, some, none))) (λ facing. record { finished = IsFinished-empty o.unopened none; facing = facing }) o.facing
 
   -- the run whose middle is met next
@@ -176,7 +169,6 @@ module _ where
     pub whole : plug rest (node l x k r) ≡ s
     pub stack : IsStack at rest (size_of l + 1 + size_of r) below
     pub len : f.len ≡ size_of l + 1 + size_of r
-    pub start : f.start ≡ behind rest
     pub held : Holds at None link l
     pub todo_is : walk r ++ ahead rest ≡ todo
 
@@ -199,9 +191,8 @@ module _ where
               k = k;
               r = far;
               whole = subst P first whole;
-              stack = subst Q same.0 stack.6;
+              stack = subst Q same.0 stack.5;
               len = ap (λ (f : Frame). f.len) (sym same.1) ∙ stack.4;
-              start = ap (λ (f : Frame). f.start) (sym same.1) ∙ stack.5;
               held = held;
               todo_is = tail;
             }
@@ -210,8 +201,8 @@ module _ where
     pub next-room : length below < 64
     next-room = omega (arith, length-stack at next.rest (size_of next.l + 1 + size_of next.r) below next.stack, few-steps next.rest (node next.l x next.k next.r) plan next.whole (omega arith) 64 plan.few)
 
-    pub next-fits : (0 < f.len) × (f.start + f.len < 2 ^ 64)
-    next-fits = (omega (arith, next.len), omega (arith, next.start, next.len, plan.few, behind-plug next.rest (node next.l x next.k next.r), ap size_of next.whole))
+    pub next-some : 0 < f.len
+    next-some = omega (arith, next.len)
 
     pub next-there : is_some (at x) ≡ true
     next-there = within next.rest (node next.l x next.k next.r) plan next.whole x (omega (arith, here-same x))
@@ -240,14 +231,17 @@ module _ where
       not_hung j none e = omega (arith, in_l j e)
 
       abbrev pub met_frame : Frame
-      met_frame = record { start = f.start; len = f.len; middle = Some x }
+      met_frame = record { len = f.len; middle = Some x }
 
       rank_met : rank ≡ next.k
       rank_met =
           let steps = length-stack at next.rest (size_of next.l + 1 + size_of next.r) below next.stack in
           rank_is ∙ ap (λ n. half_rank n (q - length below)) next.len ∙ ap (λ d. half_rank (size_of next.l + 1 + size_of next.r) (q - d)) steps ∙ sym half.1
 
-      pub IsUnopened-met : IsUnopened new (below ++ met_frame ∷ []) s (f.start + f.len / 2 + 1) (f.len - f.len / 2 - 1) todo
+      pub bare-met : new x ≡ Some (record { back = None; lesser = link; greater = None; rank = rank })
+      bare-met = but_hung x (not_hung x (omega (arith, alone x, here-same x))) ∙ here_is
+
+      pub IsUnopened-met : IsUnopened new (below ++ met_frame ∷ []) s (f.len - f.len / 2 - 1) todo
       IsUnopened-met =
           let P : ℕ → Type 0 = λ n. IsStack new next.rest n below in
           let turned : size_of next.l + 1 + size_of next.r ≡ size_of next.r + 1 + size_of next.l = omega arith in
@@ -262,18 +256,16 @@ module _ where
               (
                 refl,
                 record { back = None; lesser = link; greater = None; rank = rank },
-                but_hung x (not_hung x (omega (arith, alone x, here-same x))) ∙ here_is,
+                bare-met,
                 refl,
                 rank_met,
                 Holds-rehung written new None (Some x) link hung next.l (λ j other inside. but_hung j other) (λ j. omega (arith, alone j))
                     (Holds-frame at written next.l None link (λ j inside. but_x j (not_x j (omega arith))) next.held),
               ),
               omega (arith, next.len),
-              next.start,
               subst P turned (IsStack-frame at new next.rest (size_of next.l + 1 + size_of next.r) below (λ j inside. but_hung j (not_hung j (omega (arith, alone j))) ∙ but_x j (not_x j (omega arith))) next.stack),
             );
             size = omega (arith, next.len, half.0);
-            position = omega (arith, next.start, half.0);
             todo_is = next.todo_is;
           }
 
@@ -327,7 +319,7 @@ module _ where
               r = done;
               n = stack.3.1;
               whole = whole;
-              stack = subst Q turned (subst P same.0 stack.6);
+              stack = subst Q turned (subst P same.0 stack.5);
               found = stack.3.2;
               back = stack.3.3;
               rank = stack.3.4;
@@ -380,6 +372,16 @@ module _ where
           todo_is = ending.todo_is;
         }
 
+-- an entry that is met is finished, if it has no greater side
+module _ {at : Slots} {q : ℕ} {s : Shape} (plan : IsPlan at q s) {below : List Frame} (f : Frame) {x len : ℕ} {todo : List ℕ} (met : IsUnopened at (below ++ f ∷ []) s len todo) where
+  pub IsFinished-met : f.middle ≡ Some x → option_map (λ (n : TreeLinks ℕ). n.greater) (at x) ≡ Some None → len ≡ 0 → IsFinished at below s (Some x) todo
+  IsFinished-met middle bare none =
+      let finished = IsFinished-empty plan met none in
+      let same : (n : TreeLinks ℕ) → at x ≡ Some n → at x ≡ Some (record n { greater = None }) = λ n is.
+      let none_there : n.greater ≡ None = grind (arith, is, bare) in
+      subst (λ (link : Option ℕ). at x ≡ Some (record n { greater = link })) none_there is in
+      IsFinished-ended plan finished (ending-run plan finished below f x refl middle) at at same (λ j other. refl) (λ i n e is. absurd (none-some i e)) (λ j other. refl)
+
 -- the plan stays if no node is removed
 pub IsPlan-kept : {old new : Slots} {q : ℕ} {s : Shape} → ((j : ℕ) → is_some (new j) ≡ is_some (old j)) → IsPlan old q s → IsPlan new q s
 IsPlan-kept same plan = record { half = plan.half; few = plan.few; once = plan.once; there = λ j some. same j ∙ plan.there j some }
@@ -428,11 +430,11 @@ module _ (at : Slots) (order : List ℕ) (n top_rank : ℕ) (len : n ≡ length 
 
 module _ {at : Slots} {s : Shape} {order : List ℕ} where
   -- at the start no run is open
-  pub IsOpening-start : (walk s ≡ order) → (n : ℕ) → n ≡ length order → (frames : List Frame) → frames ≡ [] → IsOpening at frames s 0 n order
+  pub IsOpening-start : (walk s ≡ order) → (n : ℕ) → n ≡ length order → (frames : List Frame) → frames ≡ [] → IsOpening at frames s n order
   IsOpening-start walked n len frames none =
       let size : n ≡ size_of s = omega (arith, len, size_of-walk s, ap length walked) in
       record {
-        unopened = record { way = top; run = s; whole = refl; stack = none; size = size; position = refl; todo_is = append-nil (walk s) ∙ walked };
+        unopened = record { way = top; run = s; whole = refl; stack = none; size = size; todo_is = append-nil (walk s) ∙ walked };
         facing = inr tt;
       }
 

@@ -11,12 +11,6 @@ ahead top = []
 ahead (up Lesser i k far rest) = i ∷ walk far ++ ahead rest
 ahead (up Greater i k far rest) = ahead rest
 
--- the number of nodes before the end of a path, in order
-abbrev pub behind : Way → ℕ
-behind top = 0
-behind (up Lesser i k far rest) = behind rest
-behind (up Greater i k far rest) = behind rest + size_of far + 1
-
 -- the path doesn't end on a greater side
 abbrev pub IsFacing : Way → Type 0
 IsFacing top = Unit {0}
@@ -47,16 +41,15 @@ module _ (at : Slots) where
   IsStack top n frames = frames ≡ []
   IsStack (up side i k far rest) n frames =
       (below : List Frame) × (f : Frame) × (frames ≡ below ++ f ∷ []) × IsMiddle side i k far f.middle
-      × (f.len ≡ n + 1 + size_of far) × (f.start ≡ behind rest) × IsStack rest (n + 1 + size_of far) below
+      × (f.len ≡ n + 1 + size_of far) × IsStack rest (n + 1 + size_of far) below
 
--- at the end of the path is a run, from this position on, that no frame and no link refers to yet
-pub record IsUnopened (at : Slots) (frames : List Frame) (s : Shape) (start len : ℕ) (todo : List ℕ) : Type 0 where
+-- at the end of the path is a run that no frame and no link refers to yet
+pub record IsUnopened (at : Slots) (frames : List Frame) (s : Shape) (len : ℕ) (todo : List ℕ) : Type 0 where
   pub way : Way
   pub run : Shape
   pub whole : plug way run ≡ s
   pub stack : IsStack at way (size_of run) frames
   pub size : len ≡ size_of run
-  pub position : start ≡ behind way
   pub todo_is : walk run ++ ahead way ≡ todo
 
 -- the part at the end of the path is finished, and its root is the link
@@ -74,8 +67,8 @@ pub record IsWaiting (at : Slots) (frames : List Frame) (s : Shape) (link : Opti
   pub facing : IsFacing finished.way
 
 -- the run is unopened; if it is empty, the innermost run waits for its middle
-pub record IsOpening (at : Slots) (frames : List Frame) (s : Shape) (start len : ℕ) (todo : List ℕ) : Type 0 where
-  pub unopened : IsUnopened at frames s start len todo
+pub record IsOpening (at : Slots) (frames : List Frame) (s : Shape) (len : ℕ) (todo : List ℕ) : Type 0 where
+  pub unopened : IsUnopened at frames s len todo
   pub facing : (0 < len) ⊎ IsFacing unopened.way
 
 -- the first `position` entries of the list are met, and the target is the next one

@@ -1,6 +1,6 @@
 //! Rebuilding the tree in one pass along the list, with a stack of the open runs.
 
-ghost use Rattle.std.specs.Prelude.{◌≡◌, ℕ, ◌<◌, ◌≤◌, None, Some, List, [], ◌∷◌, ◌++◌, option_map, length, IsSome, MatchOption};
+ghost use Rattle.std.specs.Prelude.{◌≡◌, ℕ, ◌-◌, ◌/◌, ◌<◌, ◌≤◌, None, Some, List, [], ◌∷◌, ◌++◌, option_map, length, IsSome, MatchOption};
 ghost use Rattle.arrayvec.specs.ArrayVec.{array_vec_len};
 ghost use Rattle.ord_tree.specs.Shape.{Shape, walk};
 ghost use Rattle.ord_tree.specs.Slots.{Slots, Holds, times, IsOnce};
@@ -16,8 +16,6 @@ use arrayvec::ArrayVec;
 /// A run of consecutive entries over which a tree is being built. Its middle entry becomes the root.
 #[derive(Clone, Copy, Debug, Default)]
 pub struct Frame {
-    /// The position of its first entry, counted from 0.
-    pub start: usize,
     /// The number of its entries.
     pub len: usize,
     /// The number of its middle entry, once the pass has met that entry.
@@ -58,35 +56,36 @@ pub fn top_rank(len: usize) -> u8
 }
 
 /// Opens a run: pushes it onto the stack, then its lesser half, and so on down to a run of one entry, which is met next.
-pub fn open(stack: &mut Stack, start: usize, len: usize)
+pub fn open(stack: &mut Stack, len: usize)
     requires { (at : Slots) × (s : Shape) × (top : ℕ) × (todo : List ℕ) × IsPlan at top s
-        × IsOpening at stack.old.items s start len todo }
+        × IsOpening at stack.old.items s len todo }
     ensures opened { (at : Slots) (s : Shape) (top : ℕ) (todo : List ℕ) → IsPlan at top s
-        → IsOpening at stack.old.items s start len todo → IsWaiting at stack.new.items s None todo }
+        → IsOpening at stack.old.items s len todo → IsWaiting at stack.new.items s None todo }
     ensures few { (at : Slots) (s : Shape) (top : ℕ) (todo : List ℕ) → IsPlan at top s
-        → IsOpening at stack.old.items s start len todo → IsFew stack.new.items s }
+        → IsOpening at stack.old.items s len todo → IsFew stack.new.items s }
 {
     let mut rest = len;
     while rest > 0 {
-        let frame = Frame {
-            start,
-            len: rest,
-            middle: None,
-        };
-        put(stack, frame);
+        put(
+            stack,
+            Frame {
+                len: rest,
+                middle: None,
+            },
+        );
         rest /= 2;
     }
 }
 
-/// Meets the middle entry of the innermost run, whose lesser side is finished and has the root `lesser`. Returns the start and the length
-/// of the greater side.
+/// Meets the middle entry of the innermost run, whose lesser side is finished and has the root `lesser`. Takes the run's frame off the
+/// stack, and returns it with that entry as its middle.
 pub fn meet<N: Nodes>(
     nodes: &mut N,
     stack: &mut Stack,
     top: u8,
     x: N::Inx,
     lesser: Option<N::Inx>,
-) -> (usize, usize)
+) -> Frame
     requires { (s : Shape) × (todo : List ℕ) × IsPlan (N.at nodes.old) top s
         × IsWaiting (N.at nodes.old) stack.old.items s
         (option_map N.number lesser) (N.number x ∷ todo) }
@@ -94,8 +93,13 @@ pub fn meet<N: Nodes>(
     ensures met { (s : Shape) (todo : List ℕ) → IsPlan (N.at nodes.old) top s
         → IsWaiting (N.at nodes.old) stack.old.items s
         (option_map N.number lesser) (N.number x ∷ todo)
-        → IsUnopened (N.at nodes.new) stack.new.items s (result.0) (result.1) todo }
-    ensures few { array_vec_len stack.new ≡ array_vec_len stack.old }
+        → IsUnopened (N.at nodes.new) (stack.new.items ++ result ∷ []) s
+        (result.len - result.len / 2 - 1) todo }
+    ensures middle { result.middle ≡ Some (N.number x) }
+    ensures bare { option_map (λ n. n.greater) (N.at nodes.new (N.number x)) ≡ Some None }
+    ensures some { 0 < result.len }
+    ensures fewer { array_vec_len stack.new < array_vec_len stack.old }
+    ensures room { array_vec_len stack.new < 64 }
     ensures kept { N.list nodes.new ≡ N.list nodes.old }
 {
     let frame = stack.pop().unwrap();
@@ -110,13 +114,10 @@ pub fn meet<N: Nodes>(
         },
     );
     hang(nodes, lesser, Some(x));
-    let met = Frame {
+    Frame {
         middle: Some(nodes.number_of(x)),
         ..frame
-    };
-    put(stack, met);
-    let half = frame.len / 2;
-    (frame.start + half + 1, frame.len - half - 1)
+    }
 }
 
 /// Ends the innermost run, whose middle was met and whose greater side is finished and has the root `greater`. Returns the middle.
@@ -146,19 +147,20 @@ pub fn close_one<N: Nodes>(
     Some(middle)
 }
 
-/// Ends each finished run, from the innermost on. Returns the root of the next entry's lesser side, or the tree's root.
-pub fn close<N: Nodes>(nodes: &mut N, stack: &mut Stack) -> Option<N::Inx>
+/// Ends each finished run, from the innermost on, whose greater side has the root `greater`. Returns the root of the next entry's lesser
+/// side, or the tree's root.
+pub fn close<N: Nodes>(nodes: &mut N, stack: &mut Stack, greater: Option<N::Inx>) -> Option<N::Inx>
     requires { (s : Shape) × (top : ℕ) × (todo : List ℕ) × IsPlan (N.at nodes.old) top s
-        × IsFinished (N.at nodes.old) stack.old.items s None todo }
+        × IsFinished (N.at nodes.old) stack.old.items s (option_map N.number greater) todo }
     ensures plan { (s : Shape) (top : ℕ) → IsPlan (N.at nodes.old) top s
         → IsPlan (N.at nodes.new) top s }
     ensures closed { (s : Shape) (top : ℕ) (todo : List ℕ) → IsPlan (N.at nodes.old) top s
-        → IsFinished (N.at nodes.old) stack.old.items s None todo
+        → IsFinished (N.at nodes.old) stack.old.items s (option_map N.number greater) todo
         → IsWaiting (N.at nodes.new) stack.new.items s (option_map N.number result) todo }
     ensures few { array_vec_len stack.new ≤ array_vec_len stack.old }
     ensures kept { N.list nodes.new ≡ N.list nodes.old }
 {
-    let mut finished = None;
+    let mut finished = greater;
     while let Some(middle) = close_one(nodes, stack, finished) {
         finished = Some(middle);
     }
@@ -187,12 +189,15 @@ pub fn pass<N: Nodes>(
         → IsFew stack.new.items s }
     ensures kept { N.list nodes.new ≡ N.list nodes.old }
 {
-    let (start, len) = meet(nodes, stack, top, x, lesser);
-    if len > 0 {
-        open(stack, start, len);
-        return None;
+    let met = meet(nodes, stack, top, x, lesser);
+    let rest = met.len - met.len / 2 - 1;
+    if rest == 0 {
+        // It has no greater side, so its frame isn't put back.
+        return close(nodes, stack, Some(x));
     }
-    close(nodes, stack)
+    put(stack, met);
+    open(stack, rest);
+    None
 }
 
 /// Rebuilds the tree over the list, whatever the links are, and returns the root.
@@ -209,7 +214,7 @@ pub fn rebuild<N: Nodes>(nodes: &mut N, len: usize) -> Option<N::Inx>
 {
     let top = top_rank(len);
     let mut stack = ArrayVec::new();
-    open(&mut stack, 0, len);
+    open(&mut stack, len);
     let mut finished = None;
     let mut target = nodes.first();
     for _ in 0..len {

@@ -1,4 +1,4 @@
-use Rattle.std.proofs.Common.{◌≡◌, ◌≤◌, ℕ, None, List, option_map, length}
+use Rattle.std.proofs.Common.{◌≡◌, ◌≤◌, ℕ, List, option_map, length}
 use Rattle.ord_tree.specs.{Rebuild.IsPlan, Rebuild.IsFinished, Shape.Shape}
 use Rattle.ord_tree.proofs.rebuild.close.Given as goal
 
@@ -10,7 +10,7 @@ invariant-loop-middle g l =
     let number = g.N.Nodes.number in
     record {
       plan : (s : Shape) (top : ℕ) → IsPlan was top s → IsPlan now top s;
-      finished : (s : Shape) (top : ℕ) (todo : List ℕ) → IsPlan was top s → IsFinished was l.fn.stack.items s None todo
+      finished : (s : Shape) (top : ℕ) (todo : List ℕ) → IsPlan was top s → IsFinished was l.fn.stack.items s (option_map number l.fn.greater) todo
           → IsFinished now l.stack.items s (option_map number l.finished) todo;
       few : length l.stack.items ≤ length l.fn.stack.items;
       kept : g.N.Nodes.list l.nodes ≡ g.N.Nodes.list l.fn.nodes;

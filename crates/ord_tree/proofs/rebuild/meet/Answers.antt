@@ -1,6 +1,7 @@
-use Rattle.std.proofs.Common.{ℕ, ◌-◌, arith, ◌∙◌, ap}
+use Rattle.std.proofs.Common.{ℕ, Some, ◌-◌, arith, ◌∙◌, ap, option_map, length, length-append, [], ◌∷◌}
 use Rattle.ord_tree.specs.Half.{half_rank}
-use Rattle.ord_tree.proofs.Rebuilding.{next-run, next-room, next-fits, next-there, next-link-there, IsUnopened-met}
+use Rattle.ord_tree.specs.declared.tree_links.TreeLinks.{TreeLinks}
+use Rattle.ord_tree.proofs.Rebuilding.{next-run, next-room, next-some, next-there, next-link-there, bare-met, IsUnopened-met}
 use Rattle.ord_tree.proofs.rebuild.meet.Goals as goal
 
 pub set_links-requires : goal.set_links-requires
@@ -18,26 +19,38 @@ number_of-requires g c =
     let popped = rw c.unwrap-frame.ensures at c.pop.ensures.items in
     c.hang.ensures.occupied _ ∙ c.set_links.ensures.occupied _ ∙ next-there (next-run c.requires.2 c.requires.3 _ _ popped)
 
-pub put-requires : goal.put-requires
-put-requires g c =
-    let popped = rw c.unwrap-frame.ensures at c.pop.ensures.items in
-    record { not_full = next-room (next-run c.requires.2 c.requires.3 _ _ popped) }
-
 pub returns-clause-met : goal.returns-clause-met
 returns-clause-met g c = λ s todo plan ready.
     let at = g.N.Nodes.at in
     let popped = rw c.unwrap-frame.ensures at c.pop.ensures.items in
     let rank_is = c.rank_over-rank.ensures ∙ ap (half_rank c.unwrap-frame.result.len) (c.saturating_sub.ensures ∙ ap (λ (d : ℕ). c.args.top - d) c.len.ensures.value) in
-    rw (c.put.ensures, c.number_of.ensures)
+    rw c.number_of.ensures
     (IsUnopened-met (next-run plan ready _ _ popped) (at c.set_links.new.self) (at c.hang.new.nodes) c.rank_over-rank.result rank_is
     c.set_links.ensures.here c.set_links.ensures.elsewhere c.hang.ensures.here c.hang.ensures.elsewhere)
 
-pub overflow_add-result : goal.overflow_add-result
-overflow_add-result g c =
-    let popped = rw c.unwrap-frame.ensures at c.pop.ensures.items in
-    omega (arith, next-fits (next-run c.requires.2 c.requires.3 _ _ popped))
+pub returns-clause-middle : goal.returns-clause-middle
+returns-clause-middle g c = ap Some c.number_of.ensures
 
-pub overflow_add-result-2 : goal.overflow_add-result-2
-overflow_add-result-2 g c =
+pub returns-clause-bare : goal.returns-clause-bare
+returns-clause-bare g c =
+    let at = g.N.Nodes.at in
     let popped = rw c.unwrap-frame.ensures at c.pop.ensures.items in
-    omega (arith, next-fits (next-run c.requires.2 c.requires.3 _ _ popped))
+    let rank_is = c.rank_over-rank.ensures ∙ ap (half_rank c.unwrap-frame.result.len) (c.saturating_sub.ensures ∙ ap (λ (d : ℕ). c.args.top - d) c.len.ensures.value) in
+    ap (option_map (λ (n : TreeLinks ℕ). n.greater))
+    (bare-met (next-run c.requires.2 c.requires.3 _ _ popped) (at c.set_links.new.self) (at c.hang.new.nodes) c.rank_over-rank.result rank_is
+    c.set_links.ensures.here c.set_links.ensures.elsewhere c.hang.ensures.here c.hang.ensures.elsewhere)
+
+pub returns-clause-some : goal.returns-clause-some
+returns-clause-some g c =
+    let popped = rw c.unwrap-frame.ensures at c.pop.ensures.items in
+    next-some (next-run c.requires.2 c.requires.3 _ _ popped)
+
+pub returns-clause-fewer : goal.returns-clause-fewer
+returns-clause-fewer g c =
+    let popped = rw c.unwrap-frame.ensures at c.pop.ensures.items in
+    omega (arith, ap length popped, length-append c.pop.new.self.items (c.unwrap-frame.result ∷ []))
+
+pub returns-clause-room : goal.returns-clause-room
+returns-clause-room g c =
+    let popped = rw c.unwrap-frame.ensures at c.pop.ensures.items in
+    next-room (next-run c.requires.2 c.requires.3 _ _ popped)
