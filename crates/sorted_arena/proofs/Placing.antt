@@ -1,9 +1,14 @@
 -- Iterators over lists whose entries have the indexes from 1 on.
-use Rattle.std.proofs.Common.{◌≡◌, ◌≢◌, Bool, true, false, ℕ, zero, suc, ◌+◌, ◌-◌, ◌<◌, ◌≤◌, List, [], ◌∷◌, ◌++◌, length, length-append, append_assoc, slice_get, take, drop, Option, Some, None, refl, sym, ap, subst, ◌∙◌, arith}
+use Rattle.std.proofs.Common.{◌≡◌, ◌≢◌, Bool, true, false, ℕ, zero, suc, ◌+◌, ◌-◌, ◌<◌, ◌≤◌, List, [], ◌∷◌, ◌++◌, length, length-append, append_assoc, slice_get, take, drop, Option, Some, None, is_some, refl, sym, ap, subst, ◌∙◌, arith}
 use Rattle.std.specs.{Option.option_map, Iterator.YieldsFirstBy, Iterator.YieldsLastBy}
 use Rattle.triple_ord.specs.Chain.{Entry, entry_at}
 use Rattle.sorted_arena.specs.{Layout.AreNumbered, Place.position_of, Place.left_at, Place.IsPlace, Stretch.stretch, Stretch.first_index, Stretch.IsStretch}
 use Rattle.sorted_arena.proofs.{Numbering.position-cut, Numbering.found-numbered, Numbering.run-first, Numbering.run-last, Numbering.run-between, Stretching.stretch-middle}
+
+-- a value that can't be none is there
+pub some-unless : {A B : Type 0} (f : A → B) (r : Option A) (x : Option B) → option_map f r ≡ x → (None ≡ x → ⊥) → is_some r ≡ true
+some-unless f None x is never = absurd (never is)
+some-unless f (Some a) x is never = refl
 
 module _ {T : Type 0} where
   -- a stretch by positions

@@ -1,5 +1,5 @@
 //! `Range`: entries in order, from both ends.
-ghost use Rattle.std.specs.Prelude.{◌≡◌, ◌<◌, ◌^◌, true, false, length, slice_get};
+ghost use Rattle.std.specs.Prelude.{◌≡◌, ◌<◌, ◌^◌, true, false, Some, length, slice_get};
 ghost use Rattle.std.specs.Iterator.{YieldsFirstBy, YieldsLastBy, item_count};
 ghost use Rattle.std.specs.{Option.option_map, Option.option_and_then, Range.Bound.bound_map};
 ghost use Rattle.std.specs.BTreeMap.Range.{is_from_start, is_past_end};
@@ -64,13 +64,13 @@ impl<'a, K: Ord, V, P: BasePtr, A: Allocator> Iterator for Range<'a, K, V, P, A>
             let position = self.from;
             self.from = position + 1;
             self.left -= 1;
-            return entry_at(self.pairs, position);
+            return Some(entry_at(self.pairs, position));
         }
         if are_same::<P>(self.first, self.end) {
             return None;
         }
         let i = self.first?;
-        let entry = self.pairs.get_inx_link_no_gen(i)?;
+        let entry = self.pairs.get_inx_link_no_gen(i).unwrap();
         let link = entry.1;
         self.first = link.next();
         let (k, v) = link.t.k_v();
@@ -89,13 +89,13 @@ impl<'a, K: Ord, V, P: BasePtr, A: Allocator> DoubleEndedIterator for Range<'a, 
             // For the prover: the list is sound.
             let _ = self.pairs.len();
             self.left -= 1;
-            return entry_at(self.pairs, self.from + self.left);
+            return Some(entry_at(self.pairs, self.from + self.left));
         }
         if are_same::<P>(self.first, self.end) {
             return None;
         }
         let i = last_before(self.pairs, self.end)?;
-        let entry = self.pairs.get_inx(i)?;
+        let entry = self.pairs.get_inx(i).unwrap();
         self.end = Some(i);
         let (k, v) = entry.1.k_v();
         Some((P::_from_raw(i, entry.0), k, v))
@@ -107,17 +107,18 @@ impl<'a, K: Ord, V, P: BasePtr, A: Allocator> DoubleEndedIterator for Range<'a, 
 fn entry_at<'a, K: Ord, V, P: BasePtr, A: Allocator>(
     pairs: &'a Pairs<K, V, P, A>,
     position: usize,
-) -> Option<(P, &'a K, &'a V)>
+) -> (P, &'a K, &'a V)
     requires numbered { AreNumbered 1 pairs.now.list.entries }
     requires within { position < length pairs.now.list.entries }
-    ensures { option_map (shown_entry P.numbers) result ≡ slice_get pairs.now.list.entries position }
+    ensures { slice_get pairs.now.list.entries position ≡ Some (shown_entry P.numbers result) }
 {
     // For the prover: the list is sound.
     let _ = pairs.len();
-    let i = P::Inx::try_from_usize(position + 1)?;
-    let entry = pairs.get_inx(i)?;
+    // It is proved that these are there, so neither is checked when it runs.
+    let i = P::Inx::try_from_usize(position + 1).unwrap();
+    let entry = pairs.get_inx(i).unwrap();
     let (k, v) = entry.1.k_v();
-    Some((P::_from_raw(i, entry.0), k, v))
+    (P::_from_raw(i, entry.0), k, v)
 }
 
 // The position of the entry at `p` in an arena of `count` entries whose i-th entry has index i; `count`, if there is no pointer.

@@ -1,8 +1,9 @@
-use Rattle.std.proofs.Common.{◌≡◌, ◌+◌, ◌-◌, [], length, sym, ap, arith, ◌∙◌, Bor}
+use Rattle.std.proofs.Common.{◌≡◌, ◌+◌, ◌-◌, Some, [], length, sym, ap, arith, ◌∙◌, Bor}
 use Rattle.std.specs.Option.{option_map}
+use Rattle.sorted_arena.specs.Range.{shown_entry}
 use Rattle.triple_ord.specs.Link.{Link}
 use Rattle.sorted_arena.proofs.Stretching.{stretch-same, first-linked, steps-first, StepsFirst}
-use Rattle.sorted_arena.proofs.Placing.{left-linked, place-linked, linked-place, left-numbered, place-numbered, yields-front}
+use Rattle.sorted_arena.proofs.Placing.{left-linked, place-linked, linked-place, left-numbered, place-numbered, yields-front, some-unless}
 use Rattle.sorted_arena.proofs.range.RangeIterator.next.Goals as goal
 
 pub returns-then-are_same-clause-steps : goal.returns-then-are_same-clause-steps
@@ -11,21 +12,21 @@ returns-then-are_same-clause-steps g c =
     let none : c.args.self.now ≡ [] = sym c.self.view_is ∙ seen ∙ stretch-same c.self.inside.pairs.now.list.entries _ _ (c.are_same.ensures.same c.if-are_same.true) in
     (none, none)
 
-pub returns-in_err-entry-clause-steps : goal.returns-in_err-entry-clause-steps
-returns-in_err-entry-clause-steps g c =
+pub unwrap-entry-requires : goal.unwrap-entry-requires
+unwrap-entry-requires g c =
     let stands = place-linked c.self.inside.pairs.now.list.entries c.self.inside.is_numbered (option_map g.P.Inx.BasePtrInx.number c.self.inside.first) (option_map g.P.Inx.BasePtrInx.number c.self.inside.end) c.self.inside.from c.self.inside.left c.if-self.false c.self.invariant in
-    absurd (first-linked c.self.inside.pairs.now.list.entries _ _ stands (c.are_same.ensures.apart c.if-are_same.false) (g.P.Inx.BasePtrInx.number c.in_ok-i.i) (ap (option_map g.P.Inx.BasePtrInx.number) c.in_ok-i.was) c.in_err-entry.ensures)
+    some-unless _ _ _ c.get_inx_link_no_gen.ensures (first-linked c.self.inside.pairs.now.list.entries _ _ stands (c.are_same.ensures.apart c.if-are_same.false) (g.P.Inx.BasePtrInx.number c.in_ok-i.i) (ap (option_map g.P.Inx.BasePtrInx.number) c.in_ok-i.was))
 
 -- the step
 stepped : (g : _) (c : goal.After-_from_raw g) → StepsFirst c.self.inside.pairs.now.list.entries (option_map g.P.Inx.BasePtrInx.number c.self.inside.first) (option_map g.P.Inx.BasePtrInx.number c.self.inside.end)
-    (record { index = g.P.Inx.BasePtrInx.number c.in_ok-i.i; generation = g.P.Gen.BasePtrGen.number c.in_ok-entry.entry.0; item = (c.k_v.result.0.now, c.k_v.result.1.now) })
-    c.in_ok-entry.entry.1.next
+    (record { index = g.P.Inx.BasePtrInx.number c.in_ok-i.i; generation = g.P.Gen.BasePtrGen.number c.unwrap-entry.result.0; item = (c.k_v.result.0.now, c.k_v.result.1.now) })
+    c.unwrap-entry.result.1.next
 stepped g c =
     let stands = place-linked c.self.inside.pairs.now.list.entries c.self.inside.is_numbered (option_map g.P.Inx.BasePtrInx.number c.self.inside.first) (option_map g.P.Inx.BasePtrInx.number c.self.inside.end) c.self.inside.from c.self.inside.left c.if-self.false c.self.invariant in
     let item = ap (λ (l : Link (Bor (g.row.K.Denot × g.row.V.Denot))). l.item.now) c.link.view_is in
     let parts = ap (λ (k : g.row.K.Denot). (k, c.k_v.result.1.now)) c.k_v.ensures.key ∙ ap (λ (v : g.row.V.Denot). (c.link.inside.t.now.0, v)) c.k_v.ensures.value in
     steps-first c.self.inside.pairs.now.list.entries _ _ stands (c.are_same.ensures.apart c.if-are_same.false) (g.P.Inx.BasePtrInx.number c.in_ok-i.i)
-    (ap (option_map g.P.Inx.BasePtrInx.number) c.in_ok-i.was) (g.P.Gen.BasePtrGen.number c.in_ok-entry.entry.0) (c.k_v.result.0.now, c.k_v.result.1.now) _ c.in_ok-entry.ensures
+    (ap (option_map g.P.Inx.BasePtrInx.number) c.in_ok-i.was) (g.P.Gen.BasePtrGen.number c.unwrap-entry.result.0) (c.k_v.result.0.now, c.k_v.result.1.now) _ (ap (option_map _) (sym c.unwrap-entry.ensures) ∙ c.get_inx_link_no_gen.ensures)
     (sym item ∙ sym parts)
 
 pub invariant_of-self-2 : goal.invariant_of-self-2
@@ -47,4 +48,4 @@ returns-then-self-clause-steps g c =
     let is = sym c.self.view_is ∙ left-numbered c.self.inside.pairs.now.list.entries c.self.inside.is_numbered (option_map g.P.Inx.BasePtrInx.number c.self.inside.first) (option_map g.P.Inx.BasePtrInx.number c.self.inside.end) c.self.inside.from c.self.inside.left c.if-self.true in
     let held = place-numbered c.self.inside.pairs.now.list.entries c.self.inside.is_numbered (option_map g.P.Inx.BasePtrInx.number c.self.inside.first) (option_map g.P.Inx.BasePtrInx.number c.self.inside.end) c.self.inside.from c.self.inside.left c.if-self.true c.self.invariant in
     let left = left-numbered c.self.inside.pairs.now.list.entries c.self.inside.is_numbered (option_map g.P.Inx.BasePtrInx.number c.self.inside.first) (option_map g.P.Inx.BasePtrInx.number c.self.inside.end) (c.self.inside.from + 1) (c.self.inside.left - 1) c.if-self.true in
-    rw (is, left) (yields-front _ es c.self.inside.from c.self.inside.left c.if-self-eq0.false held.1 c.entry_at.result c.entry_at.ensures)
+    rw (is, left) (yields-front (shown_entry g.P.BasePtr.numbers) es c.self.inside.from c.self.inside.left c.if-self-eq0.false held.1 (Some c.entry_at.result) (sym c.entry_at.ensures))
