@@ -114,7 +114,7 @@ fn entry_at<'a, K: Ord, V, P: BasePtr, A: Allocator>(
 {
     // For the prover: the list is sound.
     let _ = pairs.len();
-    // It is proved that these are there, so neither is checked when it runs.
+    // It is proved that both are there. So a loop over entries has one end, and no step is a choice.
     let i = P::Inx::try_from_usize(position + 1).unwrap();
     let entry = pairs.get_inx(i).unwrap();
     let (k, v) = entry.1.k_v();
