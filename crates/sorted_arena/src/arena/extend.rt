@@ -8,7 +8,7 @@ ghost use Rattle.sorted_arena.specs.Sorted.{count, item_of, last_item, AreInOrde
 use super::SortedArena;
 use crate::error::SortedError;
 use std::alloc::Allocator;
-use triple_ord::{BasePtr, ReallocationError};
+use triple_ord::{BasePtr, ReallocationError, SimpleOrdArena};
 
 impl<K: Ord + Drop, V: Drop, P: BasePtr, A: Allocator> SortedArena<K, V, P, A> {
     /// Inserts pairs that are in order behind all entries. One comparison and amortized O(1) for each.
@@ -56,10 +56,25 @@ impl<K: Ord + Drop, V: Drop, P: BasePtr, A: Allocator> SortedArena<K, V, P, A> {
         ensures unsorted { (at : ℕ) → result ≡ Err (SortedError.OutOfOrder at)
             → IsOutOfOrder K.cmp [] pairs.items at }
     {
-        let mut arena = SortedArena::new(alloc);
+        let mut arena = SortedArena::with_room(alloc, pairs.len());
         match arena.extend_sorted(pairs) {
             Ok(()) => Ok(arena),
             Err(refusal) => Err(refusal),
+        }
+    }
+
+    // An empty arena with room for so many entries if there is memory for them, else with none.
+    fn with_room(alloc: A, n: usize) -> Self
+    where
+        A: Copy,
+        ensures { result.entries ≡ [] }
+    {
+        match SimpleOrdArena::with_min_capacity(alloc, n) {
+            Ok(pairs) => SortedArena {
+                pairs,
+                is_compact: true,
+            },
+            Err(_) => SortedArena::new(alloc),
         }
     }
 
