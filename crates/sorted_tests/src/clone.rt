@@ -1,4 +1,4 @@
-//! Clones of every order of up to five keys.
+//! Clones of every order of up to six keys.
 use crate::support::{Beside, ORDERS, are_alike, are_found, beside_of};
 use std::alloc::Global;
 

@@ -1,4 +1,4 @@
-//! Every order of up to five keys, equal ones among them, and each change of such an arena, beside a plain vector.
+//! Every order of up to six keys, equal ones among them, and each change of such an arena, beside a plain vector.
 mod changes;
 
 use crate::support::{ORDERS, are_alike, are_found, start_of};

@@ -1,4 +1,4 @@
-//! Tests of `sorted_arena`, as a program that depends on it sees it: every order of up to five keys and all ranges beside a plain vector,
+//! Tests of `sorted_arena`, as a program that depends on it sees it: every order of up to six keys and all ranges beside a plain vector,
 //! pairs in order and out of order, parts that are taken out and arenas that are merged, and refused memory.
 #![tactic(auto)]
 

@@ -1,4 +1,4 @@
-//! All bounds of ranges over every order of up to five keys, beside a stretch of the plain vector.
+//! All bounds of ranges over every order of up to six keys, beside a stretch of the plain vector.
 use crate::support::{BOUNDS, Entry, Numbers, ORDERS, bound, gives, is_from, is_until, start_of};
 use sorted_arena::{P0, Range};
 use std::alloc::Global;

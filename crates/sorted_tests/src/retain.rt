@@ -1,4 +1,4 @@
-//! Tests that keep entries: every choice among the entries of every order of up to five keys, beside the vector.
+//! Tests that keep entries: every choice among the entries of every order of up to six keys, beside the vector.
 use crate::support::{Beside, Entry, ORDERS, are_alike, are_found, beside_of};
 use std::alloc::Global;
 

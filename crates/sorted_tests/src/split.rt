@@ -1,4 +1,4 @@
-//! Arenas that are split at each key, over every order of up to five keys, beside the vector.
+//! Arenas that are split at each key, over every order of up to six keys, beside the vector.
 use crate::support::{Entry, Numbers, ORDERS, Parts, is_left, parted};
 use std::alloc::Global;
 use std::ops::Bound;

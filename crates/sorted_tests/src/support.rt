@@ -25,7 +25,15 @@ pub(crate) struct Beside {
 pub(crate) const KEYS: [u64; 3] = [1, 3, 5];
 
 /// How many keys an arena gets, and how many orders of so many of the three keys there are.
-pub(crate) const ORDERS: [(usize, usize); 6] = [(0, 1), (1, 3), (2, 9), (3, 27), (4, 81), (5, 243)];
+pub(crate) const ORDERS: [(usize, usize); 7] = [
+    (0, 1),
+    (1, 3),
+    (2, 9),
+    (3, 27),
+    (4, 81),
+    (5, 243),
+    (6, 729),
+];
 
 /// Puts an entry into the vector, behind all whose key is at most its own.
 pub(crate) fn put(entries: &mut Vec<Entry>, entry: Entry) -> bool {
