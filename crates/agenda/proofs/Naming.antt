@@ -1,8 +1,8 @@
 -- What tickets name after each change of an agenda.
-use Rattle.std.proofs.Common.{◌≡◌, ◌≢◌, ℕ, ◌+◌, ◌≤◌, ◌⊎◌, List, [], ◌∷◌, ◌++◌, length, length-append, Option, Some, None, IsSome, IfSome, IfNone, refl, sym, ap, subst, ◌∙◌, arith, inl, inr, if◌then◌else◌}
+use Rattle.std.proofs.Common.{◌≡◌, ◌≢◌, ℕ, ◌+◌, ◌≤◌, ◌⊎◌, List, [], ◌∷◌, ◌++◌, length, length-append, Option, Some, None, IsSome, IfSome, refl, sym, ap, subst, ◌∙◌, arith, inl, inr, if◌then◌else◌}
 use Rattle.std.proofs.lemmas.Bool.Decides.{eqb_tells, leb_tells}
 use Rattle.std.specs.Option.{option_map}
-use Rattle.agenda.specs.Agenda.{Scheduled, Agenda, is_named_by, job_of, count, without, with_left, first_deadline, first_due, IsDistinct, Schedules, Reschedules, MovesDeadline, Updates, Moves}
+use Rattle.agenda.specs.Agenda.{Scheduled, Agenda, is_named_by, job_of, count, without, with_left, first_due, IsDistinct, Schedules, Reschedules, MovesDeadline, Updates, Moves}
 
 -- two tickets are one or differ
 pub one_or_other : (t u : ℕ × ℕ) → (t ≡ u) ⊎ (t ≢ u)
@@ -90,11 +90,6 @@ module _ {J : Type 0} where
     | inl e ↦ absurd (let named : job_of (z ∷ (xs ++ ys)) x.ticket ≡ Some (z.deadline, z.job) = job_of-first z (xs ++ ys) x.ticket e in cc)
     | inr n ↦ job_of-behind z (xs ++ x ∷ ys) x.ticket n ∙ job_of-between xs x ys (sym (job_of-behind z (xs ++ ys) x.ticket n) ∙ unused)
   ]
-
-  -- without a first deadline there is no job
-  pub none-deadline : (xs : List (Scheduled J)) → IfNone (first_deadline xs) (length xs ≡ 0)
-  none-deadline [] = refl
-  none-deadline (x ∷ xs) = tt
 
   -- the first due is due
   pub due-first : (now : ℕ) (xs : List (Scheduled J)) → IfSome (first_due now xs) (λ due. due.0 ≤ now)

@@ -1,7 +1,6 @@
 -- What a reservation leaves.
 use Rattle.std.proofs.Common.{◌≡◌, ℕ, map, ap, ◌∙◌}
 use Rattle.triple_ord.specs.Tree.{Tree}
-use Rattle.agenda.specs.Agenda.{Agenda}
 use Rattle.agenda.specs.Layout.{scheduled, agenda_of}
 use Rattle.agenda.specs.Tickets.{IsStep}
 use Rattle.agenda.proofs.Steps.{step-resizes}

@@ -1,5 +1,6 @@
 -- What public clauses cite.
 pub mod Agenda
 pub mod Tickets
+pub mod Calls
 -- How an agenda lies in its arena. No public clause cites these files.
 pub mod Layout

@@ -1,13 +1,14 @@
 //! `Agenda`: jobs by deadline.
 
 ghost use Rattle.std.specs.Prelude.{◌≡◌, ◌==◌, ◌↔◌, ◌+◌, ℕ, ◌≤◌, ◌<◌, [], Err, Some, None, IsOk, map};
-ghost use Rattle.std.specs.Prelude.{IfOk, OnOk, IfErr, OnErr, IfSome, IfNone, OnSome};
+ghost use Rattle.std.specs.Prelude.{IfOk, OnOk, IfErr, IfSome, IfNone};
 ghost use Rattle.std.specs.{Prelude.is_some, Option.option_map, Bool.OnTrue, Bool.OnFalse};
-ghost use Rattle.agenda.specs.Agenda.{most_entries, count, job_of, without, with_left, first_deadline, first_due, behind_first};
+ghost use Rattle.agenda.specs.Agenda.{most_entries, count, job_of, without, first_deadline, first_due, behind_first};
 ghost use Rattle.agenda.specs.Agenda.{IsSound, HasRoomFor, Schedules, Reschedules, MovesDeadline};
 ghost use Rattle.agenda.specs.Agenda.{Updates, Leaves, Moves};
 ghost use Rattle.agenda.specs.Layout.{scheduled};
-ghost use Rattle.agenda.specs.Tickets.{IsStep, HasNoLaterTicket};
+ghost use Rattle.agenda.specs.Tickets.{HasNoLaterTicket};
+ghost use Rattle.agenda.specs.Calls.{TakesOff, GivesDeadline, MayGrow};
 
 mod debug;
 mod look;
@@ -106,13 +107,9 @@ impl<J, A: Allocator> Agenda<J, A> {
     ///
     /// If the ticket names no job, returns `None` and nothing changes.
     pub fn cancel(&mut self, ticket: Ticket) -> Option<(u64, J)>
-        ensures value { result ≡ job_of self.old.jobs ticket }
+        ensures takes { TakesOff (job_of self.old.jobs ticket) (without self.old.jobs ticket)
+            self.old result self.new }
         ensures updates { Updates self.old self.new ticket None }
-        ensures count { OnSome result (count self.old ≡ count self.new + 1) }
-        ensures gone { OnSome result
-            (self.new ≡ with_left self.old (without self.old.jobs ticket)) }
-        ensures none { IfNone result (self.new ≡ self.old) }
-        ensures step { IsStep self.old self.new }
     {
         // For the prover: the list is sound.
         let _ = self.jobs.len();
@@ -124,14 +121,10 @@ impl<J, A: Allocator> Agenda<J, A> {
     ///
     /// If no job is due, returns `None` and nothing changes.
     pub fn pop_due(&mut self, now: u64) -> Option<(u64, J)>
-        ensures value { result ≡ first_due now self.old.jobs }
+        ensures takes { TakesOff (first_due now self.old.jobs) (behind_first self.old.jobs)
+            self.old result self.new }
         ensures due { IfSome result (λ due. due.0 ≤ now) }
         ensures leaves { IfSome result (λ due. Leaves self.old self.new due) }
-        ensures count { OnSome result (count self.old ≡ count self.new + 1) }
-        ensures gone { OnSome result
-            (self.new ≡ with_left self.old (behind_first self.old.jobs)) }
-        ensures none { IfNone result (self.new ≡ self.old) }
-        ensures step { IsStep self.old self.new }
     {
         let first = self.jobs.first()?;
         let deadline = *self.jobs.get(first)?.k();
@@ -164,11 +157,9 @@ impl<J: Drop, A: Allocator> Agenda<J, A> {
             ↔ (count self.old ≡ most_entries) }
         ensures memory { result ≡ Err (job, ReallocationError.AllocError)
             → count self.old ≡ self.old.capacity }
-        ensures err { OnErr result (self.new ≡ self.old) }
-        ensures generation { self.new.generation ≡ self.old.generation }
         ensures fits { count self.old < self.old.capacity → IsOk result }
         ensures room { (n : ℕ) → HasRoomFor (n + 1) self.old → HasRoomFor n self.new }
-        ensures step { IsStep self.old self.new }
+        ensures grows { MayGrow self.old result self.new }
     {
         let pointer = put(&mut self.jobs, deadline, job)?;
         Ok(Ticket { pointer })
@@ -180,14 +171,12 @@ impl<J: Drop, A: Allocator> Agenda<J, A> {
     /// change. [`move_to`](Self::move_to) does the same and issues a new ticket. No memory is taken. If the ticket names no job, nothing
     /// changes.
     pub fn reschedule(&mut self, ticket: Ticket, deadline: u64) -> bool
-        ensures value { result ≡ is_some (job_of self.old.jobs ticket) }
+        ensures gives { GivesDeadline self.old ticket result self.new }
         ensures moved { OnTrue result (MovesDeadline self.old ticket deadline self.new) }
         ensures updates { Updates self.old self.new ticket
             (option_map (λ job. (deadline, job.1)) (job_of self.old.jobs ticket)) }
-        ensures count { count self.new ≡ count self.old }
         ensures none { OnFalse result (self.new ≡ self.old) }
         ensures generation { self.new.generation ≡ self.old.generation }
-        ensures step { IsStep self.old self.new }
     {
         // For the prover: the list is sound.
         let _ = self.jobs.len();
@@ -199,12 +188,10 @@ impl<J: Drop, A: Allocator> Agenda<J, A> {
     /// The job counts as newly scheduled, as by [`reschedule`](Self::reschedule). No memory is taken. If the ticket names no job, returns
     /// `None` and nothing changes.
     pub fn move_to(&mut self, ticket: Ticket, deadline: u64) -> Option<Ticket>
-        ensures value { is_some result ≡ is_some (job_of self.old.jobs ticket) }
+        ensures gives { GivesDeadline self.old ticket (is_some result) self.new }
         ensures moved { IfSome result (λ new. Reschedules self.old ticket new deadline self.new) }
         ensures moves { IfSome result (λ new. Moves self.old self.new ticket new deadline) }
-        ensures count { count self.new ≡ count self.old }
         ensures none { IfNone result (self.new ≡ self.old) }
-        ensures step { IsStep self.old self.new }
     {
         // For the prover: the list is sound.
         let _ = self.jobs.len();

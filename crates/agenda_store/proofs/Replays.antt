@@ -23,9 +23,6 @@ admitted-push : (changes : List Change) (change : Change) (plan : Plan) → Admi
 admitted-push [] change plan all last = (last, tt)
 admitted-push (first ∷ changes) change plan all last = (all.0, admitted-push changes change (changed first plan) all.1 last)
 
-pub none_replayed : IsReplayed [] empty
-none_replayed = record { changes = []; written = tt; admitted = tt; spelled = refl; plan_is = refl }
-
 -- one record more
 pub one_more : (records : List (List ℕ)) (bytes : List ℕ) (old new : Plan) → IsReplayed records old → Replays bytes old new
     → IsReplayed (records ++ bytes ∷ []) new

@@ -74,11 +74,6 @@ module _ {X : Type 0} where
   take-drop (x ∷ xs) zero = refl
   take-drop (x ∷ xs) (suc n) = ap (λ zs. x ∷ zs) (take-drop xs n)
 
-  pub take-front : (xs ys : List X) (n : ℕ) → n ≤ length xs → take n (take n xs ++ ys) ≡ take n xs
-  take-front xs ys zero fits = refl
-  take-front [] ys (suc n) fits = absurd (omega arith)
-  take-front (x ∷ xs) ys (suc n) fits = ap (λ zs. x ∷ zs) (take-front xs ys n (omega arith))
-
 module _ {K V : Type 0} where
   last-item : (es : List (Entry (K × V))) → last_item es ≡ last_of None (map pair_in es)
   last-item [] = refl
@@ -170,13 +165,6 @@ module _ (a : Arena) (k : ℤ) where
             shown = cc;
             due = ap (entries_until int_cmp k) is ∙ due-first item x back (ap (first_item_until int_cmp k) (sym is) ∙ due) ∙ ap (λ zs. x ∷ entries_until int_cmp k (behind_first zs)) (sym is);
           }
-
-  pub pop-none : first_item_until int_cmp k a.entries ≡ None → entries_until int_cmp k a.entries ≡ []
-  pop-none none = go a.entries none
-    where
-      go : (es : List (Entry (ℤ × ℕ))) → first_item_until int_cmp k es ≡ None → entries_until int_cmp k es ≡ []
-      go [] none = refl
-      go (x ∷ es) none = grind (arith, common_steps)
 
 -- one more entry is shown in an array
 pub written-step : {A B : Type 0} (shown : A → B) (xs rest : List A) (before now : List B) (n : ℕ) (x : A) (e : B) → drop n xs ≡ x ∷ rest → e ≡ shown x

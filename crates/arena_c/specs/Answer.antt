@@ -1,9 +1,12 @@
 -- What a call leaves and answers.
-use Rattle.std.specs.Prelude.{◌≡◌, ◌≢◌, ℕ, Option, Some, None, is_some, if◌then◌else◌, Result, Ok, Err}
+use Rattle.std.specs.Prelude.{◌≡◌, ◌≢◌, ◌↔◌, ℕ, ℤ, List, Option, Some, None, is_some, IsSomeAnd, if◌then◌else◌, Result, Ok, Err}
+use Rattle.std.specs.List.{Contains}
 use Rattle.std.specs.Option.{option_map_or, option_and_then}
 use Rattle.sorted_arena.specs.ReallocationError.{ReallocationError}
 use Rattle.sorted_arena.specs.ReallocationError.TheVariants.{BeyondMaxCapacity, AllocError}
-use Rattle.arena_c.specs.Shown.{Arena}
+use Rattle.sorted_arena.specs.Sorted.{count, Updates}
+use Rattle.arena_c.specs.declared.entry.Pointer.{Pointer}
+use Rattle.arena_c.specs.Shown.{Arena, numbers_of}
 use Rattle.arena_c.specs.Status.{ok, not_found, full, no_memory, closed}
 
 module _ {X : Type 0} where
@@ -37,6 +40,28 @@ pub record Changes {X : Type 0} (look : Arena → Option X) (change : Arena → 
   pub written : after ≡ found_or before (option_and_then look old)
   pub changed : status ≡ ok → Becomes change old new
   pub kept : status ≢ ok → new ≡ old
+
+-- A call that changes an open arena, and never fails. It answers OK if the arena is open, else CLOSED, and then the arena stays as it is.
+pub record ChangesOpen (change : Arena → Arena → Type 0) (old new : Option Arena) (status : ℕ) : Type 0 where
+  pub answer : status ≡ (if is_some old then ok else closed)
+  pub changed : status ≡ ok → Becomes change old new
+  pub kept : status ≢ ok → new ≡ old
+
+-- A call that changes an open arena, or fails. It answers one of these statuses, and CLOSED exactly if the arena is closed. On all but OK
+-- the arena stays as it is.
+pub record ChangesOrFails (statuses : List ℕ) (change : Arena → Arena → Type 0) (old new : Option Arena) (status : ℕ) : Type 0 where
+  pub known : Contains statuses status
+  pub changed : status ≡ ok → Becomes change old new
+  pub kept : status ≢ ok → new ≡ old
+  pub closed : (status ≡ closed) ↔ (old ≡ None)
+
+-- A call that inserts an entry, and writes its pointer, or fails. It wants memory only where the arena is full.
+pub record InsertsOrFails (statuses : List ℕ) (change : Arena → Arena → Type 0) (key : ℤ) (value : ℕ)
+    (old new : Option Arena) (status : ℕ) (before after : Pointer) : Type 0 where
+  pub arena : ChangesOrFails statuses change old new status
+  pub updates : status ≡ ok → Becomes (λ a b. Updates a b (numbers_of after) (Some (key, value))) old new
+  pub memory : status ≡ no_memory → IsSomeAnd old (λ a. count a ≡ a.capacity)
+  pub kept : status ≢ ok → after ≡ before
 
 -- the status of a reservation
 abbrev pub status_of_reservation : Result (Unit {0}) ReallocationError → ℕ

@@ -1,9 +1,9 @@
 -- Calls on many entries.
 use Rattle.std.specs.Prelude.{◌≡◌, ℕ, ◌+◌, ℤ, ◌++◌, min, false, if◌then◌else◌, List, [], ◌∷◌, length, map, take, drop, Option, Some, None}
 use Rattle.std.specs.Ordering.{int_cmp, is_gt}
-use Rattle.std.specs.Option.{option_map, option_map_or}
+use Rattle.std.specs.{List.zip, Option.option_map, Option.option_map_or}
 use Rattle.sorted_arena.specs.Chain.{Entry as Listed}
-use Rattle.sorted_arena.specs.Sorted.{last_item}
+use Rattle.sorted_arena.specs.Sorted.{item_of, last_item}
 use Rattle.arena_c.specs.declared.entry.Entry.{Entry}
 use Rattle.arena_c.specs.Shown.{Arena, shown_entry}
 
@@ -15,6 +15,11 @@ first_fall before (k ∷ ks) at = if option_map_or (λ b. is_gt (int_cmp b k)) b
 -- the index of the first key that can't come next behind all entries of an arena
 abbrev pub fall_behind : Arena → List ℤ → Option ℕ
 fall_behind a keys = first_fall (option_map (λ pair. pair.0) (last_item a.entries)) keys 0
+
+-- from one arena to another, pairs of these keys and values come behind all entries
+pub record AppendsPairs (keys : List ℤ) (values : List ℕ) (old new : Arena) : Type 0 where
+  pub entries : map item_of new.entries ≡ map item_of old.entries ++ zip keys values
+  pub generation : new.generation ≡ old.generation
 
 -- as many of these entries are written to the front of an array as it has room for, and it stays as it is behind them
 pub record Fills (es : List (Listed (ℤ × ℕ))) (before after : List Entry) (filled : ℕ) : Type 0 where

@@ -1,5 +1,5 @@
 -- Arenas, pointers and entries as C sees them.
-use Rattle.std.specs.Prelude.{ℕ, ℤ, List, [], ◌∷◌, Option, Some}
+use Rattle.std.specs.Prelude.{ℕ, ℤ, List, [], ◌∷◌, Option}
 use Rattle.std.specs.Option.{option_map, option_and_then}
 use Rattle.sorted_arena.specs.Chain.{Entry as Listed}
 use Rattle.sorted_arena.specs.Sorted.{Sorted, pair_of}

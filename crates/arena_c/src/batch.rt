@@ -1,13 +1,12 @@
 //! Calls on many entries.
 
-ghost use Rattle.std.specs.Prelude.{◌≡◌, ◌≢◌, ◌↔◌, ◌+◌, ◌<◌, ◌++◌, min, length, map, take, drop, [], ◌∷◌, None, IsSomeAnd, is_some, true, if◌then◌else◌};
-ghost use Rattle.std.specs.List.{Contains, zip};
+ghost use Rattle.std.specs.Prelude.{◌≡◌, ◌≢◌, ◌↔◌, ◌+◌, ◌<◌, length, drop, [], ◌∷◌, IsSomeAnd, is_some, true};
 ghost use Rattle.std.specs.Option.{option_and_then};
 ghost use Rattle.std.specs.Ordering.{int_cmp};
 ghost use Rattle.sorted_arena.specs.Chain.{from_index};
-ghost use Rattle.sorted_arena.specs.Sorted.{count, entries_until, item_of, pair_of};
-ghost use Rattle.arena_c.specs.Answer.{Becomes, found_or, look_status};
-ghost use Rattle.arena_c.specs.Batch.{fall_behind, paired_keys, Fills};
+ghost use Rattle.sorted_arena.specs.Sorted.{count, entries_until, pair_of};
+ghost use Rattle.arena_c.specs.Answer.{ChangesOpen, ChangesOrFails, found_or, look_status};
+ghost use Rattle.arena_c.specs.Batch.{fall_behind, paired_keys, AppendsPairs, Fills};
 ghost use Rattle.arena_c.specs.Shown.{most_entries, numbers_of, pointer_to};
 ghost use Rattle.arena_c.specs.Status.{ok, full, no_memory, closed, out_of_order};
 
@@ -31,10 +30,8 @@ pub extern "C" fn topscedar_arena_build(
     values: &[u64],
     at: &mut usize,
 ) -> u8
-    ensures known { Contains (ok ∷ full ∷ no_memory ∷ closed ∷ out_of_order ∷ []) result }
-    ensures built { result ≡ ok → Becomes (λ a b. (map item_of b.entries
-        ≡ map item_of a.entries ++ zip keys.now values.now) × (b.generation ≡ a.generation))
-        arena.old.slot.held arena.new.slot.held }
+    ensures builds { ChangesOrFails (ok ∷ full ∷ no_memory ∷ closed ∷ out_of_order ∷ [])
+        (AppendsPairs keys.now values.now) arena.old.slot.held arena.new.slot.held result }
     ensures unsorted { (result ≡ out_of_order) ↔ IsSomeAnd arena.old.slot.held (λ a.
         is_some (fall_behind a (paired_keys keys.now values.now)) ≡ true) }
     ensures at { at.new ≡ found_or at.old (option_and_then
@@ -43,8 +40,6 @@ pub extern "C" fn topscedar_arena_build(
         (λ a. most_entries < count a + length (paired_keys keys.now values.now)) }
     ensures memory { result ≡ no_memory → IsSomeAnd arena.old.slot.held
         (λ a. a.capacity < count a + length (paired_keys keys.now values.now)) }
-    ensures closed { (result ≡ closed) ↔ (arena.old.slot.held ≡ None) }
-    ensures kept { result ≢ ok → arena.new.slot.held ≡ arena.old.slot.held }
 {
     let Some(mut content) = arena.take(alloc) else {
         return CLOSED;
@@ -108,13 +103,11 @@ pub extern "C" fn topscedar_arena_pop_until(
     entries: &mut [Entry],
     filled: &mut usize,
 ) -> u8
-    ensures status { result ≡ (if is_some arena.old.slot.held then ok else closed) }
+    ensures changes { ChangesOpen (λ a b. (b.entries ≡ drop filled.new a.entries)
+        × (b.capacity ≡ a.capacity)) arena.old.slot.held arena.new.slot.held result }
     ensures filled { result ≡ ok → IsSomeAnd arena.old.slot.held (λ a. Fills
         (entries_until int_cmp key a.entries) entries.old entries.new filled.new) }
-    ensures left { result ≡ ok → Becomes (λ a b. (b.entries ≡ drop filled.new a.entries)
-        × (b.capacity ≡ a.capacity)) arena.old.slot.held arena.new.slot.held }
-    ensures kept { result ≢ ok → (arena.new.slot.held ≡ arena.old.slot.held)
-        × (entries.new ≡ entries.old) × (filled.new ≡ filled.old) }
+    ensures kept { result ≢ ok → (entries.new ≡ entries.old) × (filled.new ≡ filled.old) }
 {
     let Some(mut content) = arena.take(alloc) else {
         return CLOSED;

@@ -1,10 +1,9 @@
 //! Insertions.
 
-ghost use Rattle.std.specs.Prelude.{◌≡◌, ◌≢◌, ◌↔◌, [], ◌∷◌, Some, None, IsSomeAnd, is_some, true};
-ghost use Rattle.std.specs.List.{Contains};
+ghost use Rattle.std.specs.Prelude.{◌≡◌, ◌↔◌, [], ◌∷◌, IsSomeAnd, is_some, true};
 ghost use Rattle.std.specs.Ordering.{int_cmp, is_eq};
-ghost use Rattle.sorted_arena.specs.Sorted.{count, first_where, key_of, Inserts, IsAbsent, Updates};
-ghost use Rattle.arena_c.specs.Answer.{Becomes};
+ghost use Rattle.sorted_arena.specs.Sorted.{count, first_where, key_of, Inserts, IsAbsent};
+ghost use Rattle.arena_c.specs.Answer.{InsertsOrFails};
 ghost use Rattle.arena_c.specs.Shown.{most_entries, numbers_of};
 ghost use Rattle.arena_c.specs.Status.{ok, full, no_memory, closed, equal_key};
 
@@ -24,15 +23,10 @@ pub extern "C" fn topscedar_arena_insert(
     value: u64,
     pointer: &mut Pointer,
 ) -> u8
-    ensures known { Contains (ok ∷ full ∷ no_memory ∷ closed ∷ []) result }
-    ensures inserted { result ≡ ok → Becomes (λ a b. Inserts int_cmp most_entries a
-        (numbers_of pointer.new) key value b) arena.old.slot.held arena.new.slot.held }
-    ensures updates { result ≡ ok → Becomes (λ a b. Updates a b
-        (numbers_of pointer.new) (Some (key, value))) arena.old.slot.held arena.new.slot.held }
+    ensures inserts { InsertsOrFails (ok ∷ full ∷ no_memory ∷ closed ∷ [])
+        (λ a b. Inserts int_cmp most_entries a (numbers_of pointer.new) key value b)
+        key value arena.old.slot.held arena.new.slot.held result pointer.old pointer.new }
     ensures full { (result ≡ full) ↔ IsSomeAnd arena.old.slot.held (λ a. count a ≡ most_entries) }
-    ensures memory { result ≡ no_memory → IsSomeAnd arena.old.slot.held (λ a. count a ≡ a.capacity) }
-    ensures closed { (result ≡ closed) ↔ (arena.old.slot.held ≡ None) }
-    ensures kept { result ≢ ok → (arena.new.slot.held ≡ arena.old.slot.held) × (pointer.new ≡ pointer.old) }
 {
     let Some(mut content) = arena.take(alloc) else {
         return CLOSED;
@@ -58,17 +52,13 @@ pub extern "C" fn topscedar_arena_insert_unique(
     value: u64,
     pointer: &mut Pointer,
 ) -> u8
-    ensures known { Contains (ok ∷ full ∷ no_memory ∷ closed ∷ equal_key ∷ []) result }
-    ensures inserted { result ≡ ok → Becomes (λ a b. IsAbsent int_cmp a key
-        × Inserts int_cmp most_entries a (numbers_of pointer.new) key value b) arena.old.slot.held arena.new.slot.held }
-    ensures updates { result ≡ ok → Becomes (λ a b. Updates a b
-        (numbers_of pointer.new) (Some (key, value))) arena.old.slot.held arena.new.slot.held }
+    ensures inserts { InsertsOrFails (ok ∷ full ∷ no_memory ∷ closed ∷ equal_key ∷ [])
+        (λ a b. IsAbsent int_cmp a key
+        × Inserts int_cmp most_entries a (numbers_of pointer.new) key value b)
+        key value arena.old.slot.held arena.new.slot.held result pointer.old pointer.new }
     ensures equal { (result ≡ equal_key) ↔ IsSomeAnd arena.old.slot.held (λ a.
         is_some (first_where (λ e. is_eq (int_cmp key (key_of e))) a.entries) ≡ true) }
     ensures full { result ≡ full → IsSomeAnd arena.old.slot.held (λ a. count a ≡ most_entries) }
-    ensures memory { result ≡ no_memory → IsSomeAnd arena.old.slot.held (λ a. count a ≡ a.capacity) }
-    ensures closed { (result ≡ closed) ↔ (arena.old.slot.held ≡ None) }
-    ensures kept { result ≢ ok → (arena.new.slot.held ≡ arena.old.slot.held) × (pointer.new ≡ pointer.old) }
 {
     let Some(mut content) = arena.take(alloc) else {
         return CLOSED;

@@ -1,9 +1,9 @@
 //! A handle from opening to closing.
 
-ghost use Rattle.std.specs.Prelude.{◌≡◌, ◌≢◌, ◌↔◌, ◌+◌, ◌≤◌, ◌<◌, [], ◌∷◌, Some, None, IsSomeAnd, is_some, true, if◌then◌else◌};
+ghost use Rattle.std.specs.Prelude.{◌≡◌, ◌↔◌, ◌+◌, ◌≤◌, ◌<◌, [], ◌∷◌, Some, None, IsSomeAnd, is_some, true, if◌then◌else◌};
 ghost use Rattle.std.specs.List.{Contains};
 ghost use Rattle.sorted_arena.specs.Sorted.{count, with_left};
-ghost use Rattle.arena_c.specs.Answer.{Becomes, Looks, status_of_reservation};
+ghost use Rattle.arena_c.specs.Answer.{ChangesOpen, ChangesOrFails, Looks, status_of_reservation};
 ghost use Rattle.arena_c.specs.Shown.{greatest_generation, most_entries, new_arena};
 ghost use Rattle.arena_c.specs.Status.{ok, full, no_memory, closed};
 
@@ -68,14 +68,13 @@ pub extern "C" fn topscedar_arena_reserve(
     arena: &mut Handle,
     additional: usize,
 ) -> u8
-    ensures known { Contains (ok ∷ full ∷ no_memory ∷ closed ∷ []) result }
-    ensures room { result ≡ ok → Becomes (λ a b. (b.entries ≡ a.entries)
-        × (b.generation ≡ a.generation) × (count a + additional ≤ b.capacity)) arena.old.slot.held arena.new.slot.held }
+    ensures room { ChangesOrFails (ok ∷ full ∷ no_memory ∷ closed ∷ [])
+        (λ a b. (b.entries ≡ a.entries) × (b.generation ≡ a.generation)
+        × (count a + additional ≤ b.capacity))
+        arena.old.slot.held arena.new.slot.held result }
     ensures full { (result ≡ full) ↔ IsSomeAnd arena.old.slot.held (λ a. most_entries < count a + additional) }
     ensures memory { result ≡ no_memory
         → IsSomeAnd arena.old.slot.held (λ a. a.capacity < count a + additional) }
-    ensures closed { (result ≡ closed) ↔ (arena.old.slot.held ≡ None) }
-    ensures kept { result ≢ ok → arena.new.slot.held ≡ arena.old.slot.held }
 {
     let Some(mut content) = arena.take(alloc) else {
         return CLOSED;
@@ -99,10 +98,8 @@ pub fn reservation_status(reserved: Result<(), ReallocationError>) -> u8
 /// Removes all entries; the capacity stays. `OK` or `CLOSED`.
 #[unsafe(no_mangle)]
 pub extern "C" fn topscedar_arena_clear(alloc: Global, arena: &mut Handle) -> u8
-    ensures status { result ≡ (if is_some arena.old.slot.held then ok else closed) }
-    ensures cleared { result ≡ ok
-        → Becomes (λ a b. b ≡ with_left greatest_generation a []) arena.old.slot.held arena.new.slot.held }
-    ensures kept { result ≢ ok → arena.new.slot.held ≡ arena.old.slot.held }
+    ensures { ChangesOpen (λ a b. b ≡ with_left greatest_generation a [])
+        arena.old.slot.held arena.new.slot.held result }
 {
     let Some(mut content) = arena.take(alloc) else {
         return CLOSED;

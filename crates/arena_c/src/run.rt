@@ -1,13 +1,12 @@
 //! Runs of entries: pairs that come in, and entries that go out.
 
-ghost use Rattle.std.specs.Prelude.{◌≡◌, ◌+◌, ◌<◌, ◌≤◌, ◌++◌, length, map, drop, false, None, IsSome, Err, OnOk, OnErr};
-ghost use Rattle.std.specs.List.{zip};
+ghost use Rattle.std.specs.Prelude.{◌≡◌, ◌+◌, ◌<◌, ◌≤◌, length, drop, false, None, IsSome, Err, OnOk, OnErr};
 ghost use Rattle.std.specs.Option.{option_map, option_map_or};
 ghost use Rattle.std.specs.Ordering.{int_cmp, is_gt};
 ghost use Rattle.sorted_arena.specs.Chain.{first_pointer, from_index};
-ghost use Rattle.sorted_arena.specs.Sorted.{count, entries_until, item_of, last_item, pair_of};
+ghost use Rattle.sorted_arena.specs.Sorted.{count, entries_until, last_item, pair_of};
 ghost use Rattle.arena_c.specs.Shown.{most_entries};
-ghost use Rattle.arena_c.specs.Batch.{fall_behind, first_fall, Fills};
+ghost use Rattle.arena_c.specs.Batch.{fall_behind, first_fall, AppendsPairs, Fills};
 
 use crate::content::Content;
 use crate::entry::Entry;
@@ -53,9 +52,7 @@ impl Content {
         requires order { fall_behind self.old keys.now ≡ None }
         requires lengths { length keys.now ≡ length values.now }
         requires room { count self.old + length keys.now ≤ self.old.capacity }
-        ensures entries { map item_of self.new.entries
-            ≡ map item_of self.old.entries ++ zip keys.now values.now }
-        ensures generation { self.new.generation ≡ self.old.generation }
+        ensures { AppendsPairs keys.now values.now self.old self.new }
     {
         for (i, key) in keys.iter().enumerate() {
             // For the prover: the arena is sound.
@@ -72,8 +69,7 @@ impl Content {
     pub fn extend(&mut self, keys: &[i64], values: &[u64]) -> Result<(), ReallocationError>
         requires order { fall_behind self.old keys.now ≡ None }
         requires lengths { length keys.now ≡ length values.now }
-        ensures entries { OnOk result (map item_of self.new.entries
-            ≡ map item_of self.old.entries ++ zip keys.now values.now) }
+        ensures appends { OnOk result (AppendsPairs keys.now values.now self.old self.new) }
         ensures generation { self.new.generation ≡ self.old.generation }
         ensures full { result ≡ Err ReallocationError.BeyondMaxCapacity
             → most_entries < count self.old + length keys.now }

@@ -357,6 +357,11 @@ module _ {P T I G A : Type 0} where
   abbrev pub marks_after : {K : Type 0} → Command P T I G K → Reply P T A I G → Tree T → Marks → Marks
   marks_after command reply new marks = settled new (marked_by (effect_of command reply) marks)
 
+-- A call that may call a closure, which becomes g: whatever marks are true of the tree, this holds in that state. The closure stays callable.
+pub record MayCall {T F : Type 0} (is_callable : F → Type 0) (holds : State T → Type 0) (tree : Tree T) (g : F) : Type 0 where
+  pub does : (marks : Marks) → AreTrue marks tree.shape → holds (record { tree = tree; marks = marks })
+  pub callable : is_callable g
+
 -- The same with what the closure and the clones of items may do.
 module _ {P T I G A F : Type 0} where
   -- a search by the closure, which changes from f to g

@@ -3,7 +3,7 @@ ghost use Rattle.std.specs.Prelude.{◌≡◌, ◌<◌, IfOk, OnErr, length};
 ghost use Rattle.triple_ord.specs.Chain.{IsSound};
 ghost use Rattle.triple_ord.specs.Tree.{IsSoundTree};
 ghost use Rattle.triple_ord.specs.ClosureSearch.{Asks};
-ghost use Rattle.ord_machine.specs.Machine.{calls_by, reading_by, Marks, AreTrue, Does, RunsBetween};
+ghost use Rattle.ord_machine.specs.Machine.{calls_by, reading_by, Does, MayCall, RunsBetween};
 
 use crate::command::Command;
 use crate::reply::Reply;
@@ -69,12 +69,10 @@ where
     T::Key: Drop,
     requires clones { (x y : T) → T.is_clone x y → y ≡ x }
     requires callable { F.IsAlwaysCallable closure.old }
-    ensures does { (marks : Marks) → AreTrue marks arena.old.shape
-        → Does (reading_by T.key_of T.Key.cmp P.Inx.most P.Gen.greatest
+    ensures runs { MayCall F.IsAlwaysCallable
+        (λ s. Does (reading_by T.key_of T.Key.cmp P.Inx.most P.Gen.greatest
         P.numbers P.Inx.number P.Gen.number) (calls_by (Asks P.numbers F.step) T.is_infallible)
-        (record { tree = arena.old; marks = marks }) closure.old command result arena.new
-        closure.new }
-    ensures callable { F.IsAlwaysCallable closure.new }
+        s closure.old command result arena.new closure.new) arena.old closure.new }
     ensures lawful { IsSound P.Inx.most P.Gen.greatest arena.new.list }
     ensures sound { IsSoundTree arena.new }
 {

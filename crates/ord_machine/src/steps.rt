@@ -4,11 +4,11 @@ ghost use Rattle.triple_ord.specs.Chain.{link_at, first_pointer, last_pointer, c
 ghost use Rattle.triple_ord.specs.ChainCompression.{canonical, relocated};
 ghost use Rattle.triple_ord.specs.Shape.{missing};
 ghost use Rattle.triple_ord.specs.ClosureSearch.{Asks};
-ghost use Rattle.triple_ord.specs.Insertion.{told};
+ghost use Rattle.triple_ord.specs.Insertion.{with_kind};
 ghost use Rattle.triple_ord.specs.declared.growth.Growth.TheVariants.{Within, Reallocating};
 ghost use Rattle.triple_ord.specs.Place.{at_key, aim_of};
 ghost use Rattle.triple_ord.specs.Ranks.{HasRank};
-ghost use Rattle.ord_machine.specs.Machine.{calls_by, reading_by, Marks, AreTrue, Does, Inserts, insertion_reply, Sets, MovesToKey, Removes, RemovesAt, Renews, Changes, Rebuilds, Reserves, SetsMaximum, Finds, FindsFrom, FindsNear, FindsNearFrom, AnswersWith, AnswersSimilarWith, Visits, Gets, IsEnd, HasNeighbours, Lists, entry_of, Ranked, HaveRanks, Drains, removed_each, Checks, Counts};
+ghost use Rattle.ord_machine.specs.Machine.{calls_by, reading_by, Marks, AreTrue, Does, MayCall, Inserts, insertion_reply, Sets, MovesToKey, Removes, RemovesAt, Renews, Changes, Rebuilds, Reserves, SetsMaximum, Finds, FindsFrom, FindsNear, FindsNearFrom, AnswersWith, AnswersSimilarWith, Visits, Gets, IsEnd, HasNeighbours, Lists, entry_of, Ranked, HaveRanks, Drains, removed_each, Checks, Counts};
 
 use crate::command::Command;
 use crate::reply::Reply;
@@ -36,12 +36,10 @@ where
     T::Key: Drop,
     requires clones { (x y : T) → T.is_clone x y → y ≡ x }
     requires callable { F.IsAlwaysCallable closure.old }
-    ensures does { (marks : Marks) → AreTrue marks arena.old.shape
-        → Does (reading_by T.key_of T.Key.cmp P.Inx.most P.Gen.greatest
+    ensures { MayCall F.IsAlwaysCallable
+        (λ s. Does (reading_by T.key_of T.Key.cmp P.Inx.most P.Gen.greatest
         P.numbers P.Inx.number P.Gen.number) (calls_by (Asks P.numbers F.step) T.is_infallible)
-        (record { tree = arena.old; marks = marks }) closure.old command result arena.new
-        closure.new }
-    ensures callable { F.IsAlwaysCallable closure.new }
+        s closure.old command result arena.new closure.new) arena.old closure.new }
 {
     match command {
         Command::Insert(item) => insert(arena, item),
@@ -104,7 +102,7 @@ fn insert_within<P: BasePtr, T: SimpleOrdItem + Drop, A: Allocator>(
 fn reply_to_insertion<P: BasePtr, T, A: Allocator>(
     inserted: Result<(P, Option<T>), OrdInsertionError>,
 ) -> Reply<P, T, A>
-    ensures { result ≡ insertion_reply (told inserted) }
+    ensures { result ≡ insertion_reply (with_kind inserted) }
 {
     match inserted {
         Ok((p, before)) => {
@@ -324,10 +322,9 @@ fn find_with<P: BasePtr, T, F: FnMut(P, &T) -> Ordering, A: Allocator>(
     closure: &mut F,
 ) -> Reply<P, T, A>
     requires { F.IsAlwaysCallable closure.old }
-    ensures answer { (marks : Marks) → AreTrue marks arena.now.shape
-        → AnswersWith (Asks P.numbers F.step) P.numbers
-        (record { tree = arena.now; marks = marks }) closure.old result closure.new }
-    ensures callable { F.IsAlwaysCallable closure.new }
+    ensures { MayCall F.IsAlwaysCallable
+        (λ s. AnswersWith (Asks P.numbers F.step) P.numbers s closure.old result closure.new)
+        arena.now closure.new }
 {
     let (found, visits) = arena.find_with_counted(closure);
     Reply::Found(found, visits.count())
@@ -339,10 +336,9 @@ fn similar_with<P: BasePtr, T, F: FnMut(P, &T) -> Ordering, A: Allocator>(
     closure: &mut F,
 ) -> Reply<P, T, A>
     requires { F.IsAlwaysCallable closure.old }
-    ensures answer { (marks : Marks) → AreTrue marks arena.now.shape
-        → AnswersSimilarWith (Asks P.numbers F.step) P.numbers
-        (record { tree = arena.now; marks = marks }) closure.old result closure.new }
-    ensures callable { F.IsAlwaysCallable closure.new }
+    ensures { MayCall F.IsAlwaysCallable
+        (λ s. AnswersSimilarWith (Asks P.numbers F.step) P.numbers s closure.old result closure.new)
+        arena.now closure.new }
 {
     let (found, visits) = arena.find_similar_with_counted(closure);
     Reply::Similar(found, visits.count())

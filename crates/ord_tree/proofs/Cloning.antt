@@ -6,7 +6,7 @@ use Rattle.std.specs.declared.alloc.AllocError.{AllocError}
 use Rattle.chain_base.specs.ArenaClone.{Grants, StopsAtRefusal}
 use Rattle.chain_base.proofs.ArenaLemmas.{clones-retold, clones-leave, stops-retold, stops-leave}
 use Rattle.chain_base.specs.Clone.{links_among, links_rising, taken_over, IsClone as IsClonedList, IsRefusedClone as IsRefusedList}
-use Rattle.chain_base.specs.Chain.{Entry, Chain, entry_at, first_or, link_between, greatest_index, IsSound}
+use Rattle.chain_base.specs.Chain.{Entry, Chain, entry_at, link_between, greatest_index, IsSound}
 use Rattle.chain_base.specs.{Compression.lesser, Compression.refilled, Walk.pointers, Link.Link}
 use Rattle.chain_base.proofs.CallerLemmas.{clone-kept, clone-restated as list-restated, refusal-restated as refused-list-restated}
 use Rattle.ord_tree.specs.{Node.bare_entry, Node.bare, Node.entry_in, Node.links_in, Node.slots_of, Node.indexes, CloneNode.ClonesNode}
@@ -23,10 +23,6 @@ module _ {P T I G : Type 0} where
   -- the index, generation and link of an entry, without its node
   abbrev pub linked_in : ℕ × ℕ × Link (Node P T I G) → ℕ × ℕ × Link T
   linked_in e = (e.0, e.1, bare_link e.2)
-
-  first_or-bare : (after : Option ℕ) (es : List (Entry (Node P T I G))) → first_or after (map bare_entry es) ≡ first_or after es
-  first_or-bare after [] = refl
-  first_or-bare after (e ∷ es) = refl
 
   -- a generation with a link, without its node
   abbrev pub bare_held : ℕ × Link (Node P T I G) → ℕ × Link T

@@ -5,7 +5,7 @@ use Rattle.chain_base.specs.Chain.{Entry, Chain, entry_at, with_item_among, with
 use Rattle.chain_base.proofs.CallerLemmas.{entry_at-with_item_among, entry_at-with_item_among_other}
 use Rattle.ord_tree.specs.declared.tree_links.Side.TheVariants.{Lesser, Greater}
 use Rattle.ord_tree.specs.{declared.node.SimpleOrdArenaNode.SimpleOrdArenaNode as Node, declared.tree_links.TreeLinks.TreeLinks}
-use Rattle.ord_tree.specs.{Node.bare_entry, Node.bare, Node.links_in, Node.slots_of, declared.tree_links.Side.Side, TreeLinks.with_child_at}
+use Rattle.ord_tree.specs.{Node.bare_entry, Node.bare, Node.links_in, Node.slots_of, Slots.Writes, declared.tree_links.Side.Side, TreeLinks.with_child_at}
 
 -- writing a side keeps the parent
 pub back-with_child : {I : Type 0} (side : Side) (child : Option I) (l : TreeLinks I) → (with_child_at side child l).back ≡ l.back
@@ -19,26 +19,26 @@ module _ {P T I G : Type 0} where
     bare-with_item (a ∷ es) h = grind (arith, common_steps, bare-with_item es)
 
   -- the same for a whole chain
-  module _ (c : Chain (Node P T I G)) (i : ℕ) (e : ℕ × Node P T I G) (x : Node P T I G) (there : entry_at c.entries i ≡ Some e) where
-    pub slots_of-written : slots_of (chain_with_item c i x) i ≡ Some (links_in x)
+  module _ (c : Chain (Node P T I G)) (i : ℕ) (e : ℕ × Node P T I G) (x : Node P T I G) (there : entry_at c.entries i ≡ Some e) (t : x.t ≡ e.1.t) where
+    slots_of-written : slots_of (chain_with_item c i x) i ≡ Some (links_in x)
     slots_of-written = ap (option_map (λ (e : ℕ × Node P T I G). links_in e.1)) (entry_at-with_item_among c.entries i x ∙ ap (option_map (λ d. (d.0, x))) there)
 
-    pub slots_of-linked : (n : TreeLinks ℕ) → x.p_back ≡ n.back → x.p_tree0 ≡ n.lesser → x.p_tree1 ≡ n.greater → x.rank ≡ n.rank → slots_of (chain_with_item c i x) i ≡ Some n
-    slots_of-linked n back lesser greater rank =
-        let same : links_in x ≡ n = rw (back, lesser, greater, rank) refl in
-        slots_of-written ∙ ap Some same
-
-    -- links changed in part
-    pub slots_of-changed : (change : TreeLinks ℕ → TreeLinks ℕ) → links_in x ≡ change (links_in e.1) → (n : TreeLinks ℕ) → slots_of c i ≡ Some n → slots_of (chain_with_item c i x) i ≡ Some (change n)
+    slots_of-changed : (change : TreeLinks ℕ → TreeLinks ℕ) → links_in x ≡ change (links_in e.1) → (n : TreeLinks ℕ) → slots_of c i ≡ Some n → slots_of (chain_with_item c i x) i ≡ Some (change n)
     slots_of-changed change made n is =
         let read : slots_of c i ≡ Some (links_in e.1) = ap (option_map (λ (e : ℕ × Node P T I G). links_in e.1)) there in
         slots_of-written ∙ (ap (λ (m : TreeLinks ℕ). Some m) made ∙ ap (λ (m : TreeLinks ℕ). Some (change m)) (same_Some (links_in e.1) n (sym read ∙ is)))
 
-    pub slots_of-elsewhere : (j : ℕ) → j ≢ i → slots_of (chain_with_item c i x) j ≡ slots_of c j
+    slots_of-elsewhere : (j : ℕ) → j ≢ i → slots_of (chain_with_item c i x) j ≡ slots_of c j
     slots_of-elsewhere j ne = ap (option_map (λ (e : ℕ × Node P T I G). links_in e.1)) (entry_at-with_item_among_other c.entries i j x ne)
 
-    pub slots_of-occupied : (j : ℕ) → is_some (slots_of (chain_with_item c i x) j) ≡ is_some (slots_of c j)
+    slots_of-occupied : (j : ℕ) → is_some (slots_of (chain_with_item c i x) j) ≡ is_some (slots_of c j)
     slots_of-occupied j = grind (arith, common_steps, j, slots_of-written, there, slots_of-elsewhere j)
 
-    pub bare-written : x.t ≡ e.1.t → bare (chain_with_item c i x) ≡ bare c
-    bare-written t = ap (λ (es : List (Entry T)). record { entries = es; capacity = c.capacity; vacant = c.vacant; generation = c.generation; maximum = c.maximum }) (bare-with_item i e x t c.entries there)
+    pub Writes-entry : (change : TreeLinks ℕ → TreeLinks ℕ) → links_in x ≡ change (links_in e.1)
+        → Writes i change (slots_of c) (slots_of (chain_with_item c i x)) (bare c) (bare (chain_with_item c i x))
+    Writes-entry change made = record {
+      here = slots_of-changed change made;
+      elsewhere = slots_of-elsewhere;
+      occupied = slots_of-occupied;
+      kept = ap (λ (es : List (Entry T)). record { entries = es; capacity = c.capacity; vacant = c.vacant; generation = c.generation; maximum = c.maximum }) (bare-with_item i e x t c.entries there);
+    }

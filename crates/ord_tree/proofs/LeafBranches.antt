@@ -1,11 +1,11 @@
 -- The branch of a new leaf.
 use Rattle.std.proofs.Common.{◌≡◌, ℕ, ◌<◌, Option, Some, None, List, [], ◌∷◌, arith, refl, sym, ◌∙◌, ap, is_some, true, false, option_map}
 use Rattle.std.proofs.lemmas.Grind.{common_steps}
-use Rattle.chain_base.specs.Chain.{Entry, entry_at, times as entry_times, link_between, first_or, IsDistinct}
+use Rattle.chain_base.specs.Chain.{Entry, entry_at, times as entry_times, link_between, IsDistinct}
 use Rattle.chain_base.specs.Link.{Link}
 use Rattle.chain_base.proofs.CallerLemmas.{entry-occurs}
 use Rattle.ord_tree.specs.{declared.tree_links.Side.TheVariants.Lesser, declared.tree_links.Side.TheVariants.Greater, Node.indexes}
-use Rattle.ord_tree.specs.{Leaf.list_head, Leaf.previous, Leaf.following, Leaf.neighbour_in, Leaf.beside, declared.tree_links.Branch.Branch}
+use Rattle.ord_tree.specs.{Leaf.previous, Leaf.following, Leaf.neighbour_in, Leaf.beside, declared.tree_links.Branch.Branch}
 use Rattle.ord_tree.specs.{Slots.Slots, Slots.Holds, Slots.times, Slots.IsOnce, TreeLinks.other_side, TreeLinks.child_at}
 use Rattle.ord_tree.specs.{declared.tree_links.TreeLinks.TreeLinks, declared.tree_links.Side.Side, Shape.Shape, Shape.walk}
 use Rattle.ord_tree.specs.LeafBranch.{IsLeafBranch}
@@ -23,11 +23,6 @@ module _ {T : Type 0} where
   pub within-occupied : (es : List (Entry T)) (i : ℕ) → is_some (entry_at es i) ≡ true → 0 < times i (indexes es)
   within-occupied es i there = omega (arith, entry-occurs es i there, times-indexes es i)
 
-  -- the links of an entry lead to its neighbours
-  head-first_or : (es : List (Entry T)) → first_or None es ≡ list_head (indexes es)
-  head-first_or [] = refl
-  head-first_or (e ∷ es) = refl
-
   module _ (i g : ℕ) (l : Link T) where
     pub neighbours-linked : (before : Option ℕ) (es : List (Entry T)) → link_between before None es i ≡ Some (g, l)
         → (l.prev ≡ previous before i (indexes es)) × (l.next ≡ following i (indexes es))
@@ -38,10 +33,6 @@ module _ {T : Type 0} where
   pub linked-some : (o : Option (ℕ × Link T)) (l : Link T) → option_map (λ (e : ℕ × Link T). e.1) o ≡ Some l → (g : ℕ) × (o ≡ Some (g, l))
   linked-some None l h = absurd cc
   linked-some (Some e) l h = (e.0, let same : e.1 ≡ l = cc in ap (λ (l : Link T). Some (e.0, l)) same)
-
-  pub linked-occupied : (before : Option ℕ) (es : List (Entry T)) (i : ℕ) → is_some (entry_at es i) ≡ true → is_some (link_between before None es i) ≡ true
-  linked-occupied before [] i h = absurd cc
-  linked-occupied before (e ∷ es) i h = grind (arith, common_steps, linked-occupied (Some e.index) es i)
 
 -- the neighbour that gets the new leaf as a child if that side of i is taken
 pub record NextLeafBranch (side : Side) (i : ℕ) (slots : Slots) (order : List ℕ) : Type 0 where

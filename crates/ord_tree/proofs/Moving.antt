@@ -9,7 +9,7 @@ use Rattle.ord_tree.specs.{declared.tree_links.Side.TheVariants.Lesser, declared
 use Rattle.ord_tree.specs.{declared.tree_links.TreeLinks.TreeLinks, declared.tree_links.Branch.Branch, Shape.Shape, Shape.walk}
 use Rattle.ord_tree.specs.{Leaf.beside, Leaf.previous, Leaf.following, Leaf.neighbour_in, Leaf.leaf_links, Leaf.IsNewLeaf}
 use Rattle.ord_tree.specs.{LeafBranch.kind_at, LeafBranch.IsLeafBranch, Detach.without, Detach.IsDetachable}
-use Rattle.ord_tree.specs.{Slots.Slots, Slots.Holds, Slots.times, Slots.here, Slots.IsOnce, Slots.MovesBacks, Layout.shape_in, Layout.IsLaidOut}
+use Rattle.ord_tree.specs.{Slots.Slots, Slots.Holds, Slots.times, Slots.here, Slots.IsOnce, Slots.MovesBacks, Slots.Writes, Layout.shape_in, Layout.IsLaidOut}
 use Rattle.ord_tree.specs.{Promote.IsBuilt, Promote.IsRepaired, Tree.put_on, Tree.CanPutAt, Move.IsRearranged, Move.IsAside}
 use Rattle.ord_tree.specs.{Potential.potential, Potential.ChangesRanksWithin, Account.IsSpelledWithin, Account.NamesChanges, Account.rank_in, Account.ranks_without}
 use Rattle.ord_tree.proofs.Trees.{entry_at-bare, is_some-bare, indexes-bare, shape_in-held}
@@ -204,20 +204,20 @@ module _ {P T I G : Type 0} {c d : Chain (Node P T I G)} {root root' : Option �
       }
 
       -- its node is now a leaf with a parent link
-      module _ (n : Chain (Node P T I G)) (branch : Branch I) (bud : IsLeafBranch number y at.1 (slots_of m) rest branch) (bare_kept : bare n ≡ bare m)
-          (leaf : slots_of n x ≡ Some (leaf_links (Some (number branch.parent)))) (elsewhere : (j : ℕ) → j ≢ x → slots_of n j ≡ slots_of m j) where
+      module _ (n : Chain (Node P T I G)) (branch : Branch I) (bud : IsLeafBranch number y at.1 (slots_of m) rest branch)
+          (write : Writes x (λ _. leaf_links (Some (number branch.parent))) (slots_of m) (slots_of n) (bare m) (bare n)) where
         pub new_leaf : IsNewLeaf (slots_of n) root' branch.side (number branch.parent) x rest 1
         new_leaf = record {
           built = record {
             shape = out.built.shape;
             held = Holds-frame (slots_of m) (slots_of n) out.built.shape None root'
-                (λ j inside. elsewhere j (apart-from x j (λ j. times j rest) rest_fresh (omega (arith, inside, times-walk j out.built.shape, ap (times j) out.built.listed)))) held_rest;
+                (λ j inside. write.elsewhere j (apart-from x j (λ j. times j rest) rest_fresh (omega (arith, inside, times-walk j out.built.shape, ap (times j) out.built.listed)))) held_rest;
             listed = out.built.listed;
             balanced = out.built.balanced;
           };
           within = bud.within;
-          bare = λ l h. bud.bare l (sym (elsewhere (number branch.parent) (apart-from x (number branch.parent) (λ j. times j rest) rest_fresh bud.within)) ∙ h);
-          leaf = leaf;
+          bare = λ l h. bud.bare l (sym (write.elsewhere (number branch.parent) (apart-from x (number branch.parent) (λ j. times j rest) rest_fresh bud.within)) ∙ h);
+          leaf = let slot = some_in (slots_of m x) x_slot in write.here slot.0 slot.1;
           fresh = rest_fresh;
           once = rest_once;
           few = omega (arith, length-without_in x (indexes c.entries) (within-occupied c.entries x out.there), out.few);
@@ -228,7 +228,7 @@ module _ {P T I G : Type 0} {c d : Chain (Node P T I G)} {root root' : Option �
           x ∷ [],
           omega arith,
           λ j. ⊎_elim (λ (same : j ≡ x). inl (inl same))
-              (λ (other : j ≢ x). inr (ap (option_map (λ (l : TreeLinks ℕ). l.back)) (sym (elsewhere j other ∙ same_slots j)))) (cases_eq j x),
+              (λ (other : j ≢ x). inr (ap (option_map (λ (l : TreeLinks ℕ). l.back)) (sym (write.elsewhere j other ∙ same_slots j)))) (cases_eq j x),
         )
 
         -- it is attached
@@ -239,7 +239,7 @@ module _ {P T I G : Type 0} {c d : Chain (Node P T I G)} {root root' : Option �
           repaired = repairs rest 1 new_leaf
 
           bare_end : bare q ≡ bare m
-          bare_end = hung ∙ bare_kept
+          bare_end = hung ∙ write.kept
 
           listed : walk repaired.built.shape ≡ indexes q.entries
           listed =

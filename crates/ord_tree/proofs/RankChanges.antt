@@ -72,10 +72,6 @@ pub pending-least : (y low : ℕ) → 0 < low → length (pending_change y low) 
 pending-least y zero h = absurd (omega (arith, h))
 pending-least y (suc low) h = refl
 
-pub pending-most : (y low : ℕ) → length (pending_change y low) ≤ 1
-pending-most y zero = omega arith
-pending-most y (suc low) = omega arith
-
 -- an index with a rank in a shape occurs there
 standing : (s : Shape) (i k : ℕ) → HasRank s i k → 0 < times_in i s
 standing missing i k h = elim h [ ]

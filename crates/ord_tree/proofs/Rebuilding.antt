@@ -11,7 +11,7 @@ use Rattle.ord_tree.specs.{Half.half_rank, Half.IsHalf, Half.IsRebuilt, declared
 use Rattle.ord_tree.specs.{declared.tree_links.Side.Side, declared.rebuild.Frame.Frame}
 use Rattle.ord_tree.proofs.Forks.{here-same, times-append, times-walk, times_in-plug, link-root, apart-from}
 use Rattle.ord_tree.proofs.{Frames.root-in, Frames.Holds-frame, Frames.Holds-rehung, Halves.rebuilt_exists, Halves.size_of-walk}
-use Rattle.ord_tree.proofs.Rotations.{occupied-link}
+use Rattle.ord_tree.proofs.{Rotations.occupied-link, LeafBranches.some_in}
 
 -- the number of steps of a path
 abbrev pub depth : Way → ℕ
@@ -221,7 +221,7 @@ module _ where
 
     -- the entry is met
     module _ (written new : Slots) (rank : ℕ) (rank_is : rank ≡ half_rank f.len (q - length below))
-        (here_is : written x ≡ Some (record { back = None; lesser = link; greater = None; rank = rank })) (but_x : (j : ℕ) → j ≢ x → written j ≡ at j)
+        (here_is : (n : TreeLinks ℕ) → at x ≡ Some n → written x ≡ Some (record { back = None; lesser = link; greater = None; rank = rank })) (but_x : (j : ℕ) → j ≢ x → written j ≡ at j)
         (hung : (i : ℕ) (n : TreeLinks ℕ) → link ≡ Some i → written i ≡ Some n → new i ≡ Some (record n { back = Some x }))
         (but_hung : (j : ℕ) → link ≢ Some j → new j ≡ written j) where
       not_x : (j : ℕ) → 0 < times_way j next.rest + times_in j next.l → j ≢ x
@@ -239,7 +239,7 @@ module _ where
           rank_is ∙ ap (λ n. half_rank n (q - length below)) next.len ∙ ap (λ d. half_rank (size_of next.l + 1 + size_of next.r) (q - d)) steps ∙ sym half.1
 
       pub bare-met : new x ≡ Some (record { back = None; lesser = link; greater = None; rank = rank })
-      bare-met = but_hung x (not_hung x (omega (arith, alone x, here-same x))) ∙ here_is
+      bare-met = let was = some_in (at x) next-there in but_hung x (not_hung x (omega (arith, alone x, here-same x))) ∙ here_is was.0 was.1
 
       pub IsUnopened-met : IsUnopened new (below ++ met_frame ∷ []) s (f.len - f.len / 2 - 1) todo
       IsUnopened-met =

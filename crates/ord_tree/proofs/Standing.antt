@@ -18,9 +18,6 @@ stand_in-other z v j e = rw (ne_eqb j z e) refl
 pub stand_in-same : (z v : ℕ) → stand_in z v z ≡ v
 stand_in-same z v = rw (eq-eqb z z refl) refl
 
-index-other : (i z : ℕ) → here z i ≡ 0 → i ≢ z
-index-other i z none e = let one = here-same z in let same = ap (here z) e in omega arith
-
 pub renamed-absent : (z v : ℕ) (s : Shape) → times_in z s ≡ 0 → renamed z v s ≡ s
 renamed-absent z v missing none = refl
 renamed-absent z v (node l i k r) none = grind (arith, common_steps, renamed-absent z v l, renamed-absent z v r)

@@ -2,7 +2,7 @@
 use Rattle.std.specs.Prelude.{◌≡◌, ℕ, Option, None, List, [], ◌∷◌, ◌==◌, if◌then◌else◌, length}
 use Rattle.chain_base.specs.Chain.{Entry, Chain}
 use Rattle.ord_tree.specs.{declared.node.SimpleOrdArenaNode.SimpleOrdArenaNode as Node, Node.indexes, Node.bare, Node.slots_of, Tree.Tree}
-use Rattle.ord_tree.specs.{Slots.Holds, Slots.shape_under, Shape.Shape, Shape.walk, Ranks.IsRanked}
+use Rattle.ord_tree.specs.{Slots.Holds, Slots.shape_under, Shape.Shape, Shape.walk, Half.IsRebuilt, Ranks.IsRanked}
 
 module _ {P T I G : Type 0} where
   -- the shape that a chain's nodes form, from this root
@@ -18,6 +18,12 @@ module _ {P T I G : Type 0} where
     pub held : Holds (slots_of c) None root s
     pub listed : walk s ≡ indexes c.entries
     pub ranked : IsRanked s
+
+  -- From old to new, the tree in the chain is built anew, from this root. The list stays.
+  pub record RebuildsChain (old new : Chain (Node P T I G)) (root : Option ℕ) : Type 0 where
+    pub laid : IsLaidOut new root (shape_in new root)
+    pub rebuilt : IsRebuilt (shape_in new root)
+    pub kept : bare new ≡ bare old
 
   -- the entries with another item in the node at this index
   abbrev pub with_item_below : List (Entry (Node P T I G)) → ℕ → T → List (Entry (Node P T I G))

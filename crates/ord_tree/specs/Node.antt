@@ -1,5 +1,5 @@
 -- What the nodes in a chain store: their links as numbers, and the list without them.
-use Rattle.std.specs.{Prelude.ℕ, Prelude.List, Prelude.map, Option.option_map}
+use Rattle.std.specs.{Prelude.◌≡◌, Prelude.ℕ, Prelude.List, Prelude.map, Option.option_map}
 use Rattle.chain_base.specs.Chain.{Entry, Chain, entry_at}
 use Rattle.ord_tree.specs.{declared.node.SimpleOrdArenaNode.SimpleOrdArenaNode as Node, declared.tree_links.TreeLinks.TreeLinks}
 use Rattle.ord_tree.specs.Slots.{Slots}
@@ -24,6 +24,11 @@ module _ {P T I G : Type 0} where
   -- the links of a node, as numbers
   abbrev pub links_in : Node P T I G → TreeLinks ℕ
   links_in n = record { back = n.p_back; lesser = n.p_tree0; greater = n.p_tree1; rank = n.rank }
+
+  -- From old to new, the links become what `write` makes of them. The item stays.
+  pub record Relinks (write : TreeLinks ℕ → TreeLinks ℕ) (old new : Node P T I G) : Type 0 where
+    pub links : links_in new ≡ write (links_in old)
+    pub item : new.t ≡ old.t
 
   -- the links at each index of a chain
   abbrev pub slots_of : Chain (Node P T I G) → Slots

@@ -42,6 +42,13 @@ pub record IsRepaired (old new : Slots) (root : Option ℕ) (order : List ℕ) (
   pub built : IsBuilt new root order slack
   pub backs : MovesBacks 5 old new
 
+-- A step of a repair. For each order of the nodes of which `Before` is true, `After` and `Account` are true afterwards. The list of the
+-- nodes stays.
+pub record Repairs {O L : Type 0} (Before After : O → Type 0) (Account : (o : O) → Before o → Type 0) (list_old list_new : L) : Type 0 where
+  pub after : (o : O) → Before o → After o
+  pub account : (o : O) (before : Before o) → Account o before
+  pub kept : list_new ≡ list_old
+
 -- z has now risen, above the rank of y; no node has another parent
 pub record IsPromoted (old new : Slots) (root : Option ℕ) (y z : ℕ) (order : List ℕ) (slack : ℕ) : Type 0 where
   pub rising : IsRising new root z order slack

@@ -71,6 +71,13 @@ pub record IsOpening (at : Slots) (frames : List Frame) (s : Shape) (len : ℕ) 
   pub unopened : IsUnopened at frames s len todo
   pub facing : (0 < len) ⊎ IsFacing unopened.way
 
+-- A step of a rebuild at level q. Each plan stays a plan. For each planned shape and rest of the list of which `Before` is true, `After`
+-- is true afterwards. The list of the nodes stays.
+pub record Builds {L : Type 0} (q : ℕ) (Before After : Shape → List ℕ → Type 0) (old new : Slots) (list_old list_new : L) : Type 0 where
+  pub plan : (s : Shape) → IsPlan old q s → IsPlan new q s
+  pub after : (s : Shape) (todo : List ℕ) → IsPlan old q s → Before s todo → After s todo
+  pub kept : list_new ≡ list_old
+
 -- the first `position` entries of the list are met, and the target is the next one
 pub record IsPassing (at : Slots) (frames : List Frame) (s : Shape) (order : List ℕ) (link : Option ℕ) (position : ℕ) (target : Option ℕ) : Type 0 where
   pub met : List ℕ

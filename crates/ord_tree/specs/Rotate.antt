@@ -21,3 +21,9 @@ pub record IsRotated {old : Slots} {old_root : Option ℕ} {side : Side} {z y : 
   pub held : Holds new (above site.way) (Some y) (fork side site.outer y rank_y (fork side site.inner z rank_z site.far))
   -- no other node than z, y and the root of `inner` has another parent
   pub backs : (j : ℕ) → (j ≡ z) ⊎ (j ≡ y) ⊎ (root_of site.inner ≡ Some j) ⊎ (back_at old j ≡ back_at new j)
+
+-- A rotation: if z and y form a site, y has taken z's place, and each has its new rank. The list of the nodes stays.
+pub record Rotates {L : Type 0} (side : Side) (z y rank_z rank_y : ℕ) (old new : Slots) (root_old root_new : Option ℕ)
+    (list_old list_new : L) : Type 0 where
+  pub rotated : (site : Site old root_old side z y) → IsRotated site new root_new rank_z rank_y
+  pub kept : list_new ≡ list_old

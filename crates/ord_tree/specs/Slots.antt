@@ -1,6 +1,7 @@
 -- What nodes store together: slots as a function from index to links, and the shape that the links form.
-use Rattle.std.specs.Prelude.{◌≡◌, ℕ, zero, suc, ◌+◌, ◌≤◌, ◌==◌, ◌⊎◌, if◌then◌else◌, Option, None, Some, option_map, unwrap_or, List, [], ◌∷◌, length}
-use Rattle.ord_tree.specs.{Shape.Shape, Shape.missing, Shape.node, Shape.fork, TreeLinks.other_side, TreeLinks.child_at}
+use Rattle.std.specs.Prelude.{◌≡◌, ◌≢◌, ℕ, zero, suc, ◌+◌, ◌≤◌, ◌==◌, ◌⊎◌, if◌then◌else◌, Option, None, Some, option_map, unwrap_or, is_some, List, [], ◌∷◌, length}
+use Rattle.chain_base.specs.Chain.{Chain}
+use Rattle.ord_tree.specs.{Shape.Shape, Shape.missing, Shape.node, Shape.fork, TreeLinks.other_side, TreeLinks.child_at, TreeLinks.with_child_at}
 use Rattle.ord_tree.specs.{declared.tree_links.TreeLinks.TreeLinks, declared.tree_links.Side.Side}
 
 -- the links at each index, None without a node
@@ -91,3 +92,30 @@ abbrev pub shape_under : ℕ → Slots → Option ℕ → Shape
 shape_under zero at link = missing
 shape_under (suc n) at None = missing
 shape_under (suc n) at (Some i) = node_with i (at i) (shape_under n at)
+
+-- From old to new, the links at i become what `write` makes of them. All other links stay, and so does the list.
+pub record Writes {T : Type 0} (i : ℕ) (write : TreeLinks ℕ → TreeLinks ℕ) (old new : Slots) (list_old list_new : Chain T) : Type 0 where
+  pub here : (n : TreeLinks ℕ) → old i ≡ Some n → new i ≡ Some (write n)
+  pub elsewhere : (j : ℕ) → j ≢ i → new j ≡ old j
+  pub occupied : (j : ℕ) → is_some (new j) ≡ is_some (old j)
+  pub kept : list_new ≡ list_old
+
+-- From old to new, the node that the link leads to, if any, gets this parent. All other links stay, and so does the list.
+pub record Hangs {T : Type 0} (link back : Option ℕ) (old new : Slots) (list_old list_new : Chain T) : Type 0 where
+  pub here : (i : ℕ) (n : TreeLinks ℕ) → link ≡ Some i → old i ≡ Some n → new i ≡ Some (record n { back = back })
+  pub elsewhere : (j : ℕ) → link ≢ Some j → new j ≡ old j
+  pub occupied : (j : ℕ) → is_some (new j) ≡ is_some (old j)
+  pub kept : list_new ≡ list_old
+
+-- From old to new, `instead` takes the place of the child: as the root if the child has no parent, else on its side of the parent. All
+-- other links stay, and so does the list.
+pub record Replaces {T : Type 0} (parent : Option ℕ) (child : ℕ) (instead root_old root_new : Option ℕ) (old new : Slots)
+    (list_old list_new : Chain T) : Type 0 where
+  pub at_top : parent ≡ None → root_new ≡ instead
+  pub below : (p : ℕ) → parent ≡ Some p → root_new ≡ root_old
+  pub here : (p : ℕ) (n : TreeLinks ℕ) (side : Side) → parent ≡ Some p → old p ≡ Some n → child_at side n ≡ Some child
+      → child_at (other_side side) n ≢ Some child → new p ≡ Some (with_child_at side instead n)
+  pub elsewhere : (j : ℕ) → parent ≢ Some j → new j ≡ old j
+  pub occupied : (j : ℕ) → is_some (new j) ≡ is_some (old j)
+  pub kept : list_new ≡ list_old
+  pub backs : (j : ℕ) → back_at old j ≡ back_at new j

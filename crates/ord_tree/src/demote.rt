@@ -1,7 +1,7 @@
 //! The repair after a removal: demotions up the tree, then at most one single or double rotation.
 
-ghost use Rattle.std.specs.Prelude.{◌≡◌, ℕ, ◌+◌, Option, Some, List, option_map, MatchBool, MatchOption};
-ghost use Rattle.ord_tree.specs.Promote.{IsRepaired};
+ghost use Rattle.std.specs.Prelude.{ℕ, ◌+◌, List, option_map, MatchBool, MatchOption};
+ghost use Rattle.ord_tree.specs.Promote.{IsRepaired, Repairs};
 ghost use Rattle.ord_tree.specs.Demote.{IsFallen, IsLeaning, IsDemoted, HasDemoted};
 ghost use Rattle.ord_tree.specs.Account.{IsSpelledWithin, IsDemotedWithin, IsFallenWithin, fallen_ranks, fallen_credit, leaning_ranks, leaning_credit};
 
@@ -52,22 +52,18 @@ pub fn demote_or_rotate<N: Nodes>(
     requires { (order : List ℕ)
         × IsLeaning (N.at nodes.old) (option_map N.number root.old) side
         (N.number y) (N.number s) order }
-    ensures mended { (order : List ℕ)
-        → IsLeaning (N.at nodes.old) (option_map N.number root.old) side
-        (N.number y) (N.number s) order
-        → MatchBool result
+    ensures { Repairs
+        (IsLeaning (N.at nodes.old) (option_map N.number root.old) side (N.number y) (N.number s))
+        (λ order. MatchBool result
         (IsDemoted (N.at nodes.old) (N.at nodes.new)
         (option_map N.number root.new) (N.number y) order)
-        (IsRepaired (N.at nodes.old) (N.at nodes.new) (option_map N.number root.new) order 1) }
-    ensures account { (order : List ℕ)
-        (lean : IsLeaning (N.at nodes.old) (option_map N.number root.old) side
-        (N.number y) (N.number s) order)
-        → MatchBool result
+        (IsRepaired (N.at nodes.old) (N.at nodes.new) (option_map N.number root.new) order 1))
+        (λ order lean. MatchBool result
         (IsDemotedWithin (leaning_ranks lean) (N.at nodes.new) (option_map N.number root.new)
         (N.number y) order (leaning_credit lean))
         (IsSpelledWithin (leaning_ranks lean) (N.at nodes.new) (option_map N.number root.new) order
-        (leaning_credit lean + 7)) }
-    ensures kept { N.list nodes.new ≡ N.list nodes.old }
+        (leaning_credit lean + 7)))
+        (N.list nodes.old) (N.list nodes.new) }
 {
     let other = side.other();
     let rank = nodes.links(y).rank;
@@ -93,21 +89,18 @@ pub fn demote_or_rotate<N: Nodes>(
 pub fn demote<N: Nodes>(nodes: &mut N, root: &mut Option<N::Inx>, y: N::Inx, side: Side) -> bool
     requires { (order : List ℕ)
         × IsFallen (N.at nodes.old) (option_map N.number root.old) (N.number y) side order }
-    ensures mended { (order : List ℕ)
-        → IsFallen (N.at nodes.old) (option_map N.number root.old) (N.number y) side order
-        → MatchBool result
+    ensures { Repairs
+        (IsFallen (N.at nodes.old) (option_map N.number root.old) (N.number y) side)
+        (λ order. MatchBool result
         (IsDemoted (N.at nodes.old) (N.at nodes.new)
         (option_map N.number root.new) (N.number y) order)
-        (IsRepaired (N.at nodes.old) (N.at nodes.new) (option_map N.number root.new) order 1) }
-    ensures account { (order : List ℕ)
-        (fallen : IsFallen (N.at nodes.old) (option_map N.number root.old)
-        (N.number y) side order)
-        → MatchBool result
+        (IsRepaired (N.at nodes.old) (N.at nodes.new) (option_map N.number root.new) order 1))
+        (λ order fallen. MatchBool result
         (IsDemotedWithin (fallen_ranks fallen) (N.at nodes.new) (option_map N.number root.new)
         (N.number y) order (fallen_credit fallen))
         (IsSpelledWithin (fallen_ranks fallen) (N.at nodes.new) (option_map N.number root.new) order
-        (fallen_credit fallen + 7)) }
-    ensures kept { N.list nodes.new ≡ N.list nodes.old }
+        (fallen_credit fallen + 7)))
+        (N.list nodes.old) (N.list nodes.new) }
 {
     let links = nodes.links(y);
     let low = rank_of(nodes, nodes.child(y, side));
@@ -136,23 +129,20 @@ pub fn demote_next<N: Nodes>(
     requires { (order : List ℕ)
         × IsFallen (N.at nodes.old) (option_map N.number root.old)
         (N.number branch.parent) branch.side order }
-    ensures demoted { (order : List ℕ)
-        → IsFallen (N.at nodes.old) (option_map N.number root.old)
-        (N.number branch.parent) branch.side order
-        → MatchOption result
+    ensures { Repairs
+        (IsFallen (N.at nodes.old) (option_map N.number root.old)
+        (N.number branch.parent) branch.side)
+        (λ order. MatchOption result
         (IsRepaired (N.at nodes.old) (N.at nodes.new) (option_map N.number root.new) order 1)
         (λ next. HasDemoted (N.at nodes.old) (N.at nodes.new) (option_map N.number root.new)
-        (N.number branch.parent) (N.number next.parent) next.side order) }
-    ensures account { (order : List ℕ)
-        (fallen : IsFallen (N.at nodes.old) (option_map N.number root.old)
-        (N.number branch.parent) branch.side order)
-        → MatchOption result
+        (N.number branch.parent) (N.number next.parent) next.side order))
+        (λ order fallen. MatchOption result
         (IsSpelledWithin (fallen_ranks fallen) (N.at nodes.new) (option_map N.number root.new) order
         (fallen_credit fallen + 7))
         (λ next. IsFallenWithin (fallen_ranks fallen) (N.at nodes.new)
         (option_map N.number root.new) (N.number next.parent) next.side order
-        (fallen_credit fallen)) }
-    ensures kept { N.list nodes.new ≡ N.list nodes.old }
+        (fallen_credit fallen)))
+        (N.list nodes.old) (N.list nodes.new) }
 {
     if !demote(nodes, root, branch.parent, branch.side) {
         return None;
@@ -165,16 +155,14 @@ pub fn demote_all<N: Nodes>(nodes: &mut N, root: &mut Option<N::Inx>, fallen: Br
     requires { (order : List ℕ)
         × IsFallen (N.at nodes.old) (option_map N.number root.old)
         (N.number fallen.parent) fallen.side order }
-    ensures repaired { (order : List ℕ)
-        → IsFallen (N.at nodes.old) (option_map N.number root.old)
-        (N.number fallen.parent) fallen.side order
-        → IsRepaired (N.at nodes.old) (N.at nodes.new) (option_map N.number root.new) order 1 }
-    ensures account { (order : List ℕ)
-        (first : IsFallen (N.at nodes.old) (option_map N.number root.old)
-        (N.number fallen.parent) fallen.side order)
-        → IsSpelledWithin (fallen_ranks first) (N.at nodes.new) (option_map N.number root.new) order
-        (fallen_credit first + 7) }
-    ensures kept { N.list nodes.new ≡ N.list nodes.old }
+    ensures { Repairs
+        (IsFallen (N.at nodes.old) (option_map N.number root.old)
+        (N.number fallen.parent) fallen.side)
+        (λ order. IsRepaired (N.at nodes.old) (N.at nodes.new)
+        (option_map N.number root.new) order 1)
+        (λ order first. IsSpelledWithin (fallen_ranks first) (N.at nodes.new)
+        (option_map N.number root.new) order (fallen_credit first + 7))
+        (N.list nodes.old) (N.list nodes.new) }
 {
     let mut branch = fallen;
     while let Some(next) = demote_next(nodes, root, branch) {

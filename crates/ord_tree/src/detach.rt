@@ -3,11 +3,10 @@
 ghost use Rattle.std.specs.Prelude.{◌≡◌, ℕ, ◌+◌, None, Some, List, option_map, is_some, IsSomeAnd, MatchOption};
 ghost use Rattle.ord_tree.specs.Shape.{Shape};
 ghost use Rattle.ord_tree.specs.Potential.{potential};
-ghost use Rattle.ord_tree.specs.Slots.{Holds, MovesBacks};
 ghost use Rattle.ord_tree.specs.Promote.{IsBuilt};
 ghost use Rattle.ord_tree.specs.Demote.{IsFallen};
 ghost use Rattle.ord_tree.specs.Account.{IsSpelledWithin, IsFallenWithin, ranks_without};
-ghost use Rattle.ord_tree.specs.Detach.{without, stand_in, renamed, IsLoose, CanStandIn, IsDetachable};
+ghost use Rattle.ord_tree.specs.Detach.{without, stand_in, IsLoose, CanStandIn, StandsIn, IsDetachable, TakesOut};
 
 use crate::demote::demote_all;
 use crate::nodes::{Nodes, branch_of, hang, replace_child};
@@ -25,27 +24,21 @@ pub fn cut<N: Nodes>(
 ) -> Option<Branch<N::Inx>>
     requires { (order : List ℕ)
         × IsLoose (N.at nodes.old) (option_map N.number root.old) (N.number v) bare order }
-    ensures fallen { (order : List ℕ)
-        → IsLoose (N.at nodes.old) (option_map N.number root.old) (N.number v) bare order
-        → MatchOption result
+    ensures taken { TakesOut
+        (IsLoose (N.at nodes.old) (option_map N.number root.old) (N.number v) bare)
+        (λ order. MatchOption result
         (IsBuilt (N.at nodes.new) (option_map N.number root.new) (without (N.number v) order) 1)
         (λ branch. IsFallen (N.at nodes.new) (option_map N.number root.new)
-        (N.number branch.parent) branch.side (without (N.number v) order)) }
-    ensures backs { (order : List ℕ)
-        → IsLoose (N.at nodes.old) (option_map N.number root.old) (N.number v) bare order
-        → MovesBacks 1 (N.at nodes.old) (N.at nodes.new) }
-    ensures account { (order : List ℕ)
-        (loose : IsLoose (N.at nodes.old) (option_map N.number root.old)
-        (N.number v) bare order)
-        → MatchOption result
+        (N.number branch.parent) branch.side (without (N.number v) order)))
+        (λ order loose. MatchOption result
         (IsSpelledWithin (ranks_without (N.number v) loose.built.shape) (N.at nodes.new)
         (option_map N.number root.new) (without (N.number v) order)
         (potential loose.built.shape + 1))
         (λ branch. IsFallenWithin (ranks_without (N.number v) loose.built.shape) (N.at nodes.new)
         (option_map N.number root.new) (N.number branch.parent) branch.side
-        (without (N.number v) order) (potential loose.built.shape + 1)) }
+        (without (N.number v) order) (potential loose.built.shape + 1)))
+        1 (N.at nodes.old) (N.at nodes.new) (N.list nodes.old) (N.list nodes.new) }
     ensures occupied { (j : ℕ) → is_some (N.at nodes.new j) ≡ is_some (N.at nodes.old j) }
-    ensures kept { N.list nodes.new ≡ N.list nodes.old }
 {
     let links = nodes.links(v);
     let branch = branch_of(nodes, v);
@@ -59,14 +52,9 @@ pub fn cut<N: Nodes>(
 pub fn substitute<N: Nodes>(nodes: &mut N, root: &mut Option<N::Inx>, z: N::Inx, v: N::Inx)
     requires { (s : Shape)
         × CanStandIn (N.at nodes.old) (option_map N.number root.old) (N.number z) (N.number v) s }
-    ensures held { (s : Shape)
-        → CanStandIn (N.at nodes.old) (option_map N.number root.old) (N.number z) (N.number v) s
-        → Holds (N.at nodes.new) None (option_map N.number root.new)
-        (renamed (N.number z) (N.number v) s) }
-    ensures backs { (s : Shape)
-        → CanStandIn (N.at nodes.old) (option_map N.number root.old) (N.number z) (N.number v) s
-        → MovesBacks 3 (N.at nodes.old) (N.at nodes.new) }
-    ensures kept { N.list nodes.new ≡ N.list nodes.old }
+    ensures { StandsIn (N.number z) (N.number v) (N.at nodes.old) (N.at nodes.new)
+        (option_map N.number root.old) (option_map N.number root.new)
+        (N.list nodes.old) (N.list nodes.new) }
 {
     let links = nodes.links(z);
     replace_child(nodes, root, links.back, z, Some(v));
@@ -103,28 +91,21 @@ pub fn displace<N: Nodes>(
     requires { (order : List ℕ)
         × IsDetachable (N.at nodes.old) (option_map N.number root.old)
         (N.number z) (option_map N.number before) order }
-    ensures fallen { (order : List ℕ)
-        → IsDetachable (N.at nodes.old) (option_map N.number root.old)
-        (N.number z) (option_map N.number before) order
-        → MatchOption result
+    ensures { TakesOut
+        (IsDetachable (N.at nodes.old) (option_map N.number root.old)
+        (N.number z) (option_map N.number before))
+        (λ order. MatchOption result
         (IsBuilt (N.at nodes.new) (option_map N.number root.new) (without (N.number z) order) 1)
         (λ branch. IsFallen (N.at nodes.new) (option_map N.number root.new)
-        (N.number branch.parent) branch.side (without (N.number z) order)) }
-    ensures backs { (order : List ℕ)
-        → IsDetachable (N.at nodes.old) (option_map N.number root.old)
-        (N.number z) (option_map N.number before) order
-        → MovesBacks 4 (N.at nodes.old) (N.at nodes.new) }
-    ensures account { (order : List ℕ)
-        (can : IsDetachable (N.at nodes.old) (option_map N.number root.old)
-        (N.number z) (option_map N.number before) order)
-        → MatchOption result
+        (N.number branch.parent) branch.side (without (N.number z) order)))
+        (λ order can. MatchOption result
         (IsSpelledWithin (ranks_without (N.number z) can.built.shape) (N.at nodes.new)
         (option_map N.number root.new) (without (N.number z) order)
         (potential can.built.shape + 2))
         (λ branch. IsFallenWithin (ranks_without (N.number z) can.built.shape) (N.at nodes.new)
         (option_map N.number root.new) (N.number branch.parent) branch.side
-        (without (N.number z) order) (potential can.built.shape + 2)) }
-    ensures kept { N.list nodes.new ≡ N.list nodes.old }
+        (without (N.number z) order) (potential can.built.shape + 2)))
+        4 (N.at nodes.old) (N.at nodes.new) (N.list nodes.old) (N.list nodes.new) }
 {
     if nodes.links(z).lesser.is_none() {
         return cut(nodes, root, z, Side::Lesser);
@@ -140,21 +121,14 @@ pub fn detach<N: Nodes>(nodes: &mut N, root: &mut Option<N::Inx>, z: N::Inx, bef
     requires { (order : List ℕ)
         × IsDetachable (N.at nodes.old) (option_map N.number root.old)
         (N.number z) (option_map N.number before) order }
-    ensures built { (order : List ℕ)
-        → IsDetachable (N.at nodes.old) (option_map N.number root.old)
-        (N.number z) (option_map N.number before) order
-        → IsBuilt (N.at nodes.new) (option_map N.number root.new) (without (N.number z) order) 1 }
-    ensures backs { (order : List ℕ)
-        → IsDetachable (N.at nodes.old) (option_map N.number root.old)
-        (N.number z) (option_map N.number before) order
-        → MovesBacks 9 (N.at nodes.old) (N.at nodes.new) }
-    ensures account { (order : List ℕ)
-        (can : IsDetachable (N.at nodes.old) (option_map N.number root.old)
-        (N.number z) (option_map N.number before) order)
-        → IsSpelledWithin (ranks_without (N.number z) can.built.shape) (N.at nodes.new)
-        (option_map N.number root.new) (without (N.number z) order)
-        (potential can.built.shape + 9) }
-    ensures kept { N.list nodes.new ≡ N.list nodes.old }
+    ensures { TakesOut
+        (IsDetachable (N.at nodes.old) (option_map N.number root.old)
+        (N.number z) (option_map N.number before))
+        (λ order. IsBuilt (N.at nodes.new) (option_map N.number root.new)
+        (without (N.number z) order) 1)
+        (λ order can. IsSpelledWithin (ranks_without (N.number z) can.built.shape) (N.at nodes.new)
+        (option_map N.number root.new) (without (N.number z) order) (potential can.built.shape + 9))
+        9 (N.at nodes.old) (N.at nodes.new) (N.list nodes.old) (N.list nodes.new) }
 {
     if let Some(branch) = displace(nodes, root, z, before) {
         demote_all(nodes, root, branch);

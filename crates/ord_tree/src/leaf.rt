@@ -1,9 +1,9 @@
 //! Adding a leaf, and the repair that follows.
 
-ghost use Rattle.std.specs.Prelude.{◌≡◌, ℕ, ◌+◌, List, option_map};
+ghost use Rattle.std.specs.Prelude.{ℕ, ◌+◌, List, option_map};
 ghost use Rattle.ord_tree.specs.Leaf.{IsNewLeaf, beside};
 ghost use Rattle.ord_tree.specs.Potential.{potential};
-ghost use Rattle.ord_tree.specs.Promote.{IsRepaired};
+ghost use Rattle.ord_tree.specs.Promote.{IsRepaired, Repairs};
 ghost use Rattle.ord_tree.specs.Account.{IsSpelledWithin, rank_in};
 
 use crate::nodes::Nodes;
@@ -22,17 +22,15 @@ pub fn add_leaf<N: Nodes>(
     requires { (order : List ℕ) × (slack : ℕ)
         × IsNewLeaf (N.at nodes.old) (option_map N.number root.old) side
         (N.number y) (N.number x) order slack }
-    ensures repaired { (order : List ℕ) (slack : ℕ)
-        → IsNewLeaf (N.at nodes.old) (option_map N.number root.old) side
-        (N.number y) (N.number x) order slack
-        → IsRepaired (N.at nodes.old) (N.at nodes.new) (option_map N.number root.new)
-        (beside side (N.number y) (N.number x) order) slack }
-    ensures account { (order : List ℕ) (slack : ℕ)
-        (bud : IsNewLeaf (N.at nodes.old) (option_map N.number root.old) side
-        (N.number y) (N.number x) order slack)
-        → IsSpelledWithin (rank_in bud.built.shape) (N.at nodes.new) (option_map N.number root.new)
-        (beside side (N.number y) (N.number x) order) (potential bud.built.shape + 4) }
-    ensures kept { N.list nodes.new ≡ N.list nodes.old }
+    ensures { Repairs
+        (λ (o : List ℕ × ℕ). IsNewLeaf (N.at nodes.old) (option_map N.number root.old) side
+        (N.number y) (N.number x) o.0 o.1)
+        (λ o. IsRepaired (N.at nodes.old) (N.at nodes.new) (option_map N.number root.new)
+        (beside side (N.number y) (N.number x) o.0) o.1)
+        (λ o bud. IsSpelledWithin (rank_in bud.built.shape) (N.at nodes.new)
+        (option_map N.number root.new)
+        (beside side (N.number y) (N.number x) o.0) (potential bud.built.shape + 4))
+        (N.list nodes.old) (N.list nodes.new) }
 {
     nodes.set_child(y, side, Some(x));
     promote_all(nodes, root, x);

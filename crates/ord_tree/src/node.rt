@@ -26,7 +26,7 @@ pub struct SimpleOrdArenaNode<P: BasePtr, T> {
 
 impl<P: BasePtr, T> SimpleOrdArenaNode<P, T> {
     ghost use Rattle.ord_tree.specs.TreeLinks.{with_child_at};
-    ghost use Rattle.ord_tree.specs.Node.{links_in};
+    ghost use Rattle.ord_tree.specs.Node.{Relinks};
 
     /// Creates a node without children.
     pub(crate) fn leaf(p_back: Option<NodeInx<P::Inx>>, t: T) -> Self
@@ -68,9 +68,7 @@ impl<P: BasePtr, T> SimpleOrdArenaNode<P, T> {
 
     /// Replaces the root of a side.
     pub(crate) fn set_child(&mut self, side: Side, child: Option<NodeInx<P::Inx>>)
-        ensures links { links_in self.new
-            ≡ with_child_at side (option_map P.Inx.number child) (links_in self.old) }
-        ensures item { self.new.t ≡ self.old.t }
+        ensures { Relinks (with_child_at side (option_map P.Inx.number child)) self.old self.new }
     {
         match side {
             Side::Lesser => self.p_tree0 = kept(child),
@@ -86,12 +84,11 @@ impl<P: BasePtr, T> SimpleOrdArenaNode<P, T> {
         back: Option<NodeInx<P::Inx>>,
         rank: u8,
     )
-        ensures links { links_in self.new
-            ≡ record (with_child_at side (option_map P.Inx.number child) (links_in self.old)) {
+        ensures { Relinks
+            (λ n. record (with_child_at side (option_map P.Inx.number child) n) {
               back = option_map P.Inx.number back;
               rank = rank;
-            } }
-        ensures item { self.new.t ≡ self.old.t }
+            }) self.old self.new }
     {
         self.set_child(side, child);
         self.p_back = kept(back);

@@ -61,6 +61,7 @@ pub fn node_at<P: BasePtr, T, A: Allocator>(
     requires { IsOccupied chain.now (P.Inx.number i) }
     ensures { result ≡ i }
 {
+    // For the prover: the list is sound.
     prove!(chain.len() <= chain.capacity());
     NodeInx::new(i)
 }

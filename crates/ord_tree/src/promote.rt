@@ -1,7 +1,7 @@
 //! The repair after an insertion: promotions up the tree, then at most one single or double rotation.
 
-ghost use Rattle.std.specs.Prelude.{◌≡◌, ℕ, ◌+◌, Option, Some, List, option_map, MatchOption};
-ghost use Rattle.ord_tree.specs.Promote.{IsRising, IsSteep, IsRepaired, IsPromoted};
+ghost use Rattle.std.specs.Prelude.{ℕ, ◌+◌, List, option_map, MatchOption};
+ghost use Rattle.ord_tree.specs.Promote.{IsRising, IsSteep, IsRepaired, IsPromoted, Repairs};
 ghost use Rattle.ord_tree.specs.Account.{IsSpelledWithin, IsRisingWithin, rising_ranks, rising_credit, steep_ranks, steep_credit};
 
 use crate::nodes::{Nodes, rank_of, side_of};
@@ -41,16 +41,13 @@ pub fn rotate_once_or_twice<N: Nodes>(
     requires { (order : List ℕ) × (slack : ℕ)
         × IsSteep (N.at nodes.old) (option_map N.number root.old) side
         (N.number z) (N.number y) order slack }
-    ensures repaired { (order : List ℕ) (slack : ℕ)
-        → IsSteep (N.at nodes.old) (option_map N.number root.old) side
-        (N.number z) (N.number y) order slack
-        → IsRepaired (N.at nodes.old) (N.at nodes.new) (option_map N.number root.new) order slack }
-    ensures account { (order : List ℕ) (slack : ℕ)
-        (steep : IsSteep (N.at nodes.old) (option_map N.number root.old) side
-        (N.number z) (N.number y) order slack)
-        → IsSpelledWithin (steep_ranks steep) (N.at nodes.new) (option_map N.number root.new) order
-        (steep_credit steep + 3) }
-    ensures kept { N.list nodes.new ≡ N.list nodes.old }
+    ensures { Repairs
+        (λ (o : List ℕ × ℕ). IsSteep (N.at nodes.old) (option_map N.number root.old) side
+        (N.number z) (N.number y) o.0 o.1)
+        (λ o. IsRepaired (N.at nodes.old) (N.at nodes.new) (option_map N.number root.new) o.0 o.1)
+        (λ o steep. IsSpelledWithin (steep_ranks steep) (N.at nodes.new)
+        (option_map N.number root.new) o.0 (steep_credit steep + 3))
+        (N.list nodes.old) (N.list nodes.new) }
 {
     let low = nodes.links(y);
     let outer = rank_of(nodes, nodes.child(y, side));
@@ -70,21 +67,19 @@ pub fn rotate_once_or_twice<N: Nodes>(
 pub fn promote<N: Nodes>(nodes: &mut N, root: &mut Option<N::Inx>, y: N::Inx) -> Option<N::Inx>
     requires { (order : List ℕ) × (slack : ℕ)
         × IsRising (N.at nodes.old) (option_map N.number root.old) (N.number y) order slack }
-    ensures promoted { (order : List ℕ) (slack : ℕ)
-        → IsRising (N.at nodes.old) (option_map N.number root.old) (N.number y) order slack
-        → MatchOption result
-        (IsRepaired (N.at nodes.old) (N.at nodes.new) (option_map N.number root.new) order slack)
+    ensures { Repairs
+        (λ (o : List ℕ × ℕ). IsRising (N.at nodes.old) (option_map N.number root.old)
+        (N.number y) o.0 o.1)
+        (λ o. MatchOption result
+        (IsRepaired (N.at nodes.old) (N.at nodes.new) (option_map N.number root.new) o.0 o.1)
         (λ z. IsPromoted (N.at nodes.old) (N.at nodes.new) (option_map N.number root.new)
-        (N.number y) (N.number z) order slack) }
-    ensures account { (order : List ℕ) (slack : ℕ)
-        (rising : IsRising (N.at nodes.old) (option_map N.number root.old)
-        (N.number y) order slack)
-        → MatchOption result
-        (IsSpelledWithin (rising_ranks rising) (N.at nodes.new) (option_map N.number root.new) order
+        (N.number y) (N.number z) o.0 o.1))
+        (λ o rising. MatchOption result
+        (IsSpelledWithin (rising_ranks rising) (N.at nodes.new) (option_map N.number root.new) o.0
         (rising_credit rising + 3))
         (λ z. IsRisingWithin (rising_ranks rising) (N.at nodes.new) (option_map N.number root.new)
-        (N.number z) order slack (rising_credit rising)) }
-    ensures kept { N.list nodes.new ≡ N.list nodes.old }
+        (N.number z) o.0 o.1 (rising_credit rising)))
+        (N.list nodes.old) (N.list nodes.new) }
 {
     let low = nodes.links(y);
     let Some(z) = low.back else {
@@ -109,15 +104,13 @@ pub fn promote<N: Nodes>(nodes: &mut N, root: &mut Option<N::Inx>, y: N::Inx) ->
 pub fn promote_all<N: Nodes>(nodes: &mut N, root: &mut Option<N::Inx>, y: N::Inx)
     requires { (order : List ℕ) × (slack : ℕ)
         × IsRising (N.at nodes.old) (option_map N.number root.old) (N.number y) order slack }
-    ensures repaired { (order : List ℕ) (slack : ℕ)
-        → IsRising (N.at nodes.old) (option_map N.number root.old) (N.number y) order slack
-        → IsRepaired (N.at nodes.old) (N.at nodes.new) (option_map N.number root.new) order slack }
-    ensures account { (order : List ℕ) (slack : ℕ)
-        (rising : IsRising (N.at nodes.old) (option_map N.number root.old)
-        (N.number y) order slack)
-        → IsSpelledWithin (rising_ranks rising) (N.at nodes.new) (option_map N.number root.new) order
-        (rising_credit rising + 3) }
-    ensures kept { N.list nodes.new ≡ N.list nodes.old }
+    ensures { Repairs
+        (λ (o : List ℕ × ℕ). IsRising (N.at nodes.old) (option_map N.number root.old)
+        (N.number y) o.0 o.1)
+        (λ o. IsRepaired (N.at nodes.old) (N.at nodes.new) (option_map N.number root.new) o.0 o.1)
+        (λ o rising. IsSpelledWithin (rising_ranks rising) (N.at nodes.new)
+        (option_map N.number root.new) o.0 (rising_credit rising + 3))
+        (N.list nodes.old) (N.list nodes.new) }
 {
     let mut rising = y;
     while let Some(z) = promote(nodes, root, rising) {

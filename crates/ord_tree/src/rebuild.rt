@@ -7,7 +7,7 @@ ghost use Rattle.ord_tree.specs.Slots.{Slots, Holds, times, IsOnce};
 ghost use Rattle.ord_tree.specs.Node.{indexes};
 ghost use Rattle.ord_tree.specs.Numbers.{IsTop};
 ghost use Rattle.ord_tree.specs.Half.{half_rank, IsHalf, IsRebuilt};
-ghost use Rattle.ord_tree.specs.Rebuild.{IsFew, IsPlan, IsUnopened, IsOpening, IsFinished, IsWaiting};
+ghost use Rattle.ord_tree.specs.Rebuild.{IsFew, IsPlan, IsUnopened, IsOpening, IsFinished, IsWaiting, Builds};
 
 use crate::nodes::{Nodes, hang};
 use crate::tree_links::{Side, TreeLinks};
@@ -89,18 +89,17 @@ pub fn meet<N: Nodes>(
     requires { (s : Shape) × (todo : List ℕ) × IsPlan (N.at nodes.old) top s
         × IsWaiting (N.at nodes.old) stack.old.items s
         (option_map N.number lesser) (N.number x ∷ todo) }
-    ensures plan { (s : Shape) → IsPlan (N.at nodes.old) top s → IsPlan (N.at nodes.new) top s }
-    ensures met { (s : Shape) (todo : List ℕ) → IsPlan (N.at nodes.old) top s
-        → IsWaiting (N.at nodes.old) stack.old.items s
-        (option_map N.number lesser) (N.number x ∷ todo)
-        → IsUnopened (N.at nodes.new) (stack.new.items ++ result ∷ []) s
-        (result.len - result.len / 2 - 1) todo }
+    ensures step { Builds top
+        (λ s todo. IsWaiting (N.at nodes.old) stack.old.items s
+        (option_map N.number lesser) (N.number x ∷ todo))
+        (λ s todo. IsUnopened (N.at nodes.new) (stack.new.items ++ result ∷ []) s
+        (result.len - result.len / 2 - 1) todo)
+        (N.at nodes.old) (N.at nodes.new) (N.list nodes.old) (N.list nodes.new) }
     ensures middle { result.middle ≡ Some (N.number x) }
     ensures bare { option_map (λ n. n.greater) (N.at nodes.new (N.number x)) ≡ Some None }
     ensures some { 0 < result.len }
     ensures fewer { array_vec_len stack.new < array_vec_len stack.old }
     ensures room { array_vec_len stack.new < 64 }
-    ensures kept { N.list nodes.new ≡ N.list nodes.old }
 {
     let frame = stack.pop().unwrap();
     let rank = rank_over(frame.len, top.saturating_sub(stack.len() as u8));
@@ -128,16 +127,14 @@ pub fn close_one<N: Nodes>(
 ) -> Option<N::Inx>
     requires { (s : Shape) × (top : ℕ) × (todo : List ℕ) × IsPlan (N.at nodes.old) top s
         × IsFinished (N.at nodes.old) stack.old.items s (option_map N.number greater) todo }
-    ensures plan { (s : Shape) (top : ℕ) → IsPlan (N.at nodes.old) top s
-        → IsPlan (N.at nodes.new) top s }
-    ensures closed { (s : Shape) (top : ℕ) (todo : List ℕ) → IsPlan (N.at nodes.old) top s
-        → IsFinished (N.at nodes.old) stack.old.items s (option_map N.number greater) todo
-        → MatchOption result
+    ensures step { (top : ℕ) → Builds top
+        (λ s. IsFinished (N.at nodes.old) stack.old.items s (option_map N.number greater))
+        (λ s todo. MatchOption result
         (IsWaiting (N.at nodes.new) stack.new.items s (option_map N.number greater) todo)
-        (λ m. IsFinished (N.at nodes.new) stack.new.items s (Some (N.number m)) todo) }
+        (λ m. IsFinished (N.at nodes.new) stack.new.items s (Some (N.number m)) todo))
+        (N.at nodes.old) (N.at nodes.new) (N.list nodes.old) (N.list nodes.new) }
     ensures fewer { MatchOption result (stack.new ≡ stack.old)
         (λ m. array_vec_len stack.new < array_vec_len stack.old) }
-    ensures kept { N.list nodes.new ≡ N.list nodes.old }
 {
     let found = stack.last()?.middle?;
     stack.pop();
@@ -152,13 +149,11 @@ pub fn close_one<N: Nodes>(
 pub fn close<N: Nodes>(nodes: &mut N, stack: &mut Stack, greater: Option<N::Inx>) -> Option<N::Inx>
     requires { (s : Shape) × (top : ℕ) × (todo : List ℕ) × IsPlan (N.at nodes.old) top s
         × IsFinished (N.at nodes.old) stack.old.items s (option_map N.number greater) todo }
-    ensures plan { (s : Shape) (top : ℕ) → IsPlan (N.at nodes.old) top s
-        → IsPlan (N.at nodes.new) top s }
-    ensures closed { (s : Shape) (top : ℕ) (todo : List ℕ) → IsPlan (N.at nodes.old) top s
-        → IsFinished (N.at nodes.old) stack.old.items s (option_map N.number greater) todo
-        → IsWaiting (N.at nodes.new) stack.new.items s (option_map N.number result) todo }
+    ensures step { (top : ℕ) → Builds top
+        (λ s. IsFinished (N.at nodes.old) stack.old.items s (option_map N.number greater))
+        (λ s. IsWaiting (N.at nodes.new) stack.new.items s (option_map N.number result))
+        (N.at nodes.old) (N.at nodes.new) (N.list nodes.old) (N.list nodes.new) }
     ensures few { array_vec_len stack.new ≤ array_vec_len stack.old }
-    ensures kept { N.list nodes.new ≡ N.list nodes.old }
 {
     let mut finished = greater;
     while let Some(middle) = close_one(nodes, stack, finished) {
@@ -178,16 +173,15 @@ pub fn pass<N: Nodes>(
     requires { (s : Shape) × (todo : List ℕ) × IsPlan (N.at nodes.old) top s
         × IsWaiting (N.at nodes.old) stack.old.items s
         (option_map N.number lesser) (N.number x ∷ todo) }
-    ensures plan { (s : Shape) → IsPlan (N.at nodes.old) top s → IsPlan (N.at nodes.new) top s }
-    ensures passed { (s : Shape) (todo : List ℕ) → IsPlan (N.at nodes.old) top s
-        → IsWaiting (N.at nodes.old) stack.old.items s
-        (option_map N.number lesser) (N.number x ∷ todo)
-        → IsWaiting (N.at nodes.new) stack.new.items s (option_map N.number result) todo }
+    ensures step { Builds top
+        (λ s todo. IsWaiting (N.at nodes.old) stack.old.items s
+        (option_map N.number lesser) (N.number x ∷ todo))
+        (λ s. IsWaiting (N.at nodes.new) stack.new.items s (option_map N.number result))
+        (N.at nodes.old) (N.at nodes.new) (N.list nodes.old) (N.list nodes.new) }
     ensures few { (s : Shape) (todo : List ℕ) → IsPlan (N.at nodes.old) top s
         → IsWaiting (N.at nodes.old) stack.old.items s
         (option_map N.number lesser) (N.number x ∷ todo)
         → IsFew stack.new.items s }
-    ensures kept { N.list nodes.new ≡ N.list nodes.old }
 {
     let met = meet(nodes, stack, top, x, lesser);
     let rest = met.len - met.len / 2 - 1;

@@ -1,7 +1,7 @@
 //! Rotations: the only steps of a repair that change the shape.
 
-ghost use Rattle.std.specs.Prelude.{◌≡◌, Option, Some, option_map};
-ghost use Rattle.ord_tree.specs.Rotate.{Site, IsRotated};
+ghost use Rattle.std.specs.Prelude.{option_map};
+ghost use Rattle.ord_tree.specs.Rotate.{Site, Rotates};
 
 use crate::nodes::{Nodes, hang, replace_child};
 use crate::tree_links::Side;
@@ -28,10 +28,9 @@ pub fn rotate<N: Nodes>(
     rank_y: u8,
 )
     requires { Site (N.at nodes.old) (option_map N.number root.old) side (N.number z) (N.number y) }
-    ensures rotated { (site : Site (N.at nodes.old)
-        (option_map N.number root.old) side (N.number z) (N.number y))
-        → IsRotated site (N.at nodes.new) (option_map N.number root.new) rank_z rank_y }
-    ensures kept { N.list nodes.new ≡ N.list nodes.old }
+    ensures { Rotates side (N.number z) (N.number y) rank_z rank_y
+        (N.at nodes.old) (N.at nodes.new) (option_map N.number root.old)
+        (option_map N.number root.new) (N.list nodes.old) (N.list nodes.new) }
 {
     let other = side.other();
     // For the prover: what `child` returns is a link of this node.

@@ -2,11 +2,10 @@
 
 ghost use Rattle.std.specs.Prelude.{◌≡◌, ◌==◌, None, IfSome, is_some, length};
 ghost use Rattle.std.specs.Option.{option_map};
-ghost use Rattle.chain_base.specs.Generation.{IsLawfulGeneration, overflows_after};
-ghost use Rattle.chain_base.specs.Invalidation.{is_overflow};
+ghost use Rattle.chain_base.specs.Generation.{IsLawfulGeneration};
 ghost use Rattle.chain_base.specs.Chain.{raised, entry_at, next_index, IsSound};
 ghost use Rattle.ord_tree.specs.Shape.{root_of};
-ghost use Rattle.ord_tree.specs.Tree.{IsChainOf, IsSoundTree};
+ghost use Rattle.ord_tree.specs.Tree.{IsChainOf, IsSoundTree, Raises};
 
 mod append;
 mod clone;
@@ -110,9 +109,8 @@ impl<P: BasePtr, T, A: Allocator> OrdTree<P, T, A> {
 
     /// Raises the generation of the next entry. Existing entries keep theirs. The result says whether the generation overflowed.
     pub fn inc_generation(&mut self) -> InvalidationOption<()>
-        ensures after { self.new ≡ record self.old { list = raised P.Gen.greatest self.old.list } }
-        ensures overflow { is_overflow result
-            ≡ overflows_after P.Gen.greatest self.old.list.generation }
+        ensures { Raises P.Gen.greatest self.old.list.generation result
+            (self.new ≡ record self.old { list = raised P.Gen.greatest self.old.list }) }
     {
         self.chain.inc_generation()
     }

@@ -1,8 +1,8 @@
 -- What the deals of an order leave: within its limit, and no other name changes.
-use Rattle.std.proofs.Common.{◌≡◌, ◌≢◌, ℕ, ◌+◌, ◌-◌, ◌<◌, ◌≤◌, Bool, true, false, List, [], ◌∷◌, ◌++◌, length, length-append, Option, Some, None, OnSome, IfNone, refl, sym, ap, subst, ◌∙◌, arith, inl, inr, if◌then◌else◌}
+use Rattle.std.proofs.Common.{◌≡◌, ◌≢◌, ℕ, ◌+◌, ◌-◌, ◌<◌, ◌≤◌, Bool, true, false, List, [], ◌∷◌, ◌++◌, Option, Some, None, OnSome, IfNone, refl, sym, ap, ◌∙◌, arith, inl, inr, if◌then◌else◌}
 use Rattle.std.proofs.{lemmas.Bool.Decides.eqb_tells, lemmas.Bool.Decides.leb_tells, lemmas.Bool.lt-ltb, lemmas.Bool.le-ltb, lemmas.List.append-nil}
 use Rattle.std.specs.List.{AllByRecursion}
-use Rattle.order_queue.specs.Queue.{Queue, IsInOrder, Rests, HasRoomFor, is_named_by, meets, order_of, resting, traded, trades_of_first, within, with_left, behind}
+use Rattle.order_queue.specs.Queue.{Queue, IsInOrder, Rests, is_named_by, meets, order_of, resting, traded, trades_of_first, within, with_left, behind}
 use Rattle.order_queue.specs.{declared.order.Order.Order, declared.order.Trade.Trade, declared.side.Side.Side, Id.Id}
 use Rattle.order_queue.proofs.CallerLemmas.{within-missed, trades-none, behind-none}
 use Rattle.order_book.specs.Book.{IsUntraded, RestsOrNot}
@@ -88,12 +88,3 @@ module _ (own new : Queue) (price rest tag : ℕ) where
       let named : id_of own.side id.pointer ≡ id = ap (λ s. id_of s id.pointer) (sym rests.1) in
       let apart : id_of own.side id.pointer ≢ id_of own.side p = λ same. other (ap (λ (i : Id). Some i) (sym same ∙ named)) in
       ap (λ xs. order_of xs p) r.after ∙ between-others r.ahead x r.later p (unnamed own.side p x refl apart) ∙ ap (λ xs. order_of xs p) (sym r.before)
-
-  -- and takes room for one
-  pub rests-room : (id : Option Id) → RestsOrNot own price rest tag id new → (n : ℕ) → HasRoomFor (n + 1) own → HasRoomFor n new
-  rests-room None rests n room = subst (λ q. HasRoomFor n q) (sym rests.1) (omega (arith, room))
-  rests-room (Some id) rests n room =
-      let r : Rests own price rest tag id.pointer new = rests.2 in
-      let x : Order = resting own.side id.pointer price rest tag in
-      let same : new.capacity ≡ own.capacity = r.capacity ∙ rw (lt-ltb (length own.orders) own.capacity (omega (arith, room))) refl in
-      omega (arith, room, same, ap length r.after, ap length r.before, length-append r.ahead (x ∷ r.later), length-append r.ahead r.later)

@@ -1,11 +1,11 @@
 -- Names that have ended stay so: how names go on from one book to the next.
-use Rattle.std.proofs.Common.{◌≡◌, ◌≢◌, ℕ, zero, suc, ◌+◌, ◌-◌, ◌<◌, ◌≤◌, ◌==◌, ◌&&◌, ◌⊎◌, inl, inr, List, [], ◌∷◌, ◌++◌, length, Option, Some, None, IsSome, is_some, IfSome, IfNone, OnSome, Result, Ok, Err, IfOk, OnOk, OnErr, true, false, refl, sym, ap, subst, ◌∙◌, arith, if◌then◌else◌}
+use Rattle.std.proofs.Common.{◌≡◌, ℕ, ◌+◌, ◌-◌, ◌<◌, ◌≤◌, ◌⊎◌, inl, inr, List, [], ◌∷◌, ◌++◌, length, Option, Some, None, IsSome, is_some, Result, Ok, Err, IfOk, OnOk, OnErr, true, false, refl, sym, ap, subst, ◌∙◌, arith, if◌then◌else◌}
 use Rattle.std.specs.Prelude.{Bool, nat_lt}
 use Rattle.std.proofs.{lemmas.Bool.Decides.eqb_tells}
-use Rattle.order_queue.specs.Queue.{Queue, most_entries, is_named_by, order_of, without, with_rest, with_quantity, generation_after, behind, generation_behind, taken, with_left, reduced, Rests}
+use Rattle.order_queue.specs.Queue.{Queue, most_entries, is_named_by, order_of, without, with_rest, generation_after, behind, generation_behind, taken, with_left, Rests}
 use Rattle.order_queue.specs.{Id.Id, declared.order.Order.Order, declared.side.Side.TheVariants.Buy, declared.side.Side.TheVariants.Sell}
 use Rattle.order_book.specs.Book.{Book, RestsOrNot, queue, named}
-use Rattle.order_book.specs.Names.{GoesOn, Counts, IsStep, IsRun, HasNoLaterName, HasEnded, KeepsEnded, EndedNameLaw}
+use Rattle.order_book.specs.Names.{GoesOn, Counts, IsStep, IsRun, HasNoLaterName, HasEnded, EndedNameLaw}
 
 -- a pointer names an order also where others stand before it
 there-behind : (x : Order) (xs : List Order) (p : ℕ × ℕ) → IsSome (order_of xs p) → IsSome (order_of (x ∷ xs) p)
@@ -43,20 +43,6 @@ there-taken [] n p = λ there. there
 there-taken (x ∷ xs) n p = elim (nat_lt n x.quantity) as (λ b. IsSome (order_of (if b then with_rest x (x.quantity - n) ∷ xs else behind (n - x.quantity) xs) p) → IsSome (order_of (x ∷ xs) p)) [
   | true ↦ there-before x (x.quantity - n) xs p
   | false ↦ λ there. there-behind x xs p (there-taken xs (n - x.quantity) p there)
-]
-
--- how much is left of one of them doesn't touch what names them
-there-less : (xs : List Order) (p : ℕ × ℕ) (n : ℕ) (u : ℕ × ℕ) → is_some (order_of (with_quantity xs p n) u) ≡ is_some (order_of xs u)
-there-less [] p n u = refl
-there-less (x ∷ xs) p n u = elim (is_named_by p x) as (λ b. is_some (order_of (if b then with_rest x n ∷ xs else x ∷ with_quantity xs p n) u) ≡ is_some (order_of (x ∷ xs) u)) [
-  | true ↦ elim (is_named_by u x) as (λ b. is_some (if b then Some (with_rest x n) else order_of xs u) ≡ is_some (if b then Some x else order_of xs u)) [
-    | true ↦ refl
-    | false ↦ refl
-  ]
-  | false ↦ elim (is_named_by u x) as (λ b. is_some (if b then Some x else order_of (with_quantity xs p n) u) ≡ is_some (if b then Some x else order_of xs u)) [
-    | true ↦ refl
-    | false ↦ there-less xs p n u
-  ]
 ]
 
 -- a pointer that names an order has its generation
@@ -199,25 +185,6 @@ pub goes-anew : (old new : Queue) (p : ℕ × ℕ) (price rest tag : ℕ) (id : 
 goes-anew old new p price rest tag id rests counted =
     let same = generation-in (with_left old p) new price rest tag id rests in
     goes-then old (with_left old p) new (omega (arith, counted, same)) (omega (arith, same)) (goes-left old p (omega (arith, counted, same))) (goes-in (with_left old p) new price rest tag id rests)
-
-pub goes-reduced : (q : Queue) (p : ℕ × ℕ) (left : ℕ) → q.generation ≤ (reduced q p left).generation → GoesOn q (reduced q p left)
-goes-reduced q p zero counted = goes-left q p counted
-goes-reduced q p (suc left) counted = record {
-  known = λ u there. inl (sym (there-less q.orders p (suc left) u) ∙ there);
-  ended = λ u there none. absurd (some-none _ (there-less q.orders p (suc left) u ∙ there) none);
-}
-
--- The same by what the calls of a queue say: an order leaves or none does; so much is left of one, or it names none; an order has come in,
--- in place of another or not; and the other side has traded.
-pub goes-left_if : (q new : Queue) (o : Option Order) (p : ℕ × ℕ) → OnSome o (new ≡ with_left q p) → IfNone o (new ≡ q) → q.generation ≤ new.generation → GoesOn q new
-goes-left_if q new None p gone none counted = goes-nowhere q new none
-goes-left_if q new (Some x) p gone none counted =
-    subst (λ (r : Queue). GoesOn q r) (sym gone) (goes-left q p (subst (λ (r : Queue). q.generation ≤ r.generation) gone counted))
-
-pub goes-reduced_if : (q new : Queue) (left : Option ℕ) (p : ℕ × ℕ) → IfSome left (λ n. new ≡ reduced q p n) → IfNone left (new ≡ q) → q.generation ≤ new.generation → GoesOn q new
-goes-reduced_if q new None p after none counted = goes-nowhere q new none
-goes-reduced_if q new (Some n) p after none counted =
-    subst (λ (r : Queue). GoesOn q r) (sym after) (goes-reduced q p n (subst (λ (r : Queue). q.generation ≤ r.generation) after counted))
 
 module _ {E : Type 0} (r : Result (Option Id) E) (q new : Queue) (kept : OnErr r (new ≡ q)) where
   pub goes-own : (price rest tag : ℕ) → IfOk r (λ id. RestsOrNot q price rest tag id new) → GoesOn q new

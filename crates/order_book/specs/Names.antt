@@ -1,8 +1,8 @@
 -- What becomes of names along the calls of a book: one that has ended names no order again, unless the generations of its side begin again.
-use Rattle.std.specs.Prelude.{◌≡◌, ◌⊎◌, ℕ, ◌<◌, ◌≤◌, List, [], ◌∷◌, None, IsSome}
+use Rattle.std.specs.Prelude.{◌≡◌, ◌⊎◌, ℕ, ◌<◌, ◌≤◌, List, [], ◌∷◌, Option, None, IsSome, IfNone, Result, OnErr}
 use Rattle.order_queue.specs.Queue.{Queue, order_of}
-use Rattle.order_queue.specs.Id.{Id}
-use Rattle.order_book.specs.Book.{Book, queue, named}
+use Rattle.order_queue.specs.{Id.Id, declared.order.Order.Order, declared.order.Trade.Trade}
+use Rattle.order_book.specs.Book.{Book, queue, named, Updates}
 
 -- How names go on from one moment of a side to a later one: what a pointer names now, it named before, or its generation is one from the
 -- side's old one to its new one; and if a pointer has come to name nothing, the generation has risen.
@@ -19,6 +19,19 @@ pub record Counts (old new : Book) : Type 0 where
 pub record IsStep (old new : Book) : Type 0 where
   pub bids : old.bids.generation ≤ new.bids.generation → GoesOn old.bids new.bids
   pub asks : old.asks.generation ≤ new.asks.generation → GoesOn old.asks new.asks
+
+-- A call that changes the order of a name, or removes it: the name names `found` afterwards. If it names no order, nothing changes.
+pub record ChangesOrder {X : Type 0} (old : Book) (id : Id) (found : Option Order) (result : Option X) (new : Book) : Type 0 where
+  pub updates : Updates old new id found
+  pub step : IsStep old new
+  pub none : IfNone result (new ≡ old)
+
+-- A call that may let an order in, and appends its trades to a list. If it refuses the order, book and list stay as they are.
+pub record StepsOrRefuses {X E : Type 0} (old : Book) (before : List Trade) (result : Result X E) (new : Book)
+    (after : List Trade) : Type 0 where
+  pub step : IsStep old new
+  pub err : OnErr result (new ≡ old)
+  pub kept : OnErr result (after ≡ before)
 
 -- A run of calls: each book comes from the one before it by a call that doesn't make generations begin again.
 abbrev pub IsRun : Book → List Book → Book → Type 0

@@ -7,8 +7,8 @@ ghost use Rattle.order_queue.specs.PlainArena.{capacity_for};
 ghost use Rattle.order_queue.specs.Queue.{most_entries, first_of, first_levels, resting, traded, within, reduced_order, total, volume, HasRoomFor};
 ghost use Rattle.order_queue.specs.declared.side.Side.TheVariants.{Buy, Sell};
 ghost use Rattle.order_book.specs.Book.{opposite, queue, empty_queue, named, limit_of, can_rest, only_rests, is_whole, without, with_less, replacement};
-ghost use Rattle.order_book.specs.Names.{IsStep};
-ghost use Rattle.order_book.specs.Book.{trades_for, trades_of, untraded, rest_of, AreWithin, IsBook, IsFull, IsUntraded, LacksRoom, Places, Updates};
+ghost use Rattle.order_book.specs.Names.{IsStep, ChangesOrder, StepsOrRefuses};
+ghost use Rattle.order_book.specs.Book.{trades_for, trades_of, untraded, rest_of, AreWithin, IsBook, IsFull, IsUntraded, LacksRoom, Places};
 
 use crate::error::{PlacingError, ReplacingError};
 use crate::new_order::{NewOrder, OrderKind};
@@ -178,12 +178,10 @@ impl<A: Allocator> OrderBook<A> {
     /// If `id` names no order, returns `None` and nothing changes.
     pub fn cancel(&mut self, id: OrderId) -> Option<Order>
         ensures value { result ≡ named self.old id }
-        ensures updates { Updates self.old self.new id None }
+        ensures changes { ChangesOrder self.old id None result self.new }
         ensures count { OnSome result (length (queue self.old id.side).orders
             ≡ length (queue self.new id.side).orders + 1) }
         ensures gone { OnSome result (self.new ≡ without self.old id) }
-        ensures step { IsStep self.old self.new }
-        ensures none { IfNone result (self.new ≡ self.old) }
     {
         match id.side() {
             Side::Buy => self.bids.remove(id.pointer()),
@@ -197,11 +195,9 @@ impl<A: Allocator> OrderBook<A> {
     /// nothing changes. O(1), or O(log n) if the order leaves.
     pub fn reduce(&mut self, id: OrderId, quantity: u64) -> Option<u64>
         ensures value { result ≡ option_map (λ x. x.quantity - quantity) (named self.old id) }
-        ensures updates { Updates self.old self.new id
-            (reduced_order (named self.old id) quantity) }
+        ensures changes { ChangesOrder self.old id
+            (reduced_order (named self.old id) quantity) result self.new }
         ensures after { IfSome result (λ left. self.new ≡ with_less self.old id left) }
-        ensures step { IsStep self.old self.new }
-        ensures none { IfNone result (self.new ≡ self.old) }
     {
         match id.side() {
             Side::Buy => self.bids.reduce(id.pointer(), quantity),
@@ -305,9 +301,8 @@ impl<A: Allocator> OrderBook<A> {
             (trades_of self.old order)
             ⊎ ((0 < rest_of self.old order) × IsFull (queue self.old order.side)
             × (length (queue self.old order.side).orders ≢ most_entries)) }
-        ensures step { IsStep self.old self.new }
-        ensures err { OnErr result (self.new ≡ self.old) }
-        ensures kept { OnErr result (trades.new.items ≡ trades.old.items) }
+        ensures steps { StepsOrRefuses self.old trades.old.items result
+            self.new trades.new.items }
     {
         if let Some(refusal) = self.refusal(order) {
             return Err(refusal);
@@ -367,9 +362,8 @@ impl<A: Allocator> OrderBook<A> {
         ensures memory { result ≡ Err ReplacingError.AllocError
             → LacksRoom (vec_capacity trades.old) (length trades.old.items)
             (trades_of (without self.old id) (replacement self.old id price quantity)) }
-        ensures step { IsStep self.old self.new }
-        ensures err { OnErr result (self.new ≡ self.old) }
-        ensures kept { OnErr result (trades.new.items ≡ trades.old.items) }
+        ensures steps { StepsOrRefuses self.old trades.old.items result
+            self.new trades.new.items }
     {
         if quantity == 0 {
             return Err(ReplacingError::NoQuantity);

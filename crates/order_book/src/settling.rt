@@ -1,9 +1,10 @@
 //! What an order does to the two sides of a book.
 
-ghost use Rattle.std.specs.Prelude.{◌≡◌, ◌≢◌, ◌↔◌, ◌+◌, ◌<◌, ◌++◌, ◌⊎◌, ℕ, Err, Some, None, length, vec_capacity, if◌then◌else◌};
+ghost use Rattle.std.specs.Prelude.{◌≡◌, ◌≢◌, ◌↔◌, ◌+◌, ◌<◌, ◌⊎◌, ℕ, Err, Some, None, length, vec_capacity, if◌then◌else◌};
 ghost use Rattle.std.specs.Prelude.{IfOk, OnOk, OnErr, IfSome};
-ghost use Rattle.order_queue.specs.Queue.{most_entries, order_of, taken, total, volume, resting, with_left, HasRoomFor};
-ghost use Rattle.order_book.specs.Book.{limit_of, can_rest, dealt, deals, undealt, remainder, AreWithin, IsFull, IsUntraded, LacksRoom, RestsOrNot};
+ghost use Rattle.order_queue.specs.Queue.{most_entries, order_of, resting, with_left, HasRoomFor};
+ghost use Rattle.order_book.specs.Book.{limit_of, can_rest, dealt, deals, remainder, IsFull, LacksRoom, RestsOrNot};
+ghost use Rattle.order_book.specs.Layout.{Settles};
 
 use crate::new_order::NewOrder;
 use order_queue::{OrderId, OrderQueue, P0, ReallocationError, Trade};
@@ -52,16 +53,8 @@ pub(crate) fn settle<A: Allocator, B: Allocator>(
 ) -> Result<Option<OrderId>, ReallocationError>
     ensures rests { IfOk result (λ id. RestsOrNot own.old (limit_of order.side order.kind)
         (remainder other.old order) order.tag id own.new) }
-    ensures names { IfOk result (λ id. IfSome id (λ i. order_of own.new.orders i.pointer
-        ≡ Some (resting own.old.side i.pointer (limit_of order.side order.kind)
-        (remainder other.old order) order.tag))) }
-    ensures taken { OnOk result (other.new ≡ taken (dealt other.old order) other.old) }
-    ensures trades { OnOk result
-        (trades.new.items ≡ trades.old.items ++ deals other.old order) }
-    ensures bought { OnOk result
-        (volume (deals other.old order) + undealt other.old order ≡ order.quantity) }
-    ensures sold { OnOk result
-        (total other.new.orders + volume (deals other.old order) ≡ total other.old.orders) }
+    ensures settles { Settles own.old other.old order trades.old.items result
+        own.new other.new trades.new.items }
     ensures full { (result ≡ Err ReallocationError.BeyondMaxCapacity)
         ↔ ((0 < remainder other.old order) × (length own.old.orders ≡ most_entries)) }
     ensures memory { result ≡ Err ReallocationError.AllocError
@@ -71,18 +64,10 @@ pub(crate) fn settle<A: Allocator, B: Allocator>(
     ensures own_others { IfOk result (λ id. (p : ℕ × ℕ)
         → Some (record { side = own.old.side; pointer = p }) ≢ id
         → order_of own.new.orders p ≡ order_of own.old.orders p) }
-    ensures others { OnOk result ((p : ℕ × ℕ)
-        → IsUntraded (record { side = other.old.side; pointer = p }) (deals other.old order)
-        → order_of other.new.orders p ≡ order_of other.old.orders p) }
-    ensures limited { OnOk result (AreWithin other.old.side
-        (limit_of order.side order.kind) (deals other.old order)) }
     ensures quiet { dealt other.old order ≡ 0
         → OnOk result (trades.new.items ≡ trades.old.items) }
     ensures room { OnOk result
         ((n : ℕ) → HasRoomFor (n + 1) own.old → HasRoomFor n own.new) }
-    ensures own_kept { OnErr result (own.new ≡ own.old) }
-    ensures other_kept { OnErr result (other.new ≡ other.old) }
-    ensures trades_kept { OnErr result (trades.new.items ≡ trades.old.items) }
 {
     let price = order.kind.limit(order.side);
     // If the side is full, that is the refusal, also if the trades would be refused memory.
@@ -121,29 +106,13 @@ pub(crate) fn settle_anew<A: Allocator, B: Allocator>(
     ensures rests { IfOk result
         (λ id. RestsOrNot (with_left own.old pointer) (limit_of order.side order.kind)
         (remainder other.old order) order.tag id own.new) }
-    ensures names { IfOk result (λ id. IfSome id (λ i. order_of own.new.orders i.pointer
-        ≡ Some (resting own.old.side i.pointer (limit_of order.side order.kind)
-        (remainder other.old order) order.tag))) }
-    ensures taken { OnOk result (other.new ≡ taken (dealt other.old order) other.old) }
-    ensures trades { OnOk result
-        (trades.new.items ≡ trades.old.items ++ deals other.old order) }
-    ensures bought { OnOk result
-        (volume (deals other.old order) + undealt other.old order ≡ order.quantity) }
-    ensures sold { OnOk result
-        (total other.new.orders + volume (deals other.old order) ≡ total other.old.orders) }
+    ensures settles { Settles own.old other.old order trades.old.items result
+        own.new other.new trades.new.items }
     ensures memory { OnErr result (LacksRoom (vec_capacity trades.old)
         (length trades.old.items) (deals other.old order)) }
     ensures own_others { IfOk result (λ id. (p : ℕ × ℕ)
         → Some (record { side = own.old.side; pointer = p }) ≢ id → p ≢ pointer
         → order_of own.new.orders p ≡ order_of own.old.orders p) }
-    ensures others { OnOk result ((p : ℕ × ℕ)
-        → IsUntraded (record { side = other.old.side; pointer = p }) (deals other.old order)
-        → order_of other.new.orders p ≡ order_of other.old.orders p) }
-    ensures limited { OnOk result (AreWithin other.old.side
-        (limit_of order.side order.kind) (deals other.old order)) }
-    ensures own_kept { OnErr result (own.new ≡ own.old) }
-    ensures other_kept { OnErr result (other.new ≡ other.old) }
-    ensures trades_kept { OnErr result (trades.new.items ≡ trades.old.items) }
 {
     let price = order.kind.limit(order.side);
     let left = other.offer(price, order.quantity, trades)?;

@@ -1,5 +1,5 @@
 -- Levels are summed up along the queue, and sums fit into 128 bits.
-use Rattle.std.proofs.Common.{◌≡◌, ◌≢◌, ℕ, ◌+◌, ◌*◌, ◌≤◌, ◌==◌, List, [], ◌∷◌, length, true, false, refl, sym, ◌∙◌, inl, inr, arith, if◌then◌else◌}
+use Rattle.std.proofs.Common.{◌≡◌, ℕ, ◌+◌, ◌*◌, ◌≤◌, ◌==◌, List, [], ◌∷◌, length, true, false, refl, inl, inr, arith, if◌then◌else◌}
 use Rattle.std.proofs.lemmas.Bool.Decides.{eqb_tells}
 use Rattle.std.specs.List.{AllByRecursion}
 use Rattle.order_queue.specs.Queue.{most_entries, most_quantity, AreSummable, joined, levels_of, total, within, meets}
@@ -8,10 +8,6 @@ use Rattle.order_queue.specs.{declared.level.Level.Level, declared.order.Order.O
 -- the level of one order
 abbrev pub level_of : Order → Level
 level_of x = record { price = x.price; quantity = x.quantity; count = 1 }
-
--- a level with one more order
-abbrev pub with_order : Level → Order → Level
-with_order l x = record l { quantity = l.quantity + x.quantity; count = l.count + 1 }
 
 -- a level in front of others, which takes in the first of them if that has its price
 abbrev pub in_front : Level → List Level → List Level
@@ -30,49 +26,6 @@ level-begins x xs = go (levels_of xs)
     go (m ∷ ms) = elim (eqb_tells m.price x.price) [
       | inl h ↦ rw h.0 (same-level (level_of x) _ _ _ _ ms refl (omega arith))
       | inr h ↦ rw h.0 refl
-    ]
-
--- an order of its price joins it
-pub level-goes_on : (l : Level) (y : Order) (ys : List Order) → y.price ≡ l.price → in_front l (levels_of (y ∷ ys)) ≡ in_front (with_order l y) (levels_of ys)
-level-goes_on l y ys same = go (levels_of ys)
-  where
-    go : (ls : List Level) → in_front l (joined y ls) ≡ in_front (with_order l y) ls
-    go [] = elim (eqb_tells y.price l.price) [
-      | inl h ↦ rw h.0 refl
-      | inr h ↦ absurd (h.1 same)
-    ]
-    go (m ∷ ms) = elim (eqb_tells m.price y.price) [
-      | inl h ↦ elim (eqb_tells m.price l.price) [
-        | inl k ↦ elim (eqb_tells y.price l.price) [
-          | inl i ↦ rw (h.0, k.0, i.0) (same-level l _ _ _ _ ms (omega arith) (omega arith))
-          | inr i ↦ absurd (i.1 same)
-        ]
-        | inr k ↦ absurd (k.1 (h.1 ∙ same))
-      ]
-      | inr h ↦ elim (eqb_tells m.price l.price) [
-        | inl k ↦ absurd (h.1 (k.1 ∙ sym same))
-        | inr k ↦ elim (eqb_tells y.price l.price) [
-          | inl i ↦ rw (h.0, k.0, i.0) refl
-          | inr i ↦ absurd (i.1 same)
-        ]
-      ]
-    ]
-
--- one of another price ends it
-pub level-ends : (l : Level) (y : Order) (ys : List Order) → y.price ≢ l.price → in_front l (levels_of (y ∷ ys)) ≡ l ∷ levels_of (y ∷ ys)
-level-ends l y ys other = go (levels_of ys)
-  where
-    apart : (y.price == l.price) ≡ false
-    apart = elim (eqb_tells y.price l.price) [
-      | inl h ↦ absurd (other h.1)
-      | inr h ↦ h.0
-    ]
-
-    go : (ls : List Level) → in_front l (joined y ls) ≡ l ∷ joined y ls
-    go [] = rw apart refl
-    go (m ∷ ms) = elim (eqb_tells m.price y.price) [
-      | inl h ↦ rw (h.0, apart) refl
-      | inr h ↦ rw (h.0, apart) refl
     ]
 
 -- the greatest sum of quantities
@@ -111,12 +64,4 @@ summing-start x xs summable = record {
   summable = record { few = omega (arith, summable.few); bounded = summable.bounded.1 };
   fits = omega (arith, total-fits (x ∷ xs) summable);
   few = omega (arith, summable.few);
-}
-
-pub summing-next : (all : List Order) (level : Level) (y : Order) (ys : List Order) → IsSumming all level (y ∷ ys) → y.price ≡ level.price → IsSumming all (with_order level y) ys
-summing-next all level y ys h same = record {
-  levels = h.levels ∙ level-goes_on level y ys same;
-  summable = record { few = omega (arith, h.summable.few); bounded = h.summable.bounded.1 };
-  fits = omega (arith, h.fits);
-  few = omega (arith, h.few);
 }

@@ -23,7 +23,7 @@ use Rattle.triple_ord.proofs.CallerLemmas.{kept_order, rekeyed_order, in_order-w
 use Rattle.sorted_arena.specs.Layout.{item_key, sorted_of, IsSortedArena, IsHeld, IsCompact}
 use Rattle.sorted_arena.proofs.Numbering.{none-behind, compact-inserted, compact-roomy, compact-resized, greatest-numbered, vacant-numbered}
 use Rattle.sorted_arena.proofs.Cutting.{append-nil}
-use Rattle.sorted_arena.specs.Sorted.{Inserts, Rekeys, Updates, IsSound, count}
+use Rattle.sorted_arena.specs.Sorted.{Inserts, Rekeys, Updates, IsSound}
 use Rattle.sorted_arena.proofs.Cutting.{sorted-in_order, in_order-sorted, sorted-without, all_at_most, greater}
 
 -- a key is equal to itself
@@ -93,9 +93,6 @@ module _ {K V : Type 0} (cmp : K → K → Ordering) (most : ℕ) (greatest : Op
 
     pub updates-put : Updates (sorted_of old) (sorted_of new) p (Some (k, v))
     updates-put = record { changed = facts.1.changed; others = facts.1.others }
-
-    pub count-put : count (sorted_of new) ≡ count (sorted_of old) + 1
-    count-put = facts.2
 
     pub arena-put : IsSortedArena cmp new
     arena-put = record {

@@ -10,7 +10,7 @@ use Rattle.triple_ord.specs.{Gap.Gap, Gap.before, Gap.after, Gap.first_of, Gap.l
 use Rattle.triple_ord.proofs.CallerLemmas.{IsInOrder-rest, IsInOrder-back, in_order-one, in_order-more, all_greater, all_less, recursion-map}
 use Rattle.triple_ord.proofs.CallerLemmas.{ends, stands, not_before, entry_at-here, link-read, no_last}
 use Rattle.triple_ord.proofs.ChainLemmas.{entry_at-link}
-use Rattle.sorted_arena.specs.Sorted.{key_of, first_item, pointer_of, first_where, next_of, prev_from, prev_of, last_item, before_last, behind_first, first_item_until, entries_above, AreSorted}
+use Rattle.sorted_arena.specs.Sorted.{key_of, first_item, pointer_of, first_where, next_of, prev_from, prev_of, last_item, before_last, AreSorted}
 use Rattle.sorted_arena.specs.Layout.{item_key, pointer_among}
 
 module _ {X : Type 0} where
@@ -81,14 +81,6 @@ eq_is Greater is = absurd (cc)
 
 not_eq : (o : Ordering) → is_eq o ≡ false → o ≢ Equal
 not_eq o is equal = absurd (let both : is_eq o ≡ true = ap is_eq equal in cc)
-
-pub owed-some : {X P : Type 0} (o : Option X) → is_some o ≡ true → OnSome o P → P
-owed-some None some holds = absurd (cc)
-owed-some (Some x) some holds = holds
-
-pub owed-none : {X P : Type 0} (o : Option X) → is_some o ≡ false → IfNone o P → P
-owed-none None none holds = holds
-owed-none (Some x) none holds = absurd (cc)
 
 pub OnOk-followed : {U E P Q : Type 0} (r : Result U E) → (P → Q) → OnOk r P → OnOk r Q
 OnOk-followed (Ok u) follows holds = follows holds
@@ -400,21 +392,6 @@ module _ {K V : Type 0} (cmp : K → K → Ordering) where
             sorted-written p.0 x.0 x.1 w e.0 es (at ∙ ap (λ y. Some (e.0, y)) same) sorted
         | inr h ↦ absurd (let lost : item_of es p ≡ None = rw (at, h.0) refl in cc)
       ]
-
-  -- what stands above a key, with the first taken out where it doesn't
-  pub above-step : (k : K) (es left : List (Entry (K × V))) {Q : Type 0} (o : Option Q) → is_some o ≡ true → is_some o ≡ is_some (first_item_until cmp k es) → left ≡ behind_first es → entries_above cmp k left ≡ entries_above cmp k es
-  above-step k [] left o some is after = absurd (cc)
-  above-step k (e ∷ es) left o some is after = go (is_le (cmp (key_of e) k)) refl
-    where
-      go : (b : Bool) → is_le (cmp (key_of e) k) ≡ b → entries_above cmp k left ≡ entries_above cmp k (e ∷ es)
-      go true at = rw (after, at) refl
-      go false at = absurd (let none : first_item_until cmp k (e ∷ es) ≡ None = rw at refl in let lost = ap is_some none in cc)
-
-  pub above-done : (k : K) (es : List (Entry (K × V))) → All (λ e. cmp (key_of e) k ≡ Greater) es → entries_above cmp k es ≡ es
-  above-done k [] all = refl
-  above-done k (e ∷ es) all =
-      let first : cmp (key_of e) k ≡ Greater = (recursion_from_All (λ e. cmp (key_of e) k ≡ Greater) (e ∷ es) all).0 in
-      rw first refl
 
   -- where no entry has a key of at least k
   pub all-less : (k : K) (es : List (Entry (K × V))) {P : Type 0} (numbers : P → ℕ × ℕ) (o : Option P) → option_map numbers o ≡ first_where (λ e. is_le (cmp k (key_of e))) es

@@ -15,10 +15,6 @@ module _ {T : Type 0} where
   numbered-more from [] e h is = (omega (arith, is), tt)
   numbered-more from (x ∷ es) e h is = (h.0, numbered-more (from + 1) es e h.1 (omega (arith, is)))
 
-  pub numbered-front : (from : ℕ) (es fs : List (Entry T)) → AreNumbered from (es ++ fs) → AreNumbered from es
-  numbered-front from [] fs h = tt
-  numbered-front from (x ∷ es) fs h = (h.0, numbered-front (from + 1) es fs h.1)
-
   pub numbered-here : (from : ℕ) (front : List (Entry T)) (e : Entry T) (back : List (Entry T)) → AreNumbered from (front ++ e ∷ back) → e.index ≡ from + length front
   numbered-here from [] e back h = omega (arith, h.0)
   numbered-here from (x ∷ front) e back h = omega (arith, numbered-here (from + 1) front e back h.1)

@@ -1,5 +1,5 @@
 -- The entries whose keys are in a range, and what iterators over entries give.
-use Rattle.std.specs.Prelude.{ℕ, List, filter, not}
+use Rattle.std.specs.Prelude.{ℕ, ◌<◌, ◌^◌, List, filter, not, length}
 use Rattle.std.specs.Borrow.{Bor}
 use Rattle.std.specs.Iterator.{YieldsFirstBy, YieldsLastBy, Runs.EveryRun, Runs.ItemsMapTo, Runs.ItemsMapToReversed}
 use Rattle.std.specs.declared.{cmp.Ordering.Ordering, ops.Bound.Bound}
@@ -34,3 +34,9 @@ module _ {A X : Type 0} (shows : A → X) where
 
   abbrev pub GivesInReverse : Type 0
   GivesInReverse = EveryRun (YieldsLastBy shows (λ left. left)) (λ p. ItemsMapToReversed p shows p.from)
+
+  -- An iterator for chains of iterators: each run of it shows what is left, from either end, and it gives fewer than 2 ^ 64 items.
+  pub record IsChainable {T : Type 0} (given : List T) : Type 0 where
+    pub runs : GivesInOrder
+    pub runs_back : GivesInReverse
+    pub fits : length given < 2 ^ 64

@@ -4,6 +4,7 @@ ghost use Rattle.std.specs.Prelude.{◌≡◌, ◌==◌, ◌↔◌, ◌+◌, ◌
 ghost use Rattle.triple_ord.specs.PlainArena.{capacity_for};
 ghost use Rattle.triple_ord.specs.Generation.{first_generation, next_generation};
 ghost use Rattle.triple_ord.specs.Chain.{greatest_index};
+ghost use Rattle.sorted_arena.specs.Change.{ChangesCapacity};
 ghost use Rattle.sorted_arena.specs.Layout.{sorted_of, IsSortedArena, AreNumbered};
 ghost use Rattle.sorted_arena.specs.Sorted.{IsSound, count, pair_of, item_of, with_left};
 
@@ -117,8 +118,7 @@ impl<K: Ord, V, P: BasePtr, A: Allocator> SortedArena<K, V, P, A> {
     /// - `BeyondMaxCapacity`: there would be more entries than pointers have indexes.
     /// - `AllocError`: growing failed.
     pub fn reserve(&mut self, additional: usize) -> Result<(), ReallocationError>
-        ensures entries { self.new.entries ≡ self.old.entries }
-        ensures generation { self.new.generation ≡ self.old.generation }
+        ensures kept { ChangesCapacity self.old self.new }
         ensures room { OnOk result (count self.old + additional ≤ self.new.capacity) }
         ensures capacity { OnOk result (self.new.capacity
             ≡ capacity_for P.Inx.most self.old.capacity (count self.old + additional)) }
@@ -133,8 +133,7 @@ impl<K: Ord, V, P: BasePtr, A: Allocator> SortedArena<K, V, P, A> {
 
     /// Gives back the memory that no entry needs: the capacity becomes the greatest index of an entry. O(capacity).
     pub fn shrink(&mut self)
-        ensures entries { self.new.entries ≡ self.old.entries }
-        ensures generation { self.new.generation ≡ self.old.generation }
+        ensures kept { ChangesCapacity self.old self.new }
         ensures capacity { self.new.capacity ≡ greatest_index self.old.entries }
     {
         // For the prover: the list is sound.

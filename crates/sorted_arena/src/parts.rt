@@ -1,8 +1,7 @@
 //! The keys, the values, or both, of the entries that an iterator gives.
-ghost use Rattle.std.specs.Prelude.{◌≡◌, ◌<◌, ◌^◌, map, reverse, length, IfSome};
-ghost use Rattle.std.specs.Iterator.{YieldsFirstBy, YieldsLastBy, UpTo, item_count};
-ghost use Rattle.std.specs.Iterator.SizeHint.{IsWithinCount};
-ghost use Rattle.sorted_arena.specs.Range.{shown_item, target_of, GivesInOrder, GivesInReverse};
+ghost use Rattle.std.specs.Prelude.{◌≡◌, map, reverse, length};
+ghost use Rattle.std.specs.Iterator.{YieldsFirstBy, YieldsLastBy, item_count};
+ghost use Rattle.sorted_arena.specs.Range.{shown_item, target_of, GivesInOrder, GivesInReverse, IsChainable};
 ghost use Rattle.sorted_arena.specs.Sorted.{key_of, value_of, item_of};
 
 use crate::arena::SortedArena;
@@ -128,10 +127,7 @@ impl<'a, K: Ord, V, P: BasePtr, A: Allocator> Iterator for ValuesDescending<'a, 
         Some(v)
     }
 
-    fn size_hint(&self) -> (usize, Option<usize>)
-        ensures lower { IsWithinCount result.0 (item_count (λ left. left) self.now) }
-        ensures upper { IfSome result.1 (UpTo (item_count (λ left. left) self.now)) }
-    {
+    fn size_hint(&self) -> (usize, Option<usize>) {
         (0, None)
     }
 }
@@ -148,10 +144,7 @@ impl<'a, K: Ord, V, P: BasePtr, A: Allocator> Iterator for Keys<'a, K, V, P, A> 
         Some(k)
     }
 
-    fn size_hint(&self) -> (usize, Option<usize>)
-        ensures lower { IsWithinCount result.0 (item_count (λ left. left) self.now) }
-        ensures upper { IfSome result.1 (UpTo (item_count (λ left. left) self.now)) }
-    {
+    fn size_hint(&self) -> (usize, Option<usize>) {
         (0, None)
     }
 }
@@ -177,10 +170,7 @@ impl<'a, K: Ord, V, P: BasePtr, A: Allocator> Iterator for Values<'a, K, V, P, A
         Some(v)
     }
 
-    fn size_hint(&self) -> (usize, Option<usize>)
-        ensures lower { IsWithinCount result.0 (item_count (λ left. left) self.now) }
-        ensures upper { IfSome result.1 (UpTo (item_count (λ left. left) self.now)) }
-    {
+    fn size_hint(&self) -> (usize, Option<usize>) {
         (0, None)
     }
 }
@@ -206,10 +196,7 @@ impl<'a, K: Ord, V, P: BasePtr, A: Allocator> Iterator for Items<'a, K, V, P, A>
         Some((k, v))
     }
 
-    fn size_hint(&self) -> (usize, Option<usize>)
-        ensures lower { IsWithinCount result.0 (item_count (λ left. left) self.now) }
-        ensures upper { IfSome result.1 (UpTo (item_count (λ left. left) self.now)) }
-    {
+    fn size_hint(&self) -> (usize, Option<usize>) {
         (0, None)
     }
 }
@@ -227,10 +214,7 @@ impl<K: Ord, V, P: BasePtr, A: Allocator> SortedArena<K, V, P, A> {
     /// Returns an iterator over all keys in order, from both ends.
     pub fn keys(&self) -> Keys<'_, K, V, P, A>
         ensures keys { result ≡ map key_of self.now.entries }
-        // for chains of iterators
-        ensures runs { GivesInOrder (target_of {T = K}) }
-        ensures runs_back { GivesInReverse (target_of {T = K}) }
-        ensures fits { length result < 2 ^ 64 }
+        ensures chains { IsChainable (target_of {T = K}) result }
     {
         self.iter().keys()
     }
@@ -238,10 +222,7 @@ impl<K: Ord, V, P: BasePtr, A: Allocator> SortedArena<K, V, P, A> {
     /// Returns an iterator over all values in the order of the keys, from both ends.
     pub fn values(&self) -> Values<'_, K, V, P, A>
         ensures values { result ≡ map value_of self.now.entries }
-        // for chains of iterators
-        ensures runs { GivesInOrder (target_of {T = V}) }
-        ensures runs_back { GivesInReverse (target_of {T = V}) }
-        ensures fits { length result < 2 ^ 64 }
+        ensures chains { IsChainable (target_of {T = V}) result }
     {
         self.iter().values()
     }

@@ -1,10 +1,10 @@
 //! `Range`: entries in order, from both ends.
-ghost use Rattle.std.specs.Prelude.{◌≡◌, ◌<◌, ◌^◌, true, false, Some, length, slice_get};
+ghost use Rattle.std.specs.Prelude.{◌≡◌, ◌<◌, true, false, Some, length, slice_get};
 ghost use Rattle.std.specs.Iterator.{YieldsFirstBy, YieldsLastBy, item_count};
 ghost use Rattle.std.specs.{Option.option_map, Option.option_and_then, Range.Bound.bound_map};
 ghost use Rattle.std.specs.BTreeMap.Range.{is_from_start, is_past_end};
 ghost use Rattle.std.specs.declared.ops.Bound.TheVariants.{Included, Unbounded};
-ghost use Rattle.sorted_arena.specs.Range.{entries_between, shown_entry, GivesInOrder, GivesInReverse};
+ghost use Rattle.sorted_arena.specs.Range.{entries_between, shown_entry, IsChainable};
 ghost use Rattle.sorted_arena.specs.Sorted.{pair_of, first_where, key_of, IsSound};
 ghost use Rattle.sorted_arena.specs.Stretch.{stretch, is_forward, IsStretch};
 ghost use Rattle.sorted_arena.specs.{Layout.AreNumbered, Place.position_of};
@@ -114,7 +114,7 @@ fn entry_at<'a, K: Ord, V, P: BasePtr, A: Allocator>(
 {
     // For the prover: the list is sound.
     let _ = pairs.len();
-    // It is proved that both are there. So a loop over entries has one end, and no step is a choice.
+    // Both are there, as is proved, so that a caller's loop over entries has one end.
     let i = P::Inx::try_from_usize(position + 1).unwrap();
     let entry = pairs.get_inx(i).unwrap();
     let (k, v) = entry.1.k_v();
@@ -174,10 +174,7 @@ impl<K: Ord, V, P: BasePtr, A: Allocator> SortedArena<K, V, P, A> {
     pub fn iter(&self) -> Range<'_, K, V, P, A>
         ensures entries { result ≡ self.now.entries }
         ensures sound { IsSound K.cmp P.Inx.most self.now }
-        // for chains of iterators
-        ensures runs { GivesInOrder (shown_entry {K = K} {V = V} P.numbers) }
-        ensures runs_back { GivesInReverse (shown_entry {K = K} {V = V} P.numbers) }
-        ensures fits { length result < 2 ^ 64 }
+        ensures chains { IsChainable (shown_entry {K = K} {V = V} P.numbers) result }
     {
         // For the prover: the arena is sound.
         let _ = self.len();
@@ -191,10 +188,7 @@ impl<K: Ord, V, P: BasePtr, A: Allocator> SortedArena<K, V, P, A> {
         ensures entries { R.has_bounds range → result
             ≡ entries_between K.cmp (R.start_bound range) (R.end_bound range) self.now.entries }
         ensures sound { IsSound K.cmp P.Inx.most self.now }
-        // for chains of iterators
-        ensures runs { GivesInOrder (shown_entry {K = K} {V = V} P.numbers) }
-        ensures runs_back { GivesInReverse (shown_entry {K = K} {V = V} P.numbers) }
-        ensures fits { length result < 2 ^ 64 }
+        ensures chains { IsChainable (shown_entry {K = K} {V = V} P.numbers) result }
     {
         self.between(range.start_bound(), range.end_bound())
     }
@@ -204,9 +198,7 @@ impl<K: Ord, V, P: BasePtr, A: Allocator> SortedArena<K, V, P, A> {
         ensures entries { result ≡ entries_between K.cmp (bound_map (λ k. k.now) from.entry)
             (bound_map (λ k. k.now) until.entry) self.now.entries }
         ensures sound { IsSound K.cmp P.Inx.most self.now }
-        ensures runs { GivesInOrder (shown_entry {K = K} {V = V} P.numbers) }
-        ensures runs_back { GivesInReverse (shown_entry {K = K} {V = V} P.numbers) }
-        ensures fits { length result < 2 ^ 64 }
+        ensures chains { IsChainable (shown_entry {K = K} {V = V} P.numbers) result }
     {
         // For the prover: the arena is sound.
         let _ = self.len();

@@ -93,19 +93,6 @@ module _ {V : Type 0} where
     | inr h ↦ absurd (omega (arith, h.1, all.0))
   ]
 
-  -- a change from one time to another is neither before the one nor after the other
-  pub earlier-without : (t : ℕ) (xs : List (Change V)) (c : Change V) (ys : List (Change V)) → t ≤ c.time → earlier t (xs ++ c ∷ ys) ≡ earlier t (xs ++ ys)
-  earlier-without t xs c ys late = elim (leb_tells t c.time) [
-    | inl h ↦ earlier-append t xs (c ∷ ys) ∙ ap (λ zs. earlier t xs ++ zs) (rw h.0 refl) ∙ sym (earlier-append t xs ys)
-    | inr h ↦ absurd (omega (arith, h.1, late))
-  ]
-
-  pub later-without : (t : ℕ) (xs : List (Change V)) (c : Change V) (ys : List (Change V)) → c.time ≤ t → later t (xs ++ c ∷ ys) ≡ later t (xs ++ ys)
-  later-without t xs c ys early = elim (leb_tells c.time t) [
-    | inl h ↦ later-append t xs (c ∷ ys) ∙ ap (λ zs. later t xs ++ zs) (rw h.0 refl) ∙ sym (later-append t xs ys)
-    | inr h ↦ absurd (omega (arith, h.1, early))
-  ]
-
   -- a list in two parts, cut at a time
   pub cut-before : (t : ℕ) (front back : List (Change V)) → AreBefore t front → AreFrom t back → earlier t (front ++ back) ≡ front
   cut-before t front back low high =
@@ -128,19 +115,6 @@ module _ {V : Type 0} where
   rising-append t [] ys low high before from = high
   rising-append t (x ∷ xs) ys low high before from =
       (all-append _ xs ys low.0 (all-weaker (λ (c : Change V). t ≤ c.time) (λ c. x.time < c.time) (λ c late. omega (arith, late, before.0)) ys from), rising-append t xs ys low.1 high before.1 from)
-
-  -- without one in the middle a list still rises
-  pub rising-without : (xs : List (Change V)) (c : Change V) (ys : List (Change V)) → IsRising (xs ++ c ∷ ys) → IsRising (xs ++ ys)
-  rising-without [] c ys rising = rising.1
-  rising-without (x ∷ xs) c ys rising =
-      (all-append _ xs ys (all-front _ xs (c ∷ ys) rising.0) (all-back _ xs (c ∷ ys) rising.0).1, rising-without xs c ys rising.1)
-
-  -- all before the last are before a time that it is before
-  pub rising-last : (t : ℕ) (xs : List (Change V)) (c : Change V) → IsRising (xs ++ c ∷ []) → c.time < t → AreBefore t (xs ++ c ∷ [])
-  rising-last t [] c rising early = (early, tt)
-  rising-last t (x ∷ xs) c rising early =
-      let first : x.time < c.time = (all-back (λ (d : Change V). x.time < d.time) xs (c ∷ []) rising.0).0 in
-      (omega (arith, first, early), rising-last t xs c rising.1 early)
 
   -- a rising list is what is before a time, and the rest; or some, and what is after it
   pub cut-earlier : (t : ℕ) (cs : List (Change V)) → IsRising cs → (rest : List (Change V)) × (cs ≡ earlier t cs ++ rest) × AreFrom t rest

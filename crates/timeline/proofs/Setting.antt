@@ -32,14 +32,6 @@ module _ {V : Type 0} {old left : List (Change V)} {from until : ℕ} (cut : IsC
   high-rising : IsRising high
   high-rising = let parts = cut-later until old cut.rising in rising-back parts.0 high (subst IsRising parts.1 cut.rising)
 
-  -- the changes that are left rise, and none is at the first time
-  pub rising-left : IsRising left
-  rising-left = subst IsRising (sym cut.taken) (rising-append from low high low-rising high-rising low-before (all-weaker _ _ (λ c is. omega (arith, is, cut.ordered)) high high-after))
-
-  pub unmet-left : AllByRecursion (λ (c : Change V). c.time ≢ from) left
-  unmet-left = subst (AllByRecursion (λ (c : Change V). c.time ≢ from)) (sym cut.taken)
-      (all-append _ low high (all-weaker _ _ (λ c is same. absurd (omega (arith, is, same))) low low-before) (all-weaker _ _ (λ c is same. absurd (omega (arith, is, same, cut.ordered))) high high-after))
-
   early-left : earlier from left ≡ low
   early-left = ap (earlier from) cut.taken ∙ cut-before from low high low-before (all-weaker _ _ (λ c is. omega (arith, is, cut.ordered)) high high-after)
 

@@ -1,5 +1,5 @@
 -- How a timeline lies in its arena, and what its private calls leave (layout).
-use Rattle.std.specs.Prelude.{◌≡◌, ◌≢◌, ℕ, ◌≤◌, ◌<◌, leb, if◌then◌else◌, List, [], ◌∷◌, ◌++◌, map, Option, Some, None, ◌⊎◌, IfSome}
+use Rattle.std.specs.Prelude.{◌≡◌, ◌≢◌, ℕ, ◌≤◌, ◌<◌, leb, if◌then◌else◌, List, [], ◌∷◌, ◌++◌, length, map, Option, Some, None, ◌⊎◌, IfSome}
 use Rattle.std.specs.{List.AllByRecursion, Option.option_map, Borrow.Bor}
 use Rattle.sorted_arena.specs.Chain.{Entry, from_index}
 use Rattle.sorted_arena.specs.Gap.{first_of, last_of}
@@ -84,6 +84,13 @@ module _ {V : Type 0} where
     pub back : List (Entry (ℕ × Option V))
     pub cut : es ≡ front ++ entry ∷ back
     pub named : p ≡ pointer_of entry
+
+  -- A call that may take changes out of an arena. If a pointer names a change, `takes` says what is left. The capacity stays.
+  pub record TakesChange (old : Sorted ℕ (Option V)) (p : ℕ × ℕ) (takes : IsAt old.entries p → Type 0)
+      (new : Sorted ℕ (Option V)) : Type 0 where
+    pub taken : (at : IsAt old.entries p) → takes at
+    pub capacity : new.capacity ≡ old.capacity
+    pub count : length new.entries ≤ length old.entries
 
   -- a change is taken out directly behind the one at a pointer, if the end reaches it
   abbrev pub TakesNext : Option ℕ → {es : List (Entry (ℕ × Option V))} → {p : ℕ × ℕ} → IsAt es p → Option (Option V) → List (Entry (ℕ × Option V)) → Type 0

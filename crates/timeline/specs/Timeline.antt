@@ -1,7 +1,9 @@
 -- What a timeline is: the value that holds at each time, told by the times at which it changes.
-use Rattle.std.specs.Prelude.{◌≡◌, ◌≢◌, ℕ, ◌+◌, ◌*◌, ◌<◌, ◌≤◌, ◌⊎◌, leb, nat_lt, if◌then◌else◌, List, [], ◌∷◌, length, Option, Some, None, IsSome, IfSome}
+use Rattle.std.specs.Prelude.{◌≡◌, ◌≢◌, ℕ, ◌+◌, ◌*◌, ◌<◌, ◌≤◌, ◌⊎◌, ◌↔◌, leb, nat_lt, if◌then◌else◌, List, [], ◌∷◌, length, Option, Some, None, IsSome, IfSome, Result, Err, OnOk, OnErr}
 use Rattle.std.specs.{List.AllByRecursion, Option.option_map, Borrow.Bor}
 use Rattle.sorted_arena.specs.PlainArena.{capacity_for}
+use Rattle.sorted_arena.specs.ReallocationError.{ReallocationError}
+use Rattle.sorted_arena.specs.ReallocationError.TheVariants.{BeyondMaxCapacity, AllocError}
 use Rattle.timeline.specs.declared.span.{Span.Span, WholeSpan.WholeSpan, Gap.Gap}
 -- how many changes there can be
 pub use Rattle.sorted_arena.specs.PlainPointer.{most_entries}
@@ -73,6 +75,29 @@ module _ {V : Type 0} where
   -- one value, whose clone may be refused, holds from one time until another and then
   abbrev pub HoldsRefusable : (V → Type 0) → List (Change V) → ℕ → ℕ → Type 0
   HoldsRefusable is_infallible cs from until = (v : V) × (¬ (is_infallible v)) × ((t : ℕ) → from ≤ t → t ≤ until → value_at cs t ≡ Some v)
+
+  -- A call that makes this the value from one time until another, or removes the values there. It needs room for two more changes, and
+  -- maybe a clone of the value that goes on at the end. If it fails, nothing changes.
+  pub record SetsStretch (is_infallible : V → Type 0) (old : Timeline V) (from until : ℕ) (value : Option V)
+      (result : Result (Unit {0}) ReallocationError) (new : Timeline V) : Type 0 where
+    pub set : OnOk result (IsSet old.changes from until value new.changes)
+    pub full : (result ≡ Err BeyondMaxCapacity) ↔ ((from < until) × (most_entries < length old.changes + 2))
+    pub memory : result ≡ Err AllocError
+        → (from < until) × ((old.capacity < length old.changes + 2) ⊎ HoldsRefusable is_infallible old.changes from until)
+    pub capacity : OnOk result (new.capacity ≡ capacity_set old from until)
+    pub err : OnErr result (new ≡ old)
+    pub lawful : IsTimeline new
+
+  -- A call that makes this the value from one time on, or removes the values from then on. It needs room for two more changes. If it fails,
+  -- nothing changes.
+  pub record SetsFrom (old : Timeline V) (from : ℕ) (value : Option V)
+      (result : Result (Unit {0}) ReallocationError) (new : Timeline V) : Type 0 where
+    pub set : OnOk result (IsSetFrom old.changes from value new.changes)
+    pub full : (result ≡ Err BeyondMaxCapacity) ↔ (most_entries < length old.changes + 2)
+    pub memory : result ≡ Err AllocError → old.capacity < length old.changes + 2
+    pub capacity : OnOk result (new.capacity ≡ roomy_capacity old)
+    pub err : OnErr result (new ≡ old)
+    pub lawful : IsTimeline new
 
   -- The stretch around a time, from the change that began it until the next change, if there is one.
   pub record IsWholeSpan (cs : List (Change V)) (t : ℕ) (span : WholeSpan V) : Type 0 where

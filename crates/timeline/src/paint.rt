@@ -5,7 +5,7 @@ ghost use Rattle.std.specs.Option.{option_copied};
 ghost use Rattle.std.specs.Ordering.{nat_cmp};
 ghost use Rattle.sorted_arena.specs.Sorted.{Inserts};
 ghost use Rattle.timeline.specs.Timeline.{most_entries, roomy_capacity, value_at, IsRising};
-ghost use Rattle.timeline.specs.Layout.{changes_of, timeline_of, last_value, IsReached, IsBeyond, IsAt, TakesNext, TakesBehind, TakesSame};
+ghost use Rattle.timeline.specs.Layout.{changes_of, timeline_of, last_value, IsReached, IsBeyond, IsAt, TakesChange, TakesNext, TakesBehind, TakesSame};
 ghost use Rattle.timeline.specs.Layout.{end_value_of, IsOpen, TakesOver, IsJoinedTo, IsFinished, IsPainted, IsRefusable, CannotEnd};
 
 use crate::changes::{Changes, held_at, value_of};
@@ -116,10 +116,8 @@ fn take_behind<V: Drop, A: Allocator>(
     p: P0,
     until: Option<u64>,
 ) -> Option<Option<V>>
-    ensures taken { (at : IsAt changes.old.entries p)
-        → TakesBehind until at result changes.new.entries }
-    ensures capacity { changes.new.capacity ≡ changes.old.capacity }
-    ensures count { length changes.new.entries ≤ length changes.old.entries }
+    ensures { TakesChange changes.old p (λ at. TakesBehind until at result changes.new.entries)
+        changes.new }
 {
     let mut moved = None;
     while let Some(value) = take_next(changes, p, until) {
@@ -132,10 +130,8 @@ fn take_behind<V: Drop, A: Allocator>(
 
 // Takes the change directly before the one at `p` out, if it is at this time, and returns its value.
 fn take_same<V, A: Allocator>(changes: &mut Changes<V, A>, p: P0, from: u64) -> Option<Option<V>>
-    ensures taken { (at : IsAt changes.old.entries p)
-        → TakesSame from at result changes.new.entries }
-    ensures capacity { changes.new.capacity ≡ changes.old.capacity }
-    ensures count { length changes.new.entries ≤ length changes.old.entries }
+    ensures { TakesChange changes.old p (λ at. TakesSame from at result changes.new.entries)
+        changes.new }
 {
     // with its length an arena tells what holds of it
     let _ = changes.len();
@@ -156,10 +152,8 @@ fn take_over<V: Drop, A: Allocator>(
     from: u64,
     until: Option<u64>,
 ) -> Option<Option<V>>
-    ensures taken { (at : IsAt changes.old.entries p)
-        → TakesOver from until at result changes.new.entries }
-    ensures capacity { changes.new.capacity ≡ changes.old.capacity }
-    ensures count { length changes.new.entries ≤ length changes.old.entries }
+    ensures { TakesChange changes.old p (λ at. TakesOver from until at result changes.new.entries)
+        changes.new }
 {
     // with its length an arena tells what holds of it
     let _ = changes.len();
@@ -194,9 +188,7 @@ fn end_value<V: TimelineValue, A: Allocator>(
 
 // Removes the change at `p` if it brings the value of the one before it.
 fn join_before<V: TimelineValue, A: Allocator>(changes: &mut Changes<V, A>, p: P0)
-    ensures joined { (at : IsAt changes.old.entries p) → IsJoinedTo at changes.new.entries }
-    ensures capacity { changes.new.capacity ≡ changes.old.capacity }
-    ensures count { length changes.new.entries ≤ length changes.old.entries }
+    ensures { TakesChange changes.old p (λ at. IsJoinedTo at changes.new.entries) changes.new }
 {
     // with its length an arena tells what holds of it
     let _ = changes.len();

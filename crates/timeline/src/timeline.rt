@@ -3,8 +3,8 @@
 ghost use Rattle.std.specs.Prelude.{◌≡◌, true, false, ◌<◌, ◌+◌, ◌*◌, ◌↔◌, ◌⊎◌, [], Some, None, Err, OnOk, OnErr, IfSome, IfNone, length};
 ghost use Rattle.std.specs.Option.{option_copied};
 ghost use Rattle.sorted_arena.specs.PlainArena.{capacity_for};
-ghost use Rattle.timeline.specs.Timeline.{most_entries, roomy_capacity, capacity_set, value_at, shown_whole, IsTimeline, HasRoomFor};
-ghost use Rattle.timeline.specs.Timeline.{IsSet, IsSetFrom, IsWholeSpan, IsNextChange, HoldsRefusable};
+ghost use Rattle.timeline.specs.Timeline.{most_entries, value_at, shown_whole, IsTimeline, HasRoomFor};
+ghost use Rattle.timeline.specs.Timeline.{IsWholeSpan, IsNextChange, SetsStretch, SetsFrom};
 ghost use Rattle.timeline.specs.Layout.{pieces_of, capacity_put, Sets, CannotEnd, IsEmptyTime};
 
 use crate::changes::{Changes, around, held_at, held_from, next_after, time_of};
@@ -176,15 +176,7 @@ impl<V: TimelineValue, A: Allocator> Timeline<V, A> {
     /// O((k + 1) log n) for k changes within that time, with two searches; plus O(n) when the timeline grows. It makes room for two more
     /// changes first; if it grows, its capacity at least doubles, up to the limit, and the value at `until` is cloned.
     pub fn set(&mut self, from: u64, until: u64, value: V) -> Result<(), ReallocationError>
-        ensures set { OnOk result (IsSet self.old.changes from until (Some value) self.new.changes) }
-        ensures full { (result ≡ Err ReallocationError.BeyondMaxCapacity)
-            ↔ ((from < until) × (most_entries < length self.old.changes + 2)) }
-        ensures memory { result ≡ Err ReallocationError.AllocError
-            → (from < until) × ((self.old.capacity < length self.old.changes + 2)
-            ⊎ HoldsRefusable V.is_infallible self.old.changes from until) }
-        ensures capacity { OnOk result (self.new.capacity ≡ capacity_set self.old from until) }
-        ensures err { OnErr result (self.new ≡ self.old) }
-        ensures lawful { IsTimeline self.new }
+        ensures { SetsStretch V.is_infallible self.old from until (Some value) result self.new }
     {
         self.put(from, Some(until), Some(value))
     }
@@ -195,15 +187,7 @@ impl<V: TimelineValue, A: Allocator> Timeline<V, A> {
     ///
     /// Those of [`set`](Self::set), at the same cost.
     pub fn clear(&mut self, from: u64, until: u64) -> Result<(), ReallocationError>
-        ensures set { OnOk result (IsSet self.old.changes from until None self.new.changes) }
-        ensures full { (result ≡ Err ReallocationError.BeyondMaxCapacity)
-            ↔ ((from < until) × (most_entries < length self.old.changes + 2)) }
-        ensures memory { result ≡ Err ReallocationError.AllocError
-            → (from < until) × ((self.old.capacity < length self.old.changes + 2)
-            ⊎ HoldsRefusable V.is_infallible self.old.changes from until) }
-        ensures capacity { OnOk result (self.new.capacity ≡ capacity_set self.old from until) }
-        ensures err { OnErr result (self.new ≡ self.old) }
-        ensures lawful { IsTimeline self.new }
+        ensures { SetsStretch V.is_infallible self.old from until None result self.new }
     {
         self.put(from, Some(until), None)
     }
@@ -220,14 +204,7 @@ impl<V: TimelineValue, A: Allocator> Timeline<V, A> {
     ///
     /// That of [`set`](Self::set).
     pub fn set_from(&mut self, from: u64, value: V) -> Result<(), ReallocationError>
-        ensures set { OnOk result (IsSetFrom self.old.changes from (Some value) self.new.changes) }
-        ensures full { (result ≡ Err ReallocationError.BeyondMaxCapacity)
-            ↔ (most_entries < length self.old.changes + 2) }
-        ensures memory { result ≡ Err ReallocationError.AllocError
-            → self.old.capacity < length self.old.changes + 2 }
-        ensures capacity { OnOk result (self.new.capacity ≡ roomy_capacity self.old) }
-        ensures err { OnErr result (self.new ≡ self.old) }
-        ensures lawful { IsTimeline self.new }
+        ensures { SetsFrom self.old from (Some value) result self.new }
     {
         self.put(from, None, Some(value))
     }
@@ -238,14 +215,7 @@ impl<V: TimelineValue, A: Allocator> Timeline<V, A> {
     ///
     /// Those of [`set_from`](Self::set_from), at the same cost.
     pub fn clear_from(&mut self, from: u64) -> Result<(), ReallocationError>
-        ensures set { OnOk result (IsSetFrom self.old.changes from None self.new.changes) }
-        ensures full { (result ≡ Err ReallocationError.BeyondMaxCapacity)
-            ↔ (most_entries < length self.old.changes + 2) }
-        ensures memory { result ≡ Err ReallocationError.AllocError
-            → self.old.capacity < length self.old.changes + 2 }
-        ensures capacity { OnOk result (self.new.capacity ≡ roomy_capacity self.old) }
-        ensures err { OnErr result (self.new ≡ self.old) }
-        ensures lawful { IsTimeline self.new }
+        ensures { SetsFrom self.old from None result self.new }
     {
         self.put(from, None, None)
     }

@@ -47,10 +47,6 @@ pub size-part : (s : Shape) (i : ℕ) → size_of (part_at s i) ≤ size_of s
 size-part missing i = omega arith
 size-part (node l j k r) i = grind (arith, nat_tests, size-part l i, size-part r i)
 
-pub size-below : (s : Shape) (link : Option ℕ) → size_of (part_below s link) ≤ size_of s
-size-below s None = omega arith
-size-below s (Some i) = size-part s i
-
 -- an optional index and its number
 module _ {I : Type 0} (number : I → ℕ) where
   pub none-mapped : (o : Option I) (p : Option ℕ) (b : Bool) → option_map number o ≡ p → is_some o ≡ not b → b ≡ true → p ≡ None

@@ -12,9 +12,6 @@ pub record IsOnceIn (s : Shape) : Type 0 where
 here-same : (i : ℕ) → here i i ≡ 1
 here-same i = grind (arith, nat_tests)
 
-here-is : (j i : ℕ) → 1 ≤ here j i → j ≡ i
-here-is j i some = grind (arith, nat_tests)
-
 -- the root of a part occurs in the shape
 occurs : (l r s : Shape) (i k : ℕ) → IsPart (node l i k r) s → 1 ≤ times_in i s
 occurs l r missing i k part = absurd (cc)

@@ -1,12 +1,13 @@
 -- An append of many items, one after another: what the list and the pointers are then.
 use Rattle.ord_tree.specs.Append.{AppendsOne, Appends}
 use Rattle.ord_tree.proofs.CallerLemmas.{numbers-one, numbers-appended}
-use Rattle.triple_ord.specs.Append.{Extends}
-use Rattle.triple_ord.proofs.Words.{◌≡◌, ◌≢◌, ℕ, ◌+◌, List, [], ◌∷◌, ◌++◌, Some, None, is_some, true, map, length, length-map, length-append, append-nil, append_assoc, refl, sym, ap, subst, ◌∙◌, arith, inl, inr, cases_eq, Result, Ok, Err}
-use Rattle.triple_ord.proofs.Words.{Entry, Chain, Tree, missing, after-insertion, item_of, items, count, Updates}
+use Rattle.triple_ord.specs.Append.{Extends, AppendsAll}
+use Rattle.triple_ord.proofs.Words.{◌≡◌, ◌≢◌, ◌↔◌, ℕ, ◌+◌, ◌<◌, List, [], ◌∷◌, ◌++◌, Some, None, is_some, true, map, length, length-map, length-append, append-nil, append_assoc, refl, sym, ap, subst, ◌∙◌, arith, inl, inr, cases_eq, Result, Ok, Err}
+use Rattle.triple_ord.proofs.Words.{Entry, Chain, Tree, missing, after-insertion, item_of, count, Updates}
 use Rattle.triple_ord.proofs.CallerLemmas.{inserted-new}
 use Rattle.std.proofs.lemmas.List.{map-append}
-use Rattle.std.specs.{List.AllZip, Prelude.OnOk, Prelude.OnErr}
+use Rattle.std.specs.{List.AllZip, Prelude.OnOk, Prelude.OnErr, Prelude.IsErr, Prelude.IfErr, Prelude.Vec, Prelude.vec_len}
+use Rattle.ord_tree.specs.Half.{IsRebuilt}
 
 module _ {T : Type 0} where
   -- one item
@@ -72,27 +73,38 @@ same-zipped [] (y ∷ ys) all = absurd all
 same-zipped (x ∷ xs) [] all = absurd all
 same-zipped (x ∷ xs) (y ∷ ys) all = let rest = same-zipped xs ys all.1 in let first = all.0 in cc
 
--- what a call that may be refused tells
-module _ {T U E : Type 0} (old new : Tree T) (xs : List T) where
-  abbrev pub IsTold : Result U E → Type 0
-  IsTold r = OnOk r (Appends old.list xs new.list)
-
-  pub appends-told : (r : Result U E) → OnOk r ((ts : List T) × AllZip (λ x y. y ≡ x) xs ts × Appends old.list ts new.list) → IsTold r
-  appends-told (Ok u) ok = subst (λ (ys : List T). Appends old.list ys new.list) (same-zipped xs ok.0 ok.1) ok.2
-  appends-told (Err e) ok = tt
-
-  pub items-told : (r : Result U E) → IsTold r → OnOk r (items new ≡ items old ++ xs)
-  items-told (Ok u) more = items-appended old.list new.list xs more
-  items-told (Err e) more = tt
-
-  pub found-told : (r : Result U E) → IsTold r → OnOk r (Extends old new)
-  found-told (Ok u) more = extends-appended old new xs more
-  found-told (Err e) more = tt
-
-  pub count-told : (r : Result U E) (n : ℕ) → n ≡ length xs → IsTold r → OnOk r (count new ≡ count old + n)
-  count-told (Ok u) n is more = omega (arith, count-appended old.list new.list xs more)
-  count-told (Err e) n is more = tt
-
-  pub numbers-told : (r : Result U E) → IsTold r → OnErr r (new ≡ old) → (new.list.generation ≡ old.list.generation) × (new.list.capacity ≡ old.list.capacity)
-  numbers-told (Ok u) more same = let numbers = numbers-appended old.list new.list xs more in (numbers.0, numbers.1)
-  numbers-told (Err e) more same = (ap (λ (t : Tree T). t.list.generation) same, ap (λ (t : Tree T). t.list.capacity) same)
+-- what a call of the tree that may be refused means for pointers
+module _ {T B : Type 0} (old new : Tree T) (added : Vec T B) (len : vec_len added ≡ length added.items) where
+  pub appends-all : (r : Result (Unit {0}) (Vec T B)) → OnOk r ((ts : List T) × AllZip (λ x y. y ≡ x) added.items ts × Appends old.list ts new.list)
+      → OnErr r (new ≡ old) → OnOk r (0 < vec_len added → IsRebuilt new.shape) → (added.items ≡ [] → new ≡ old)
+      → IsErr r ↔ (old.list.capacity < length old.list.entries + vec_len added) → IfErr r (λ given. given ≡ added) → AppendsAll old added r new
+  appends-all (Ok u) ok err shape none full back =
+      let more = subst (λ (ys : List T). Appends old.list ys new.list) (same-zipped added.items ok.0 ok.1) ok.2 in
+      let numbers = numbers-appended old.list new.list added.items more in
+      record {
+        items = items-appended old.list new.list added.items more;
+        found = extends-appended old new added.items more;
+        capacity = numbers.1;
+        generation = numbers.0;
+        appends = more;
+        shape = shape;
+        none = none;
+        full = full;
+        back = back;
+        err = err;
+        count = omega (arith, len, count-appended old.list new.list added.items more);
+      }
+  appends-all (Err e) ok err shape none full back =
+      record {
+        items = tt;
+        found = tt;
+        capacity = ap (λ (t : Tree T). t.list.capacity) err;
+        generation = ap (λ (t : Tree T). t.list.generation) err;
+        appends = tt;
+        shape = tt;
+        none = none;
+        full = full;
+        back = back;
+        err = err;
+        count = tt;
+      }

@@ -6,7 +6,7 @@ use Rattle.std.specs.Option.{IsSomeAnd}
 use Rattle.ord_tree.specs.{Chain.entry_at as entry_among, Chain.item_of as item_among, Chain.without, ChainClone.taken_over}
 use Rattle.ord_tree.specs.Clone.{ShowsItem, IsClone, IsRefusedClone}
 use Rattle.triple_ord.proofs.Words.{OrdInsertionError, ◌≡◌, ◌≢◌, ℕ, ◌+◌, ◌≤◌, List, [], ◌∷◌, ◌++◌, length, Option, Some, None, IsSome, is_some, slice_get, map, length-append, IfSome, IfNone, OnSome, Ok, refl, sym, ap, subst, ◌∙◌, arith, inl}
-use Rattle.triple_ord.proofs.Words.{inr, beside, Place, into, over, IsPlace, aim_of, Growth, with_room_by, InsertsBy, told, OrdEntryKind, New, Tree, IsGrown, with_item, Gap, with_between, Equal, pointer, FindsKey, FindsSimilar, Aim, at_key}
+use Rattle.triple_ord.proofs.Words.{inr, beside, Place, into, over, IsPlace, aim_of, Growth, with_room_by, InsertsBy, with_kind, OrdEntryKind, New, Tree, IsGrown, with_item, Gap, with_between, Equal, pointer, FindsKey, FindsSimilar, Aim, at_key}
 use Rattle.triple_ord.proofs.Words.{Replacing, OrdInsertKind, item_of, items, count, Updates, Renews, FindsBy, IsOfGeneration, IsNumbered, eq-eqb, cases_eq, option_map, Ordering, next_generation, item_if, Entry, Chain, times, FindsNothing}
 use Rattle.triple_ord.proofs.Words.{◌<◌, Result, Err, ◌⊎◌, nil_from_length, Bor, IsSound, greatest_index, clone-same, Transferring, TransferStep, IsTransfer, FoldsTo, length-map, entry_at-absent, entry_at-without_other, IsDistinct, removed}
 use Rattle.triple_ord.proofs.Words.{renewed, after-insertion, IsInsertion, moved, at_compressed_index, numbered, entry_at-numbered_before, generation-numbered, items-numbered, generation-moved, generation-relocated, length-with_generation}
@@ -210,8 +210,8 @@ module _ {P T K : Type 0} (key : T → K) (cmp : K → K → Ordering) (most : �
   abbrev IsNew : ℕ × ℕ → Type 0
   IsNew p = InsertsNew key cmp most growth (behind_key k) old item p new
 
-  pub inserts-new : (told : OrdEntryKind P × Option T) → InsertsBy key cmp most growth (behind_key k) numbers old item (Ok told) new
-      → IsNew (numbers (pointer_of_kind told.0))
+  pub inserts-new : (answer : OrdEntryKind P × Option T) → InsertsBy key cmp most growth (behind_key k) numbers old item (Ok answer) new
+      → IsNew (numbers (pointer_of_kind answer.0))
   inserts-new (New p, None) inserts = inserts
   inserts-new (New p, Some before) inserts = absurd inserts
   inserts-new (Replacing p, None) inserts = absurd inserts
@@ -278,12 +278,12 @@ module _ {T K : Type 0} (key : T → K) (cmp : K → K → Ordering) where
     abbrev InsertsKey : K → Result (OrdEntryKind P × Option T) OrdInsertionError → Type 0
     InsertsKey k answer = InsertsBy key cmp most growth (at_key k) numbers old item answer new
 
-    pub entry-told : InsertsThere numbers shown put arena item before new → InsertsKey (key item) (told (Ok (p, before)))
-    entry-told there = rw (← key_is) (go shown before pointer_is
+    pub entry-with_kind : InsertsThere numbers shown put arena item before new → InsertsKey (key item) (with_kind (Ok (p, before)))
+    entry-with_kind there = rw (← key_is) (go shown before pointer_is
         (entry-inserts numbers number growth most (Normal k) old arena new distinct shown put visits item before asked there))
       where
         go : (shown : OrdEntryKind P) (before : Option T) → p ≡ pointer_of_kind shown → InsertsKey k (Ok (shown, before))
-            → InsertsKey k (told (Ok (p, before)))
+            → InsertsKey k (with_kind (Ok (p, before)))
         go (New q) None is ins = rw is ins
         go (Replacing q) (Some before) is ins = rw is ins
         go shown before is ins = absurd ins

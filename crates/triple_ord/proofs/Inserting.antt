@@ -1,8 +1,8 @@
 -- A list cut at one of its elements: its ends, the entry that an index occurring once finds, and the gap where a search by a key that
 -- ended there puts a new entry.
 use Rattle.std.proofs.Math.Path.{fun_ext}
-use Rattle.triple_ord.proofs.Words.{◌≡◌, ℕ, List, [], ◌∷◌, ◌++◌, Option, Some, None, IsSome, length, refl, ap, arith, inl, inr, eqb_tells, position_of, ◌≢◌, true, false, ◌≤◌, sym, ◌∙◌, ◌⊎◌, append_assoc, Side, Lesser, OnGreater, is_eq, Ordering, Less, Equal}
-use Rattle.triple_ord.proofs.Words.{common_steps, option_map, Link, Entry, times, IsDistinct, entry_at, link_between, link_at, from_index, Greater, Gap, order_to, IsFirstEqual, StopsAt, IsBeside, FindsKey, FindsSimilar, where_equal, Chain}
+use Rattle.triple_ord.proofs.Words.{◌≡◌, ℕ, List, [], ◌∷◌, ◌++◌, Option, Some, None, IsSome, length, refl, ap, arith, inl, inr, eqb_tells, position_of, ◌≢◌, true, ◌≤◌, sym, ◌∙◌, ◌⊎◌, append_assoc, Side, Lesser, OnGreater, is_eq, Ordering, Equal}
+use Rattle.triple_ord.proofs.Words.{common_steps, option_map, Link, Entry, times, IsDistinct, entry_at, link_between, link_at, from_index, Gap, order_to, IsFirstEqual, StopsAt, IsBeside, FindsKey, FindsSimilar, where_equal, Chain}
 use Rattle.triple_ord.specs.Prepared.{order_on}
 use Rattle.triple_ord.proofs.Words.{insert_after, insert_before, with_item_among, times-append, entry_at-between, first_of, last_of, IsInsertion, put_on, before, after, with_between}
 

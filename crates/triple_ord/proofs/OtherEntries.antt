@@ -1,12 +1,12 @@
 -- A search for the place of a key among all entries but one: its answers, and its end.
-use Rattle.triple_ord.proofs.Words.{◌≡◌, ◌≢◌, ℕ, false, ◌+◌, ◌-◌, ◌≤◌, length, List, [], ◌∷◌, ◌++◌, Option, Some, None, IsSome, IfSome, refl, sym, ap, subst, ◌∙◌, arith, common_steps, inl, inr, append_assoc, option_map, cases_eq}
+use Rattle.triple_ord.proofs.Words.{◌≡◌, ◌≢◌, ℕ, ◌+◌, ◌-◌, ◌≤◌, length, List, [], ◌∷◌, ◌++◌, Option, Some, None, IsSome, IfSome, refl, sym, ap, subst, ◌∙◌, arith, common_steps, inl, inr, append_assoc, option_map, cases_eq}
 use Rattle.triple_ord.proofs.Words.{All, AllByRecursion, All-from_recursion, All-contains, FoldsTo, Contains, Contains-push, Link, link_at, entry_at}
-use Rattle.triple_ord.proofs.Words.{Entry, times, IsDistinct, times-append, Shape, Gap, first_of, last_of, present, pointer, order_to, taken, Passed, Ordering, Less, Equal, Greater, Shown, IsDescending, HasDescended, similar_of, is_eq}
-use Rattle.triple_ord.proofs.Inserting.{begins, ends, last_of-append, no_last, link-read, entry_at-here}
+use Rattle.triple_ord.proofs.Words.{Entry, times, IsDistinct, times-append, Shape, first_of, last_of, present, order_to, Passed, Ordering, Less, Greater, Shown, IsDescending, HasDescended, similar_of}
+use Rattle.triple_ord.proofs.Inserting.{begins, ends, no_last, link-read, entry_at-here}
 use Rattle.triple_ord.proofs.Without.{without-last, first-kept, last-kept}
 use Rattle.triple_ord.proofs.Descending.{cut_there, descent-empty, neighbours_shown}
-use Rattle.triple_ord.proofs.OrderLaws.{taken-less, taken-greater, passed-unequal}
-use Rattle.triple_ord.specs.Around.{last_item, order_behind, AnswersAround, EndsAround, FindsAround}
+use Rattle.triple_ord.proofs.OrderLaws.{taken-less, taken-greater}
+use Rattle.triple_ord.specs.Around.{last_item, order_behind, AnswersAround, FindsAround}
 use Rattle.ord_tree.specs.Chain.{without}
 
 -- the property of each call, for calls that leave no state
@@ -16,14 +16,6 @@ asked_all Q (x ∷ xs) f g calls = (calls.1, asked_all Q xs calls.0 g calls.2)
 
 present-most : {X : Type 0} (o : Option X) → present o ≤ 1
 present-most o = grind (arith, common_steps)
-
--- no such answer is `Equal`
-pub passed-test : {K : Type 0} (cmp : K → K → Ordering) (k other : K) → is_eq (taken Passed cmp k other) ≡ false
-passed-test cmp k other = grind (arith, common_steps)
-
-pub behind-test : {T K : Type 0} (key : T → K) (cmp : K → K → Ordering) (k : K) (before : Option T) → is_eq (order_behind key cmp k before) ≡ false
-behind-test key cmp k None = refl
-behind-test key cmp k (Some item) = passed-test cmp k (key item)
 
 -- the item before an entry, from the entry's link
 module _ {T : Type 0} (es : List (Entry T)) (distinct : IsDistinct es) (i g : ℕ) (l : Link T) (shown : link_at es i ≡ Some (g, l))

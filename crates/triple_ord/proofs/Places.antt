@@ -1,7 +1,7 @@
 -- The place of an insertion, from the answer of a search or from an index.
 use Rattle.triple_ord.proofs.Words.{◌≡◌, ◌≢◌, ◌==◌, if◌then◌else◌, IfNone, is_some, ℕ, ◌+◌, ◌≤◌, false, true, length, List, [], ◌∷◌, ◌++◌, Option, Some, None, IsSome, Result, Ok, Err, IfErr, refl, sym, ap, ◌∙◌, arith, append_assoc, eq-eqb}
 use Rattle.triple_ord.proofs.Words.{after, with_between, FindsSimilar, taken, Ties, Sought, Passed, Aim, alone, at_key, behind_key, beside, Place, into, over, nowhere, IsPlace, aim_of, Growth, Within, Reallocating, Side, Lesser, OnGreater, slice_get_cases}
-use Rattle.triple_ord.proofs.Words.{with_room_by, Entry, Chain, entry_at, next_index, IsDistinct, IsSound, IsInsertion, Tree, IsGrown, put_on, put_at, nat_tests, nil_from_length, IfSome_then, option_map, is_eq, Ordering, Less, Equal}
+use Rattle.triple_ord.proofs.Words.{with_room_by, Entry, Chain, entry_at, next_index, IsDistinct, IsSound, IsInsertion, Tree, IsGrown, put_on, put_at, nat_tests, nil_from_length, IfSome_then, option_map, Ordering, Less, Equal}
 use Rattle.triple_ord.proofs.Words.{Greater, IsErrAnd, with_item, item_of, count, Updates, IsNearHint, IsWithinBounds, IsWithinHintedBounds, Gap, before, LacksSlot, IsRefused, InsertsBeside, OrdInsertKind, OrdInsertionError}
 use Rattle.triple_ord.proofs.Inserting.{last_of-append, stands, HasPlace, place-alone, similar-placed, similar-occupied, similar-here, similar-first, similar-seen, IsInsertion-same, puts-before, puts-after}
 use Rattle.triple_ord.proofs.{CallerLemmas.entries-with_room_by, CallerLemmas.updates-written, CallerLemmas.count-written, CallerLemmas.inserted-new, OrderLaws.taken-less, OrderLaws.taken-greater, OrderLaws.passed-unequal}

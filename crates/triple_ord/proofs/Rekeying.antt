@@ -1,8 +1,8 @@
 -- An entry that gets another item and moves to a gap of its list.
-use Rattle.triple_ord.proofs.Words.{true, false, ◌≡◌, ◌≢◌, ℕ, ◌+◌, ◌≤◌, List, [], ◌∷◌, ◌++◌, Option, Some, None, IfSome, IsSome, length, refl, sym, ap, subst, ◌∙◌, arith, common_steps, eqb_tells, inl, inr, ◌⊎◌, append_assoc, option_map, IfSome_then}
-use Rattle.triple_ord.proofs.Words.{Entry, Chain, times, IsDistinct, entry_at, times-append, with_item_among, entry_at-with_item_among, entry_at-with_item_among_other, entry_at-without_other, length-without}
+use Rattle.triple_ord.proofs.Words.{◌≡◌, ◌≢◌, ℕ, ◌+◌, ◌≤◌, List, [], ◌∷◌, ◌++◌, Option, Some, None, IfSome, IsSome, refl, sym, ap, subst, ◌∙◌, arith, common_steps, eqb_tells, inl, inr, ◌⊎◌, append_assoc, option_map}
+use Rattle.triple_ord.proofs.Words.{Entry, Chain, times, IsDistinct, entry_at, times-append, with_item_among, entry_at-with_item_among, entry_at-with_item_among_other, entry_at-without_other}
 use Rattle.triple_ord.proofs.Words.{Link, link_at, entry_at-link, insert_before, insert_after}
-use Rattle.triple_ord.proofs.Words.{Gap, first_of, last_of, before, after, Ordering, Less, Equal, Greater, Side, Lesser, OnGreater, Tree, with_item, put_on, cases_eq, item_of, item_if, count, Updates, entry_at-between, entry_at-between_other, length-between}
+use Rattle.triple_ord.proofs.Words.{Gap, first_of, last_of, after, Ordering, Less, Equal, Greater, Side, Lesser, OnGreater, Tree, with_item, put_on, cases_eq, item_of, item_if, Updates}
 use Rattle.triple_ord.proofs.CallerLemmas.{item_if-found}
 use Rattle.triple_ord.specs.{Rekey.RekeysCounted, Arena.FindSame}
 use Rattle.ord_tree.specs.{Move.IsRearranged, Tree.CanPutAt}

@@ -49,7 +49,7 @@ pub use Rattle.triple_ord.specs.Hint.{position_of, IsNearHint, way_length}
 pub use Rattle.triple_ord.specs.declared.growth.Growth.{Growth}
 pub use Rattle.triple_ord.specs.declared.growth.Growth.TheVariants.{Within, Reallocating}
 pub use Rattle.ord_tree.specs.declared.tree_links.Side.{Side, TheVariants.Lesser, TheVariants.Greater as OnGreater}
-pub use Rattle.triple_ord.specs.Insertion.{with_room_by, InsertsBy, told, LacksSlot, IsRefused, InsertsBeside}
+pub use Rattle.triple_ord.specs.Insertion.{with_room_by, InsertsBy, with_kind, LacksSlot, IsRefused, InsertsBeside}
 pub use Rattle.triple_ord.specs.OrderLaws.{AreAnsweredInOrder, AnsweredInOrderLaw, GoesBy, KeptOrderLaw, IsAbsent, AbsentKeyLaw, IsPlaceOf}
 pub use Rattle.triple_ord.specs.OrderLaws.{BesidePlaceLaw, ranks_of, SameRanksLaw}
 pub use Rattle.triple_ord.specs.Place.{Aim, at_key, beside, Place, into, over, IsPlace, aim_of, LiesBehind, alone, behind_key, nowhere}

@@ -1,6 +1,6 @@
 -- An ordered arena as its callers see it: what pointers find in it, and its entries in order. A pointer is the pair of its index and its
 -- generation.
-use Rattle.std.specs.{Prelude.◌≡◌, Prelude.◌≢◌, Prelude.ℕ, Prelude.◌+◌, Prelude.List, Prelude.max, Prelude.nat_lt, Prelude.if◌then◌else◌, Prelude.Option, Prelude.None, Prelude.IsSomeAnd, Prelude.length, Prelude.map, Prelude.slice_get, declared.cmp.Ordering.Ordering}
+use Rattle.std.specs.{Prelude.◌≡◌, Prelude.◌≢◌, Prelude.ℕ, Prelude.◌+◌, Prelude.List, Prelude.max, Prelude.nat_lt, Prelude.if◌then◌else◌, Prelude.Option, Prelude.None, Prelude.IsSomeAnd, Prelude.Result, Prelude.OnErr, Prelude.length, Prelude.map, Prelude.slice_get, declared.cmp.Ordering.Ordering}
 use Rattle.ord_tree.specs.PlainArena.{doubled_capacity}
 use Rattle.ord_tree.specs.Chain.{Chain, chain_limit, with_capacity, entry_at as entry_among, item_of as item_among}
 use Rattle.ord_tree.specs.Tree.{Tree}
@@ -56,6 +56,12 @@ module _ {T : Type 0} where
     pub inside : (k : ℕ) → item_of a (k + 1, g) ≡ slice_get found k
     pub outside : (k : ℕ) → item_of a (0, k) ≡ None
     pub ended : IsOfGeneration a g
+
+  -- What a call does that changes at most the capacity or its limit: every pointer finds what it found. A failed call changes nothing.
+  pub record KeepsEntries {X E : Type 0} (result : Result X E) (old new : Tree T) : Type 0 where
+    pub found : FindSame old new
+    pub err : OnErr result (new ≡ old)
+    pub count : count new ≡ count old
 
   -- no pointer finds anything
   abbrev pub FindsNothing : Tree T → Type 0

@@ -1,7 +1,8 @@
 -- The distance of a hint: the number of entries from the hint to the gap where a key belongs.
-use Rattle.std.specs.{Prelude.◌≡◌, Prelude.Option, Option.option_map, Option.option_or, Prelude.ℕ, Prelude.◌+◌, Prelude.◌-◌, Prelude.◌≤◌, Prelude.◌==◌, Prelude.nat_lt, Prelude.if◌then◌else◌, Prelude.List, Prelude.[], Prelude.◌∷◌, Prelude.length, Prelude.IsSome, declared.cmp.Ordering.Ordering}
+use Rattle.std.specs.{Prelude.◌≡◌, Prelude.Option, Option.option_map, Option.option_or, Prelude.ℕ, Prelude.◌+◌, Prelude.◌-◌, Prelude.◌≤◌, Prelude.◌==◌, Prelude.nat_lt, Prelude.if◌then◌else◌, Prelude.List, Prelude.[], Prelude.◌∷◌, Prelude.length, Prelude.IsSome, Prelude.IfNone, declared.cmp.Ordering.Ordering}
 use Rattle.ord_tree.specs.Chain.{Entry, entry_at}
-use Rattle.triple_ord.specs.{Gap.Gap, Gap.before, Gap.after, Gap.present, Order.IsInOrder, Search.Fits, Search.pointer, Search.order_to}
+use Rattle.ord_tree.specs.Tree.{Tree}
+use Rattle.triple_ord.specs.{VisitBounds.IsWithinBounds, VisitBounds.IsWithinHintedBounds, Search.FindsSimilar, Gap.Gap, Gap.before, Gap.after, Gap.present, Order.IsInOrder, Search.Fits, Search.pointer, Search.order_to}
 
 module _ {T : Type 0} where
   -- the number of entries before the one with this index
@@ -31,3 +32,13 @@ abbrev pub AnswersNear : {T K : Type 0} → (T → K) → (K → K → Ordering)
 AnswersNear key cmp entries k i num found = IsInOrder key cmp entries → IsSome (entry_at entries i) → (gap : Gap entries) → Fits key cmp gap k
     → way_length gap (position_of entries i) ≤ num
     → found ≡ option_map (λ e. (pointer e, order_to key cmp k e)) (way_end gap (position_of entries i))
+
+-- A search for a similar key that first makes at most num steps from the entry at index i, with c visits. `taking` orders keys as the
+-- search takes equal ones.
+pub record SearchesNear {T K : Type 0} (key : T → K) (cmp taking : K → K → Ordering) (t : Tree T) (k : K) (i num : ℕ)
+    (answer : Option ((ℕ × ℕ) × Ordering)) (c : ℕ) : Type 0 where
+  pub found : FindsSimilar key taking t.list.entries k answer c
+  pub visits : IsWithinHintedBounds (length t.list.entries) t.shape num c
+  pub unhinted : IfNone (entry_at t.list.entries i) (IsWithinBounds (length t.list.entries) t.shape c)
+  pub near : IsNearHint key cmp t.list.entries k i num c
+  pub answers : AnswersNear key cmp t.list.entries k i num answer

@@ -1,9 +1,11 @@
 -- What contracts see of an entry of an insertion.
 use Rattle.std.specs.declared.{alloc.Allocator.Ghosts as AllocatorGhosts, cmp.PartialEq.Ghosts as PartialEqGhosts}
-use Rattle.std.specs.{Borrow.GName, Borrow.Fml, Borrow.RattleType, Borrow.MutBor, Borrow.RestsIfErr, Prelude.◌≡◌, Prelude.ℕ, Prelude.List, Prelude.Result}
+use Rattle.std.specs.{Borrow.GName, Borrow.Fml, Borrow.RattleType, Borrow.MutBor, Borrow.RestsIfErr, Prelude.◌≡◌, Prelude.ℕ, Prelude.List, Prelude.Result, Prelude.IfOk, Prelude.IfErr, declared.cmp.Ordering.Ordering}
 use Rattle.ord_tree.specs.{BasePtr.Ghosts as PtrGhosts, BasePtrGen.Ghosts as PtrGenGhosts, BasePtrInx.Ghosts as PtrInxGhosts}
 use Rattle.ord_tree.specs.Chain.{Entry}
 use Rattle.ord_tree.specs.Tree.{Tree, put_at}
+use Rattle.triple_ord.specs.{Arena.count, Arena.FindSame, Entry.IsEntryFor, Insertion.IsRefused, Place.aim_of}
+use Rattle.triple_ord.specs.{declared.error.OrdInsertionError.OrdInsertionError, declared.growth.Growth.Growth, declared.insert_kind.OrdInsertKind.OrdInsertKind}
 use Rattle.triple_ord.specs.{declared.arena.insert_entry.SimpleOrdArenaInsertEntry.SimpleOrdArenaInsertEntry, declared.entry_kind.OrdEntryKind.OrdEntryKind, contracts.arena.SimpleOrdArena.the_row}
 
 module _ {P T A Inx Gen : Type 0}
@@ -29,6 +31,17 @@ module _ {P T A Inx Gen : Type 0}
   -- the number of entries that the search for its place visited
   abbrev pub entry_visits : SimpleOrdArenaInsertEntry P T A Inx Gen ptr ptr_eq inx inx_eq gen gen_eq → ℕ
   entry_visits e = e.prepared.visits
+
+  -- What a call does that requests an entry for an insertion of this kind. The entry is at its place and holds the caller's reference to
+  -- the arena, in which at most the capacity has changed. If the request is refused, there is no place, or no slot.
+  pub record RequestsEntry {K : Type 0} (numbers : P → ℕ × ℕ) (key : T → K) (cmp : K → K → Ordering) (number : Inx → ℕ) (growth : Growth) (most : ℕ)
+      (kind : OrdInsertKind P K Inx Gen) (old : Tree T) (lender : GName)
+      (result : Result (SimpleOrdArenaInsertEntry P T A Inx Gen ptr ptr_eq inx inx_eq gen gen_eq) OrdInsertionError) : Type 0 where
+    pub place : IfOk result (λ e. IsEntryFor numbers key cmp number growth most kind old (entry_shown e) (entry_put numbers e) (entry_visits e) (entry_arena e))
+    pub found : IfOk result (λ e. FindSame old (entry_arena e))
+    pub refused : IfErr result (IsRefused key cmp most growth (aim_of number kind) old)
+    pub same_reference : IfOk result (λ e. entry_lender e ≡ lender)
+    pub count : IfOk result (λ e. count (entry_arena e) ≡ count old)
 
 -- if the call fails, the arena behind m is unchanged
 module _ (P T A Inx Gen : RattleType)

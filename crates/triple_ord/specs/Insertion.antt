@@ -1,10 +1,11 @@
 -- What an insertion does: a single step once its place is known.
-use Rattle.std.specs.{Prelude.◌≡◌, Prelude.◌≢◌, Prelude.ℕ, Prelude.Option, Prelude.Some, Prelude.None, Prelude.Result, Prelude.Ok, Prelude.Err, Prelude.length, declared.cmp.Ordering.Ordering, declared.cmp.Ordering.TheVariants.Equal}
+use Rattle.std.specs.{Prelude.◌≡◌, Prelude.◌≢◌, Prelude.◌+◌, Prelude.ℕ, Prelude.Option, Prelude.Some, Prelude.None, Prelude.is_some, Prelude.if◌then◌else◌, Prelude.Result, Prelude.Ok, Prelude.Err, Prelude.IfOk, Prelude.IfErr, Prelude.OnOk, Prelude.OnErr, Prelude.length, declared.cmp.Ordering.Ordering, declared.cmp.Ordering.TheVariants.Equal}
 use Rattle.ord_tree.specs.{Chain.Entry, Chain.Chain, Chain.chain_limit, Chain.with_room, Insert.IsInsertion}
 use Rattle.ord_tree.specs.Tree.{Tree, IsGrown, with_item}
 use Rattle.triple_ord.specs.declared.error.OrdInsertionError.TheVariants.{FailedOrdRequirement, NotWithinCapacity, BeyondMaxCapacity, AllocError}
 use Rattle.triple_ord.specs.{declared.growth.Growth.Growth, declared.growth.Growth.TheVariants.Within, declared.growth.Growth.TheVariants.Reallocating}
 use Rattle.triple_ord.specs.{declared.entry_kind.OrdEntryKind.OrdEntryKind, declared.entry_kind.OrdEntryKind.TheVariants.New, declared.entry_kind.OrdEntryKind.TheVariants.Replacing, declared.error.OrdInsertionError.OrdInsertionError}
+use Rattle.triple_ord.specs.Arena.{item_of, count, Updates}
 use Rattle.triple_ord.specs.{Place.Aim, Place.at_key, Place.beside, Place.into, Place.over, Place.nowhere, Place.IsPlace, Gap.Gap, Gap.with_between, Search.pointer}
 
 module _ {T : Type 0} where
@@ -20,6 +21,13 @@ module _ {T : Type 0} where
   LacksSlot Reallocating most c BeyondMaxCapacity = length c.entries ≡ chain_limit most c
   LacksSlot Reallocating most c AllocError = (length c.entries ≢ chain_limit most c) × (length c.entries ≡ c.capacity)
   LacksSlot growth most c refusal = ⊥
+
+-- What a call does that makes sure that a slot is vacant: at most, the arena grows. A failed call changes nothing.
+pub record MakesRoom {T X : Type 0} (growth : Growth) (most : ℕ) (old : Tree T) (result : Result X OrdInsertionError) (new : Tree T) : Type 0 where
+  pub room : OnOk result (new ≡ record old { list = with_room_by growth most old.list })
+  pub entries : new.list.entries ≡ old.list.entries
+  pub refused : IfErr result (LacksSlot growth most old.list)
+  pub err : OnErr result (new ≡ old)
 
 -- The parameters: the key of an item, the order of keys, the greatest index of an entry, how the insertion gets its slot, and what it
 -- goes by.
@@ -57,19 +65,21 @@ module _ {T K : Type 0} (key : T → K) (cmp : K → K → Ordering) (most : ℕ
   InsertsBy numbers old item (Ok answer) new = ⊥
   InsertsBy numbers old item (Err refusal) new = Refuses old refusal new
 
--- a result in which a replaced item, if any, shows whether the entry is new
-abbrev pub told : {P T : Type 0} → Result (P × Option T) OrdInsertionError → Result (OrdEntryKind P × Option T) OrdInsertionError
-told (Ok (p, None)) = Ok (New p, None)
-told (Ok (p, Some before)) = Ok (Replacing p, Some before)
-told (Err refusal) = Err refusal
+-- the result with the kind of its entry, which is new unless an item was replaced
+abbrev pub with_kind : {P T : Type 0} → Result (P × Option T) OrdInsertionError → Result (OrdEntryKind P × Option T) OrdInsertionError
+with_kind (Ok (p, None)) = Ok (New p, None)
+with_kind (Ok (p, Some before)) = Ok (Replacing p, Some before)
+with_kind (Err refusal) = Err refusal
 
-module _ {T K : Type 0} (key : T → K) (cmp : K → K → Ordering) (most : ℕ) where
-  -- an insertion by the item's key that may grow, and one that stays within the capacity
-  abbrev pub Inserts : {P : Type 0} → (P → ℕ × ℕ) → Tree T → T → Result (P × Option T) OrdInsertionError → Tree T → Type 0
-  Inserts numbers old item answer new = InsertsBy key cmp most Reallocating (at_key (key item)) numbers old item (told answer) new
-
-  abbrev pub InsertsWithin : {P : Type 0} → (P → ℕ × ℕ) → Tree T → T → Result (P × Option T) OrdInsertionError → Tree T → Type 0
-  InsertsWithin numbers old item answer new = InsertsBy key cmp most Within (at_key (key item)) numbers old item (told answer) new
+-- What a call does that inserts an item by its key. The pointer in its result finds the item afterwards, and every other pointer what it
+-- found. The result also has the replaced item, if any. A failed call changes nothing.
+pub record InsertsByKey {T K P : Type 0} (key : T → K) (cmp : K → K → Ordering) (most : ℕ) (growth : Growth) (numbers : P → ℕ × ℕ)
+    (old : Tree T) (item : T) (result : Result (P × Option T) OrdInsertionError) (new : Tree T) : Type 0 where
+  pub inserts : InsertsBy key cmp most growth (at_key (key item)) numbers old item (with_kind result) new
+  pub updates : IfOk result (λ a. Updates old new (numbers a.0) (Some item))
+  pub before : IfOk result (λ a. a.1 ≡ item_of old (numbers a.0))
+  pub refused : OnErr result (new ≡ old)
+  pub count : IfOk result (λ a. count new ≡ (if is_some a.1 then count old else count old + 1))
 
 -- an item without a key, for an insertion that compares none
 abbrev keyless : {T : Type 0} → T → Unit {0}

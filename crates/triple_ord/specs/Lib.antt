@@ -11,6 +11,7 @@ pub mod Place
 pub mod EntryKind
 pub mod Insertion
 pub mod Append
+pub mod Renumbering
 pub mod Entry
 pub mod InsertEntry
 pub mod EntryVisits

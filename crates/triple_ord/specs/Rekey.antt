@@ -1,8 +1,8 @@
 -- An entry that moves to the place of its key, with a new item or its own.
-use Rattle.std.specs.{Prelude.◌≡◌, Prelude.ℕ, Prelude.◌≤◌, Prelude.◌⊎◌, declared.cmp.Ordering.Ordering}
+use Rattle.std.specs.{Prelude.◌≡◌, Prelude.ℕ, Prelude.◌≤◌, Prelude.◌⊎◌, Prelude.None, Prelude.Result, Prelude.IfErr, Prelude.OnErr, declared.cmp.Ordering.Ordering}
 use Rattle.ord_tree.specs.Chain.{without}
 use Rattle.ord_tree.specs.{Tree.Tree, Tree.with_item, Move.IsRearranged}
-use Rattle.triple_ord.specs.{Gap.Gap, Gap.with_between, Gap.neighbour_count, Place.LiesBehind, Order.IsInOrder}
+use Rattle.triple_ord.specs.{Arena.item_of, Arena.count, Gap.Gap, Gap.with_between, Gap.neighbour_count, Place.LiesBehind, Order.IsInOrder}
 
 -- The entry of p has the item, and is in a gap of the other entries that lies behind the item's key. Nothing else changes.
 pub record Rekeys {T K : Type 0} (key : T → K) (cmp : K → K → Ordering) (old : Tree T) (p : ℕ × ℕ) (item : T) (new : Tree T) : Type 0 where
@@ -11,6 +11,13 @@ pub record Rekeys {T K : Type 0} (key : T → K) (cmp : K → K → Ordering) (o
   pub entries : new.list.entries ≡ with_between gap (record { index = p.0; generation = p.1; item = item })
   pub kept : new.list ≡ record old.list { entries = new.list.entries }
   pub shape : (new.shape ≡ old.shape) ⊎ IsRearranged old.shape new.shape
+
+-- What a call does that moves the entry of p, or gives back what it was given if p names no entry. Nothing changes then.
+pub record MovesOrReturns {T A B : Type 0} (old : Tree T) (p : ℕ × ℕ) (given : B) (result : Result A B) (new : Tree T) : Type 0 where
+  pub stale : OnErr result (item_of old p ≡ None)
+  pub back : IfErr result (λ back. back ≡ given)
+  pub refused : OnErr result (new ≡ old)
+  pub count : count new ≡ count old
 
 -- The same, by a search for the gap with c visits, which has seen the keys of the entries beside the gap.
 pub record RekeysCounted {T K : Type 0} (key : T → K) (cmp : K → K → Ordering) (old : Tree T) (p : ℕ × ℕ) (item : T) (c : ℕ) (new : Tree T) : Type 0 where

@@ -1,7 +1,7 @@
 -- Bounds on the entries that a search visits.
-use Rattle.std.specs.Prelude.{◌≡◌, ℕ, ◌+◌, ◌^◌, ◌<◌, ◌≤◌}
+use Rattle.std.specs.Prelude.{◌≡◌, ℕ, ◌+◌, ◌^◌, ◌<◌, ◌≤◌, length}
 use Rattle.ord_tree.specs.{Half.IsRebuilt, Numbers.fib, Numbers.HasDigits, Ranks.IsRanked, Ranks.IsTight}
-use Rattle.ord_tree.specs.Shape.{Shape, size_of, height}
+use Rattle.ord_tree.specs.{Shape.Shape, Shape.size_of, Shape.height, Tree.Tree}
 
 -- the bounds on the visits c of a search among n entries in this shape
 pub record IsWithinBounds (n : ℕ) (shape : Shape) (c : ℕ) : Type 0 where
@@ -13,6 +13,11 @@ pub record IsWithinBounds (n : ℕ) (shape : Shape) (c : ℕ) : Type 0 where
   pub rebuilt : IsRebuilt shape → (digits : ℕ) → HasDigits n digits → c ≤ digits
   -- in an empty list
   pub empty : n ≡ 0 → c ≡ 0
+
+-- a search of an arena that finds this with c visits, within the bounds
+pub record IsBoundedSearch {T : Type 0} (t : Tree T) (c : ℕ) (finds : Type 0) : Type 0 where
+  pub found : finds
+  pub visits : IsWithinBounds (length t.list.entries) t.shape c
 
 -- The bounds on the visits c of a search that first makes steps from a hint: at most num steps, and at most as many as there are entries.
 -- The visits of a whole search, or none, are added to them.

@@ -3,11 +3,11 @@
 //! The tree still holds that entry, but its key says nothing about its place: it may be the old key, or one written over it. So the
 //! entry's predecessor answers for it. If the predecessor is before the place of the key, so is the whole lesser side; otherwise the
 //! place isn't on the greater side.
-ghost use Rattle.std.specs.Prelude.{◌≡◌, ◌+◌, ◌-◌, ◌^◌, ◌<◌, ◌≤◌, IsSome, length};
+ghost use Rattle.std.specs.Prelude.{◌≡◌, ◌+◌, ◌-◌, ◌^◌, ◌<◌, ◌≤◌, IsSome};
 ghost use Rattle.std.specs.Option.{option_map, option_copied};
 ghost use Rattle.ord_tree.specs.Chain.{entry_at, IsDistinct};
 ghost use Rattle.triple_ord.specs.Around.{order_behind, FindsAround, IsAnsweredAround};
-ghost use Rattle.triple_ord.specs.VisitBounds.{IsWithinBounds};
+ghost use Rattle.triple_ord.specs.VisitBounds.{IsBoundedSearch};
 
 use crate::descent::{towards, visits_law};
 use crate::item::SimpleOrdItem;
@@ -25,11 +25,10 @@ pub(crate) fn descend_around<P: BasePtr, T: SimpleOrdItem, A: Allocator>(
     k: &T::Key,
 ) -> Option<(P, Ordering)>
     requires { probe.old.visits < 2 ^ 64 }
-    ensures found { FindsAround T.key_of T.Key.cmp probe.old.tree.now.list.entries
+    ensures { IsBoundedSearch probe.old.tree.now (probe.new.visits - probe.old.visits)
+        (FindsAround T.key_of T.Key.cmp probe.old.tree.now.list.entries
         (P.Inx.number passed) k.now (option_map (λ a. (P.numbers a.0, a.1)) result)
-        (probe.new.visits - probe.old.visits) }
-    ensures visits { IsWithinBounds (length probe.old.tree.now.list.entries)
-        probe.old.tree.now.shape (probe.new.visits - probe.old.visits) }
+        (probe.new.visits - probe.old.visits)) }
 {
     visits_law();
     let mut last = None;

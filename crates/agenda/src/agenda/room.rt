@@ -1,9 +1,10 @@
 //! Capacity, clearing and clones.
 
-ghost use Rattle.std.specs.Prelude.{◌≡◌, ◌↔◌, ◌+◌, ◌<◌, [], Err, IfOk, IsOk, OnOk, OnErr};
+ghost use Rattle.std.specs.Prelude.{◌≡◌, ◌↔◌, ◌+◌, ◌<◌, [], Err, IfOk, IsOk, OnOk};
 ghost use Rattle.triple_ord.specs.PlainArena.{capacity_for};
 ghost use Rattle.agenda.specs.Agenda.{most_entries, count, with_left, HasRoomFor};
 ghost use Rattle.agenda.specs.Tickets.{IsStep};
+ghost use Rattle.agenda.specs.Calls.{MayGrow};
 
 use super::Agenda;
 use std::alloc::{AllocError, Allocator};
@@ -21,7 +22,6 @@ impl<J, A: Allocator> Agenda<J, A> {
     /// - `AllocError`: growing failed.
     pub fn reserve(&mut self, additional: usize) -> Result<(), ReallocationError>
         ensures jobs { self.new.jobs ≡ self.old.jobs }
-        ensures generation { self.new.generation ≡ self.old.generation }
         ensures capacity { OnOk result
             (self.new.capacity ≡ capacity_for most_entries self.old.capacity (count self.old + additional)) }
         ensures room { OnOk result (HasRoomFor additional self.new) }
@@ -29,8 +29,7 @@ impl<J, A: Allocator> Agenda<J, A> {
             ↔ (most_entries < count self.old + additional) }
         ensures memory { result ≡ Err ReallocationError.AllocError
             → self.old.capacity < count self.old + additional }
-        ensures err { OnErr result (self.new ≡ self.old) }
-        ensures step { IsStep self.old self.new }
+        ensures grows { MayGrow self.old result self.new }
     {
         self.jobs.reserve(additional)
     }

@@ -1,10 +1,11 @@
 //! Cloning another tree: its pointers, its order and its shape.
 
-ghost use Rattle.std.specs.Prelude.{◌≡◌, ◌<◌, ◌↔◌, ◌⊎◌, OnOk, OnErr};
+ghost use Rattle.std.specs.Prelude.{◌≡◌, ◌<◌, ◌↔◌, ◌⊎◌, OnOk};
 ghost use Rattle.chain_base.specs.Chain.{chain_limit, greatest_index};
 ghost use Rattle.chain_base.specs.Clone.{IsClone as IsClonedList};
 ghost use Rattle.chain_base.specs.ArenaClone.{IsShown};
 ghost use Rattle.ord_tree.specs.Clone.{IsClone, IsRefusedClone, ShowsItem};
+ghost use Rattle.ord_tree.specs.Tree.{Reallocates};
 
 use super::OrdTree;
 use crate::node::SimpleOrdArenaNode;
@@ -111,13 +112,9 @@ impl<P: BasePtr, T, A: Allocator + Copy> OrdTree<P, T, A> {
         map: F,
     ) -> Result<(), ReallocationError>
         requires { F.IsAlwaysCallable map }
-        ensures ok { OnOk result ((last : F) × IsClonedList P.numbers (ShowsItem F.step) map
-            self.now.list chain.old chain.new last) }
-        ensures beyond { (result ≡ Err ReallocationError.BeyondMaxCapacity)
-            ↔ (chain_limit P.Inx.most chain.old < greatest_index self.now.list.entries) }
-        ensures memory { result ≡ Err ReallocationError.AllocError
-            → chain.old.capacity < greatest_index self.now.list.entries }
-        ensures err { OnErr result (chain.new ≡ chain.old) }
+        ensures { Reallocates P.Inx.most chain.old (greatest_index self.now.list.entries) result
+            ((last : F) × IsClonedList P.numbers (ShowsItem F.step) map
+            self.now.list chain.old chain.new last) (chain.new ≡ chain.old) }
     {
         let mut shown = ShowItem {
             map: Calls { f: map },

@@ -1,8 +1,9 @@
 //! Creating a tree, and changing its capacity.
 
-ghost use Rattle.std.specs.Prelude.{◌≡◌, ◌<◌, ◌↔◌, ◌⊎◌, max, length, IsSome, IsOk, IsErr, IfOk, OnOk, IfErr, OnErr};
-ghost use Rattle.chain_base.specs.Chain.{new_chain, with_capacity, with_room, greatest_index, next_index, chain_limit};
+ghost use Rattle.std.specs.Prelude.{◌≡◌, ◌<◌, ◌↔◌, max, length, IsSome, IsOk, IsErr, IfOk, OnOk, OnErr};
+ghost use Rattle.chain_base.specs.Chain.{new_chain, with_capacity, with_room, greatest_index, next_index};
 ghost use Rattle.ord_tree.specs.Shape.{missing};
+ghost use Rattle.ord_tree.specs.Tree.{FailsOnlyIfFull, Reallocates};
 
 use super::OrdTree;
 use arena_base::{BasePtr, InsertionError, MaxCapacityReductionError, ReallocationError};
@@ -50,13 +51,10 @@ impl<P: BasePtr, T, A: Allocator> OrdTree<P, T, A> {
     /// - `BeyondMaxCapacity`: `n` is beyond the maximum or the greatest index.
     /// - `AllocError`: growing failed.
     pub fn reallocate_min_capacity(&mut self, n: usize) -> Result<(), ReallocationError>
-        ensures ok { OnOk result (self.new ≡ record self.old {
-          list = with_capacity self.old.list (max n (greatest_index self.old.list.entries));
-        }) }
-        ensures beyond { (result ≡ Err ReallocationError.BeyondMaxCapacity)
-            ↔ (chain_limit P.Inx.most self.old.list < n) }
-        ensures memory { result ≡ Err ReallocationError.AllocError → self.old.list.capacity < n }
-        ensures err { OnErr result (self.new ≡ self.old) }
+        ensures { Reallocates P.Inx.most self.old.list n result
+            (self.new ≡ record self.old {
+              list = with_capacity self.old.list (max n (greatest_index self.old.list.entries));
+            }) (self.new ≡ self.old) }
     {
         self.chain.reallocate_min_capacity(n)
     }
@@ -79,13 +77,7 @@ impl<P: BasePtr, T, A: Allocator> OrdTree<P, T, A> {
         ensures next { OnOk result (IsSome (next_index self.new.list)) }
         ensures entries { self.new.list.entries ≡ self.old.list.entries }
         ensures shape { self.new.shape ≡ self.old.shape }
-        ensures beyond { (result ≡ Err InsertionError.BeyondMaxCapacity)
-            ↔ (length self.old.list.entries ≡ chain_limit P.Inx.most self.old.list) }
-        ensures memory { result ≡ Err InsertionError.AllocError
-            → length self.old.list.entries ≡ self.old.list.capacity }
-        ensures refusal { IfErr result
-            (λ e. (e ≡ InsertionError.BeyondMaxCapacity) ⊎ (e ≡ InsertionError.AllocError)) }
-        ensures err { OnErr result (self.new ≡ self.old) }
+        ensures refused { FailsOnlyIfFull P.Inx.most self.old self.new result }
     {
         self.chain.make_room()
     }

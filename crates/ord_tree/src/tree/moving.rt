@@ -21,7 +21,7 @@ use chain_base::ChainArena;
 use std::alloc::Allocator;
 
 impl<P: BasePtr, T, A: Allocator> OrdTree<P, T, A> {
-    /// Moves the entry at `i` directly beside another entry, on that side of it. It keeps its pointer and its item.
+    /// Moves the entry at `i` directly beside the other entry that `at` names, to the side in `at`. It keeps its pointer and its item.
     ///
     /// The other entries keep their order. If the entry is already at that place, the list is unchanged.
     ///
@@ -35,6 +35,7 @@ impl<P: BasePtr, T, A: Allocator> OrdTree<P, T, A> {
             ≡ with_entry_moved self.old.list (P.Inx.number i) (put_on at.1 (P.Inx.number at.0)) }
         ensures shape { IsRearranged self.old.shape self.new.shape }
     {
+        // For the prover: the list is sound.
         prove!(self.chain.len() <= self.chain.capacity());
         let z = node_at(&self.chain, i);
         let before = neighbour(&self.chain, z, Side::Lesser);

@@ -2,15 +2,13 @@
 
 ghost use Rattle.std.specs.Prelude.{◌≡◌, ◌<◌, ◌↔◌, OnOk, OnErr, length};
 ghost use Rattle.std.specs.Option.{option_map};
-ghost use Rattle.chain_base.specs.ArenaCompression.{compressed_generation, compression_overflows};
 ghost use Rattle.chain_base.specs.Generation.{IsLawfulGeneration};
-ghost use Rattle.chain_base.specs.Invalidation.{is_overflow};
 ghost use Rattle.chain_base.specs.Chain.{chain_limit};
 ghost use Rattle.chain_base.specs.Compression.{canonical, relocated, IsCompression, IsTransfer};
 ghost use Rattle.ord_tree.specs.Shape.{missing};
 ghost use Rattle.ord_tree.specs.Half.{IsRebuilt};
-ghost use Rattle.ord_tree.specs.Node.{bare};
-ghost use Rattle.ord_tree.specs.Layout.{shape_in, IsLaidOut};
+ghost use Rattle.ord_tree.specs.Tree.{Compresses};
+ghost use Rattle.ord_tree.specs.Layout.{RebuildsChain};
 
 use super::OrdTree;
 use crate::node::SimpleOrdArenaNode;
@@ -35,12 +33,8 @@ impl<P: BasePtr, T, A: Allocator> OrdTree<P, T, A> {
         f: F,
     ) -> InvalidationOption<()>
         requires { F.IsAlwaysCallable f }
-        ensures after { IsCompression P.numbers F.step
-            (compressed_generation P.Gen.greatest reset self.old.list.generation) f
-            self.old.list self.new.list }
-        ensures shape { IsRebuilt self.new.shape }
-        ensures overflow { is_overflow result
-            ≡ compression_overflows P.Gen.greatest reset self.old.list.generation }
+        ensures { Compresses P.Gen.greatest reset self.old self.new result
+            (λ g. IsCompression P.numbers F.step g f self.old.list self.new.list) }
     {
         let map = MapNode { map: Calls { f } };
         let overflow = self.chain.compress_by(reset, map);
@@ -50,11 +44,8 @@ impl<P: BasePtr, T, A: Allocator> OrdTree<P, T, A> {
 
     /// Moves all entries to the indexes from 1 on as `compress_with` does, each with the item that it has.
     pub fn compress(&mut self, reset: bool) -> InvalidationOption<()>
-        ensures after { self.new.list ≡ relocated self.old.list
-            (compressed_generation P.Gen.greatest reset self.old.list.generation) }
-        ensures shape { IsRebuilt self.new.shape }
-        ensures overflow { is_overflow result
-            ≡ compression_overflows P.Gen.greatest reset self.old.list.generation }
+        ensures { Compresses P.Gen.greatest reset self.old self.new result
+            (λ g. self.new.list ≡ relocated self.old.list g) }
     {
         let overflow = self.chain.compress(reset);
         rebuild_over(&mut self.chain, &mut self.root);
@@ -65,11 +56,8 @@ impl<P: BasePtr, T, A: Allocator> OrdTree<P, T, A> {
     ///
     /// The capacity stays, and the free list is ascending, as if no slot had been used. O(capacity). Takes no memory.
     pub fn compress_canonical(&mut self, reset: bool) -> InvalidationOption<()>
-        ensures after { self.new.list ≡ canonical self.old.list
-            (compressed_generation P.Gen.greatest reset self.old.list.generation) }
-        ensures shape { IsRebuilt self.new.shape }
-        ensures overflow { is_overflow result
-            ≡ compression_overflows P.Gen.greatest reset self.old.list.generation }
+        ensures { Compresses P.Gen.greatest reset self.old self.new result
+            (λ g. self.new.list ≡ canonical self.old.list g) }
     {
         let overflow = self.chain.compress_canonical(reset);
         rebuild_over(&mut self.chain, &mut self.root);
@@ -177,10 +165,7 @@ pub(super) fn rebuild_over<P: BasePtr, T, A: Allocator>(
     chain: &mut ChainArena<P, SimpleOrdArenaNode<P, T>, A>,
     root: &mut Option<NodeInx<P::Inx>>,
 )
-    ensures laid { IsLaidOut chain.new (option_map P.Inx.number root.new)
-        (shape_in chain.new (option_map P.Inx.number root.new)) }
-    ensures rebuilt { IsRebuilt (shape_in chain.new (option_map P.Inx.number root.new)) }
-    ensures kept { bare chain.new ≡ bare chain.old }
+    ensures { RebuildsChain chain.old chain.new (option_map P.Inx.number root.new) }
 {
     let len = chain.len();
     *root = rebuild(chain, len);

@@ -6,7 +6,7 @@ ghost use Rattle.chain_base.specs.Generation.{overflows_after};
 ghost use Rattle.chain_base.specs.Invalidation.{valid_value, IsRemoval, IsRenewal, allowed_value, is_overflow};
 ghost use Rattle.chain_base.specs.Chain.{IsOccupied, entry_at, item_of, removed, renewed, cleared};
 ghost use Rattle.ord_tree.specs.Shape.{missing};
-ghost use Rattle.ord_tree.specs.Tree.{IsShrunk};
+ghost use Rattle.ord_tree.specs.Tree.{IsShrunk, Raises};
 
 use super::OrdTree;
 use super::insert::neighbour;
@@ -57,6 +57,7 @@ impl<P: BasePtr, T, A: Allocator> OrdTree<P, T, A> {
         ensures removed { self.new.list ≡ removed P.Gen.greatest self.old.list (P.Inx.number i) }
         ensures shape { IsShrunk self.old.shape self.new.shape }
     {
+        // For the prover: the list is sound.
         prove!(self.chain.len() <= self.chain.capacity());
         let z = node_at(&self.chain, i);
         let before = neighbour(&self.chain, z, Side::Lesser);
@@ -82,10 +83,8 @@ impl<P: BasePtr, T, A: Allocator> OrdTree<P, T, A> {
     pub fn clear(&mut self) -> InvalidationOption<()>
     where
         T: Drop,
-        ensures after { self.new
-            ≡ record { list = cleared P.Gen.greatest self.old.list; shape = missing } }
-        ensures overflow { is_overflow result
-            ≡ overflows_after P.Gen.greatest self.old.list.generation }
+        ensures { Raises P.Gen.greatest self.old.list.generation result
+            (self.new ≡ record { list = cleared P.Gen.greatest self.old.list; shape = missing }) }
     {
         self.root = None;
         self.chain.clear()

@@ -5,6 +5,7 @@ ghost use Rattle.std.specs.Option.{option_map};
 ghost use Rattle.std.specs.Range.Bound.{bound_map};
 ghost use Rattle.std.specs.Vec.{vec_capacity};
 ghost use Rattle.triple_ord.specs.Gap.{first_of};
+ghost use Rattle.sorted_arena.specs.Change.{DrainsInto, RemovesEntries};
 ghost use Rattle.sorted_arena.specs.Range.{entries_between, entries_outside};
 ghost use Rattle.sorted_arena.specs.Sorted.{count, pointer_of, item_of, with_rest};
 ghost use Rattle.sorted_arena.specs.Taking.{IsCutAt, TakesOut};
@@ -63,19 +64,12 @@ impl<K: Ord + Drop, V: Drop, P: BasePtr, A: Allocator> SortedArena<K, V, P, A> {
         until: Bound<&K>,
         drained: &mut Vec<(K, V), B>,
     ) -> Result<(), AllocError>
-        ensures drained { OnOk result
-            (drained.new.items ≡ drained.old.items ++ map item_of (entries_between K.cmp
-            (bound_map (λ k. k.now) from.entry) (bound_map (λ k. k.now) until.entry)
-            self.old.entries)) }
-        ensures after { OnOk result
-            (self.new ≡ with_rest P.Gen.greatest self.old (entries_outside K.cmp
-            (bound_map (λ k. k.now) from.entry) (bound_map (λ k. k.now) until.entry)
-            self.old.entries)) }
-        ensures room { vec_len drained.old + length (entries_between K.cmp
-            (bound_map (λ k. k.now) from.entry) (bound_map (λ k. k.now) until.entry)
-            self.old.entries) ≤ vec_capacity drained.old → IsOk result }
-        ensures kept { OnErr result (drained.new.items ≡ drained.old.items) }
-        ensures err { OnErr result (self.new ≡ self.old) }
+        ensures { DrainsInto P.Gen.greatest self.old
+            (entries_between K.cmp (bound_map (λ k. k.now) from.entry)
+            (bound_map (λ k. k.now) until.entry) self.old.entries)
+            (entries_outside K.cmp (bound_map (λ k. k.now) from.entry)
+            (bound_map (λ k. k.now) until.entry) self.old.entries)
+            drained.old drained.new result self.new }
     {
         // For the prover: the arena is sound.
         let _ = self.len();
@@ -95,10 +89,9 @@ impl<K: Ord + Drop, V: Drop, P: BasePtr, A: Allocator> SortedArena<K, V, P, A> {
         ensures removed { result ≡ length (entries_between K.cmp
             (bound_map (λ k. k.now) from.entry) (bound_map (λ k. k.now) until.entry)
             self.old.entries) }
-        ensures after { self.new ≡ with_rest P.Gen.greatest self.old (entries_outside K.cmp
-            (bound_map (λ k. k.now) from.entry) (bound_map (λ k. k.now) until.entry)
-            self.old.entries) }
-        ensures count { count self.new + result ≡ count self.old }
+        ensures removes { RemovesEntries P.Gen.greatest self.old
+            (entries_outside K.cmp (bound_map (λ k. k.now) from.entry)
+            (bound_map (λ k. k.now) until.entry) self.old.entries) result self.new }
     {
         // For the prover: the arena is sound.
         let _ = self.len();

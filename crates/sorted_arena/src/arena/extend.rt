@@ -1,8 +1,9 @@
 //! Insertions of many pairs that are in order.
 
-ghost use Rattle.std.specs.Prelude.{◌≡◌, ◌≢◌, ◌≤◌, ◌+◌, ◌++◌, ℕ, true, List, [], Err, IfOk, OnOk, map, length, vec_len};
+ghost use Rattle.std.specs.Prelude.{◌≡◌, ◌≢◌, ◌≤◌, ◌+◌, ◌++◌, ℕ, true, [], Err, IfOk, map, length, vec_len};
 ghost use Rattle.std.specs.{Ordering.is_gt, Option.option_map_or, Prelude.false, List.AllAdjacentBelow};
 ghost use Rattle.std.specs.declared.cmp.Ordering.TheVariants.{Greater};
+ghost use Rattle.sorted_arena.specs.Change.{ExtendsSorted, ChangesCapacity};
 ghost use Rattle.sorted_arena.specs.Sorted.{count, item_of, last_item, AreInOrder, IsOutOfOrder, Keeps};
 
 use super::SortedArena;
@@ -23,19 +24,7 @@ impl<K: Ord + Drop, V: Drop, P: BasePtr, A: Allocator> SortedArena<K, V, P, A> {
     /// - `BeyondMaxCapacity`: there are as many entries as pointers have indexes now.
     /// - `AllocError`: the arena is full now, and growing failed.
     pub fn extend_sorted<B: Allocator>(&mut self, pairs: Vec<(K, V), B>) -> Result<(), SortedError>
-        ensures ok { OnOk result
-            (map item_of self.new.entries ≡ map item_of self.old.entries ++ pairs.items) }
-        ensures unsorted { (at : ℕ) → result ≡ Err (SortedError.OutOfOrder at)
-            → IsOutOfOrder K.cmp (map item_of self.old.entries) pairs.items at }
-        ensures part { (front : List (K × V)) × (back : List (K × V))
-            × (pairs.items ≡ front ++ back)
-            × (map item_of self.new.entries ≡ map item_of self.old.entries ++ front) }
-        ensures kept { Keeps self.old self.new }
-        ensures generation { self.new.generation ≡ self.old.generation }
-        ensures full { result ≡ Err SortedError.BeyondMaxCapacity
-            → count self.new ≡ P.Inx.most }
-        ensures memory { result ≡ Err SortedError.AllocError
-            → count self.new ≡ self.new.capacity }
+        ensures { ExtendsSorted K.cmp P.Inx.most self.old pairs.items result self.new }
     {
         if self.is_made_ready(&pairs) {
             self.append_sorted(pairs);
@@ -81,8 +70,7 @@ impl<K: Ord + Drop, V: Drop, P: BasePtr, A: Allocator> SortedArena<K, V, P, A> {
     // Makes room for pairs that can be appended at once: at least as many as entries, in order, and the first with no smaller key than the
     // last entry. Returns whether they can be, and there is room.
     fn is_made_ready(&mut self, pairs: &[(K, V)]) -> bool
-        ensures entries { self.new.entries ≡ self.old.entries }
-        ensures generation { self.new.generation ≡ self.old.generation }
+        ensures kept { ChangesCapacity self.old self.new }
         ensures room { result ≡ true → count self.new + length pairs.now ≤ self.new.capacity }
         ensures order { result ≡ true
             → AreInOrder K.cmp (map item_of self.new.entries ++ pairs.now) }
@@ -118,19 +106,7 @@ impl<K: Ord + Drop, V: Drop, P: BasePtr, A: Allocator> SortedArena<K, V, P, A> {
 
     // Inserts pairs one after another behind all entries, up to the first that is out of order or has no room.
     fn insert_sorted<B: Allocator>(&mut self, pairs: Vec<(K, V), B>) -> Result<(), SortedError>
-        ensures ok { OnOk result
-            (map item_of self.new.entries ≡ map item_of self.old.entries ++ pairs.items) }
-        ensures unsorted { (at : ℕ) → result ≡ Err (SortedError.OutOfOrder at)
-            → IsOutOfOrder K.cmp (map item_of self.old.entries) pairs.items at }
-        ensures part { (front : List (K × V)) × (back : List (K × V))
-            × (pairs.items ≡ front ++ back)
-            × (map item_of self.new.entries ≡ map item_of self.old.entries ++ front) }
-        ensures kept { Keeps self.old self.new }
-        ensures generation { self.new.generation ≡ self.old.generation }
-        ensures full { result ≡ Err SortedError.BeyondMaxCapacity
-            → count self.new ≡ P.Inx.most }
-        ensures memory { result ≡ Err SortedError.AllocError
-            → count self.new ≡ self.new.capacity }
+        ensures { ExtendsSorted K.cmp P.Inx.most self.old pairs.items result self.new }
     {
         let before = self.len();
         for (k, v) in pairs {

@@ -1,11 +1,10 @@
 //! Entries by their keys.
 
-ghost use Rattle.std.specs.Prelude.{◌≡◌, ◌≢◌, IfSome, IfNone, IsSomeAnd, is_some, count_by};
-ghost use Rattle.std.specs.List.{All};
-ghost use Rattle.std.specs.{Option.option_map, Bool.OnFalse};
-ghost use Rattle.std.specs.Ordering.{is_eq, is_le, is_lt};
-ghost use Rattle.std.specs.declared.cmp.Ordering.TheVariants.{Equal, Less, Greater};
-ghost use Rattle.sorted_arena.specs.Sorted.{pair_of, first_where, key_of, IsAbsent, IsSound};
+ghost use Rattle.std.specs.Prelude.{◌≡◌, is_some, count_by};
+ghost use Rattle.std.specs.Bool.{OnFalse};
+ghost use Rattle.std.specs.Ordering.{is_eq};
+ghost use Rattle.sorted_arena.specs.Find.{FindsFirstEqual, FindsLowerBound, FindsUpperBound};
+ghost use Rattle.sorted_arena.specs.Sorted.{first_where, key_of, IsAbsent};
 
 use super::SortedArena;
 use std::alloc::Allocator;
@@ -15,12 +14,7 @@ use triple_ord::BasePtr;
 impl<K: Ord, V, P: BasePtr, A: Allocator> SortedArena<K, V, P, A> {
     /// Returns the pointer of the first entry whose key equals `k`, in O(log n). `None` exactly if no entry has this key.
     pub fn find(&self, k: &K) -> Option<P>
-        ensures value { option_map P.numbers result
-            ≡ first_where (λ e. is_eq (K.cmp k.now (key_of e))) self.now.entries }
-        ensures finds { IfSome result
-            (λ p. IsSomeAnd (pair_of self.now (P.numbers p)) (λ e. K.cmp k.now e.0 ≡ Equal)) }
-        ensures none { IfNone result (IsAbsent K.cmp self.now k.now) }
-        ensures sound { IsSound K.cmp P.Inx.most self.now }
+        ensures { FindsFirstEqual K.cmp P.Inx.most P.numbers self.now k.now result }
     {
         self.find_counted(k).0
     }
@@ -36,25 +30,14 @@ impl<K: Ord, V, P: BasePtr, A: Allocator> SortedArena<K, V, P, A> {
 
     /// Returns the pointer of the first entry whose key is at least `k`, in O(log n). `None` if all keys are smaller.
     pub fn lower_bound(&self, k: &K) -> Option<P>
-        ensures value { option_map P.numbers result
-            ≡ first_where (λ e. is_le (K.cmp k.now (key_of e))) self.now.entries }
-        ensures finds { IfSome result
-            (λ p. IsSomeAnd (pair_of self.now (P.numbers p)) (λ e. K.cmp k.now e.0 ≢ Greater)) }
-        ensures none { IfNone result
-            (All (λ e. K.cmp k.now (key_of e) ≡ Greater) self.now.entries) }
-        ensures sound { IsSound K.cmp P.Inx.most self.now }
+        ensures { FindsLowerBound K.cmp P.Inx.most P.numbers self.now k.now result }
     {
         self.lower_bound_counted(k).0
     }
 
     /// Returns the pointer of the first entry whose key is greater than `k`, in O(log n). `None` if all keys are at most `k`.
     pub fn upper_bound(&self, k: &K) -> Option<P>
-        ensures value { option_map P.numbers result
-            ≡ first_where (λ e. is_lt (K.cmp k.now (key_of e))) self.now.entries }
-        ensures finds { IfSome result
-            (λ p. IsSomeAnd (pair_of self.now (P.numbers p)) (λ e. K.cmp k.now e.0 ≡ Less)) }
-        ensures none { IfNone result (All (λ e. K.cmp k.now (key_of e) ≢ Less) self.now.entries) }
-        ensures sound { IsSound K.cmp P.Inx.most self.now }
+        ensures { FindsUpperBound K.cmp P.Inx.most P.numbers self.now k.now result }
     {
         self.upper_bound_counted(k).0
     }

@@ -1,9 +1,9 @@
 //! Insertions.
 
-ghost use Rattle.std.specs.Prelude.{◌≡◌, ◌↔◌, ◌+◌, Err, Some, None, IfOk, OnOk, IfErr, OnErr, is_some, true};
+ghost use Rattle.std.specs.Prelude.{◌≡◌, ◌↔◌, Err, IfOk, OnOk, IfErr, OnErr, is_some, true};
 ghost use Rattle.std.specs.Ordering.{is_eq};
-ghost use Rattle.sorted_arena.specs.Sorted.{count, first_where, key_of};
-ghost use Rattle.sorted_arena.specs.Sorted.{IsAbsent, Inserts, InsertsOrReplaces, IsSound, Updates};
+ghost use Rattle.sorted_arena.specs.Change.{InsertsPair};
+ghost use Rattle.sorted_arena.specs.Sorted.{count, first_where, key_of, IsAbsent, InsertsOrReplaces};
 
 use super::SortedArena;
 use crate::error::UniqueInsertionError;
@@ -24,18 +24,11 @@ impl<K: Ord + Drop, V: Drop, P: BasePtr, A: Allocator> SortedArena<K, V, P, A> {
     ///
     /// O(log n), and one comparison if no key is greater than `k`; plus O(n) when the arena grows (amortized O(1)).
     pub fn insert(&mut self, k: K, v: V) -> Result<P, ((K, V), ReallocationError)>
-        ensures ok { IfOk result
-            (λ p. Inserts K.cmp P.Inx.most self.old (P.numbers p) k v self.new) }
-        ensures updates { IfOk result
-            (λ p. Updates self.old self.new (P.numbers p) (Some (k, v))) }
-        ensures count { OnOk result (count self.new ≡ count self.old + 1) }
-        ensures back { IfErr result (λ e. e.0 ≡ (k, v)) }
+        ensures inserts { InsertsPair K.cmp P.Inx.most P.numbers self.old k v result self.new }
         ensures full { (result ≡ Err ((k, v), ReallocationError.BeyondMaxCapacity))
             ↔ (count self.old ≡ P.Inx.most) }
         ensures memory { result ≡ Err ((k, v), ReallocationError.AllocError)
             → count self.old ≡ self.old.capacity }
-        ensures err { OnErr result (self.new ≡ self.old) }
-        ensures sound { OnOk result (IsSound K.cmp P.Inx.most self.new) }
     {
         let p = put(&mut self.pairs, k, v)?;
         self.is_compact = self.is_compact && is_last_in(&self.pairs, p);
@@ -82,21 +75,14 @@ impl<K: Ord + Drop, V: Drop, P: BasePtr, A: Allocator> SortedArena<K, V, P, A> {
     /// - `EqualKey`: an entry has an equal key.
     /// - `BeyondMaxCapacity`, `AllocError`: as `insert`.
     pub fn insert_unique(&mut self, k: K, v: V) -> Result<P, ((K, V), UniqueInsertionError)>
-        ensures ok { IfOk result
-            (λ p. Inserts K.cmp P.Inx.most self.old (P.numbers p) k v self.new) }
-        ensures updates { IfOk result
-            (λ p. Updates self.old self.new (P.numbers p) (Some (k, v))) }
-        ensures count { OnOk result (count self.new ≡ count self.old + 1) }
+        ensures inserts { InsertsPair K.cmp P.Inx.most P.numbers self.old k v result self.new }
         ensures absent { OnOk result (IsAbsent K.cmp self.old k) }
         ensures equal { (result ≡ Err ((k, v), UniqueInsertionError.EqualKey))
             ↔ (is_some (first_where (λ e. is_eq (K.cmp k (key_of e))) self.old.entries) ≡ true) }
-        ensures back { IfErr result (λ e. e.0 ≡ (k, v)) }
         ensures full { result ≡ Err ((k, v), UniqueInsertionError.BeyondMaxCapacity)
             → count self.old ≡ P.Inx.most }
         ensures memory { result ≡ Err ((k, v), UniqueInsertionError.AllocError)
             → count self.old ≡ self.old.capacity }
-        ensures err { OnErr result (self.new ≡ self.old) }
-        ensures sound { OnOk result (IsSound K.cmp P.Inx.most self.new) }
     {
         let at = self.find(&k);
         match at {

@@ -1,9 +1,10 @@
 //! Entries that get another key. They keep their pointers.
 
-ghost use Rattle.std.specs.Prelude.{◌≡◌, Err, Some, None, IfOk, OnOk, IfErr, OnErr, is_some, true};
+ghost use Rattle.std.specs.Prelude.{◌≡◌, Err, None, OnOk, IfErr, OnErr, is_some, true};
 ghost use Rattle.std.specs.Ordering.{is_eq};
 ghost use Rattle.std.specs.Option.{option_map};
-ghost use Rattle.sorted_arena.specs.Sorted.{pair_of, count, first_where, key_of, IsAbsent, IsSound, Rekeys, Updates};
+ghost use Rattle.sorted_arena.specs.Change.{ChangesKey};
+ghost use Rattle.sorted_arena.specs.Sorted.{pair_of, first_where, key_of, IsAbsent, Updates};
 
 use super::SortedArena;
 use crate::error::RekeyUniqueError;
@@ -19,16 +20,11 @@ impl<K: Ord, V, P: BasePtr, A: Allocator> SortedArena<K, V, P, A> {
     ///
     /// If `p` is stale, `k` comes back and nothing changes.
     pub fn rekey(&mut self, p: P, k: K) -> Result<K, K>
-        ensures ok { OnOk result (Rekeys K.cmp self.old (P.numbers p) k self.new) }
-        ensures before { IfOk result (λ before.
-            option_map (λ e. e.0) (pair_of self.old (P.numbers p)) ≡ Some before) }
+        ensures changes { ChangesKey K.cmp P.Inx.most self.old (P.numbers p) k result self.new }
         ensures updates { Updates self.old self.new (P.numbers p)
             (option_map (λ e. (k, e.1)) (pair_of self.old (P.numbers p))) }
-        ensures count { count self.new ≡ count self.old }
         ensures stale { OnErr result (pair_of self.old (P.numbers p) ≡ None) }
         ensures back { IfErr result (λ back. back ≡ k) }
-        ensures err { OnErr result (self.new ≡ self.old) }
-        ensures sound { IsSound K.cmp P.Inx.most self.new }
     {
         // For the prover: the list is sound.
         let _ = self.pairs.len();
@@ -46,9 +42,7 @@ impl<K: Ord, V, P: BasePtr, A: Allocator> SortedArena<K, V, P, A> {
     /// - `Stale`: `p` names no entry.
     /// - `EqualKey`: an entry has an equal key.
     pub fn rekey_unique(&mut self, p: P, k: K) -> Result<K, (K, RekeyUniqueError)>
-        ensures ok { OnOk result (Rekeys K.cmp self.old (P.numbers p) k self.new) }
-        ensures before { IfOk result (λ before.
-            option_map (λ e. e.0) (pair_of self.old (P.numbers p)) ≡ Some before) }
+        ensures changes { ChangesKey K.cmp P.Inx.most self.old (P.numbers p) k result self.new }
         ensures updates { OnOk result (Updates self.old self.new (P.numbers p)
             (option_map (λ e. (k, e.1)) (pair_of self.old (P.numbers p)))) }
         ensures absent { OnOk result (IsAbsent K.cmp self.old k) }
@@ -57,8 +51,6 @@ impl<K: Ord, V, P: BasePtr, A: Allocator> SortedArena<K, V, P, A> {
         ensures stale { result ≡ Err (k, RekeyUniqueError.Stale)
             → pair_of self.old (P.numbers p) ≡ None }
         ensures back { IfErr result (λ e. e.0 ≡ k) }
-        ensures count { count self.new ≡ count self.old }
-        ensures err { OnErr result (self.new ≡ self.old) }
     {
         let at = self.find(&k);
         match at {

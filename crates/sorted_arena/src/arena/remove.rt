@@ -1,14 +1,15 @@
 //! Removals. None of them takes memory.
 
-ghost use Rattle.std.specs.Prelude.{◌≡◌, ◌≢◌, ◌+◌, ◌≤◌, ◌++◌, map, length, vec_len, IsOk, is_some, Some, None, OnOk, OnErr, IfSome, IfNone, OnSome};
-ghost use Rattle.std.specs.{List.All, Vec.vec_capacity};
+ghost use Rattle.std.specs.Prelude.{◌≡◌, ◌≢◌, ◌+◌, is_some, Some, None, OnOk, IfSome, IfNone, OnSome};
+ghost use Rattle.std.specs.List.{All};
 ghost use Rattle.std.specs.Option.{option_and_then};
 ghost use Rattle.std.specs.Ordering.{is_eq};
 ghost use Rattle.std.specs.declared.cmp.Ordering.TheVariants.{Greater};
 ghost use Rattle.sorted_arena.specs.Sorted.{pair_of, count, first_where, key_of, first_item, last_item};
-ghost use Rattle.sorted_arena.specs.Sorted.{behind_first, before_last, item_of, first_item_until, entries_until, entries_above};
+ghost use Rattle.sorted_arena.specs.Sorted.{behind_first, before_last, first_item_until, entries_until, entries_above};
 ghost use Rattle.sorted_arena.specs.Answer.{AnswersAt};
-ghost use Rattle.sorted_arena.specs.Sorted.{with_left, with_rest, without, IsAbsent, IsSound, Updates};
+ghost use Rattle.sorted_arena.specs.Change.{RemovesEntry, RemovesEntries, DrainsInto};
+ghost use Rattle.sorted_arena.specs.Sorted.{with_left, without, IsAbsent, Updates};
 
 use super::SortedArena;
 use crate::pairs::is_last_in;
@@ -21,11 +22,8 @@ impl<K: Ord, V, P: BasePtr, A: Allocator> SortedArena<K, V, P, A> {
     pub fn remove(&mut self, p: P) -> Option<(K, V)>
         ensures value { result ≡ pair_of self.old (P.numbers p) }
         ensures updates { Updates self.old self.new (P.numbers p) None }
-        ensures count { OnSome result (count self.old ≡ count self.new + 1) }
-        ensures gone { OnSome result
-            (self.new ≡ without P.Gen.greatest self.old (P.numbers p)) }
-        ensures none { IfNone result (self.new ≡ self.old) }
-        ensures sound { OnSome result (IsSound K.cmp P.Inx.most self.new) }
+        ensures removes { RemovesEntry K.cmp P.Inx.most self.old
+            (without P.Gen.greatest self.old (P.numbers p)) result self.new }
     {
         // For the prover: the list is sound.
         let _ = self.pairs.len();
@@ -55,11 +53,8 @@ impl<K: Ord, V, P: BasePtr, A: Allocator> SortedArena<K, V, P, A> {
     /// Removes the first entry, which has the smallest key, and returns its key and value, in O(log n). `None` if there is none.
     pub fn pop_first(&mut self) -> Option<(K, V)>
         ensures value { result ≡ first_item self.old.entries }
-        ensures count { OnSome result (count self.old ≡ count self.new + 1) }
-        ensures gone { OnSome result
-            (self.new ≡ with_left P.Gen.greatest self.old (behind_first self.old.entries)) }
-        ensures none { IfNone result (self.new ≡ self.old) }
-        ensures sound { OnSome result (IsSound K.cmp P.Inx.most self.new) }
+        ensures removes { RemovesEntry K.cmp P.Inx.most self.old
+            (with_left P.Gen.greatest self.old (behind_first self.old.entries)) result self.new }
     {
         let first = self.first()?;
         self.remove(first)
@@ -68,11 +63,8 @@ impl<K: Ord, V, P: BasePtr, A: Allocator> SortedArena<K, V, P, A> {
     /// Removes the last entry, which has the greatest key, and returns its key and value, in O(log n). `None` if there is none.
     pub fn pop_last(&mut self) -> Option<(K, V)>
         ensures value { result ≡ last_item self.old.entries }
-        ensures count { OnSome result (count self.old ≡ count self.new + 1) }
-        ensures gone { OnSome result
-            (self.new ≡ with_left P.Gen.greatest self.old (before_last self.old.entries)) }
-        ensures none { IfNone result (self.new ≡ self.old) }
-        ensures sound { OnSome result (IsSound K.cmp P.Inx.most self.new) }
+        ensures removes { RemovesEntry K.cmp P.Inx.most self.old
+            (with_left P.Gen.greatest self.old (before_last self.old.entries)) result self.new }
     {
         // For the prover: the list is sound.
         let _ = self.len();
@@ -86,12 +78,10 @@ impl<K: Ord, V, P: BasePtr, A: Allocator> SortedArena<K, V, P, A> {
     pub fn pop_first_until(&mut self, until: &K) -> Option<(K, V)>
         ensures value { result ≡ first_item_until K.cmp until.now self.old.entries }
         ensures reached { IfSome result (λ e. K.cmp e.0 until.now ≢ Greater) }
-        ensures count { OnSome result (count self.old ≡ count self.new + 1) }
-        ensures gone { OnSome result
-            (self.new ≡ with_left P.Gen.greatest self.old (behind_first self.old.entries)) }
+        ensures removes { RemovesEntry K.cmp P.Inx.most self.old
+            (with_left P.Gen.greatest self.old (behind_first self.old.entries)) result self.new }
         ensures left { IfNone result
             (All (λ e. K.cmp (key_of e) until.now ≡ Greater) self.new.entries) }
-        ensures none { IfNone result (self.new ≡ self.old) }
     {
         // For the prover: the list is sound.
         let _ = self.len();
@@ -111,10 +101,8 @@ impl<K: Ord, V, P: BasePtr, A: Allocator> SortedArena<K, V, P, A> {
         ensures value { IfSome result (λ x. first_item self.old.entries ≡ Some x) }
         ensures asked { IfSome (first_item self.old.entries)
             (λ x. AnswersAt F.FnOnce f x.0 x.1 (is_some result)) }
-        ensures count { OnSome result (count self.old ≡ count self.new + 1) }
-        ensures gone { OnSome result
-            (self.new ≡ with_left P.Gen.greatest self.old (behind_first self.old.entries)) }
-        ensures none { IfNone result (self.new ≡ self.old) }
+        ensures removes { RemovesEntry K.cmp P.Inx.most self.old
+            (with_left P.Gen.greatest self.old (behind_first self.old.entries)) result self.new }
     {
         // For the prover: the list is sound.
         let _ = self.len();
@@ -139,16 +127,12 @@ impl<K: Ord, V, P: BasePtr, A: Allocator> SortedArena<K, V, P, A> {
     where
         K: Drop,
         V: Drop,
-        ensures popped { OnOk result (popped.new.items ≡ popped.old.items
-            ++ map item_of (entries_until K.cmp until.now self.old.entries)) }
-        ensures after { OnOk result (self.new ≡ with_rest P.Gen.greatest self.old
-            (entries_above K.cmp until.now self.old.entries)) }
+        ensures drains { DrainsInto P.Gen.greatest self.old
+            (entries_until K.cmp until.now self.old.entries)
+            (entries_above K.cmp until.now self.old.entries)
+            popped.old popped.new result self.new }
         ensures left { OnOk result
             (All (λ e. K.cmp (key_of e) until.now ≡ Greater) self.new.entries) }
-        ensures room { vec_len popped.old + length (entries_until K.cmp until.now self.old.entries)
-            ≤ vec_capacity popped.old → IsOk result }
-        ensures kept { OnErr result (popped.new.items ≡ popped.old.items) }
-        ensures err { OnErr result (self.new ≡ self.old) }
     {
         // For the prover: the arena is sound.
         let _ = self.len();
@@ -161,10 +145,9 @@ impl<K: Ord, V, P: BasePtr, A: Allocator> SortedArena<K, V, P, A> {
     where
         K: Drop,
         V: Drop,
-        ensures after { self.new ≡ with_rest P.Gen.greatest self.old
-            (entries_above K.cmp until.now self.old.entries) }
+        ensures removes { RemovesEntries P.Gen.greatest self.old
+            (entries_above K.cmp until.now self.old.entries) result self.new }
         ensures left { All (λ e. K.cmp (key_of e) until.now ≡ Greater) self.new.entries }
-        ensures count { count self.new + result ≡ count self.old }
     {
         // For the prover: the arena is sound.
         let _ = self.len();

@@ -1,9 +1,5 @@
 //! Appending many items at once.
-ghost use Rattle.std.specs.Prelude.{◌≡◌, ◌↔◌, ◌+◌, ◌<◌, ◌++◌, [], IsErr, IfErr, OnOk, OnErr, vec_len};
-ghost use Rattle.ord_tree.specs.Append.{Appends};
-ghost use Rattle.ord_tree.specs.Half.{IsRebuilt};
-ghost use Rattle.triple_ord.specs.Append.{Extends};
-ghost use Rattle.triple_ord.specs.Arena.{items, count};
+ghost use Rattle.triple_ord.specs.Append.{AppendsAll};
 
 use super::SimpleOrdArena;
 use crate::pair::OrdPair;
@@ -27,18 +23,7 @@ impl<P: BasePtr, T: Drop, A: Allocator> SimpleOrdArena<P, T, A> {
         &mut self,
         added: Vec<T, B>,
     ) -> Result<(), Vec<T, B>>
-        ensures items { OnOk result (items self.new ≡ items self.old ++ added.items) }
-        ensures found { OnOk result (Extends self.old self.new) }
-        ensures count { OnOk result (count self.new ≡ count self.old + vec_len added) }
-        ensures capacity { self.new.list.capacity ≡ self.old.list.capacity }
-        ensures generation { self.new.list.generation ≡ self.old.list.generation }
-        ensures appends { OnOk result (Appends self.old.list added.items self.new.list) }
-        ensures shape { OnOk result (0 < vec_len added → IsRebuilt self.new.shape) }
-        ensures none { added.items ≡ [] → self.new ≡ self.old }
-        ensures full { IsErr result
-            ↔ (self.old.list.capacity < count self.old + vec_len added) }
-        ensures back { IfErr result (λ given. given ≡ added) }
-        ensures err { OnErr result (self.new ≡ self.old) }
+        ensures { AppendsAll self.old added result self.new }
     {
         self.tree.append_within_capacity(added)
     }
@@ -50,18 +35,7 @@ impl<P: BasePtr, K: Drop, V: Drop, A: Allocator> SimpleOrdArena<P, OrdPair<K, V>
         &mut self,
         added: Vec<(K, V), B>,
     ) -> Result<(), Vec<(K, V), B>>
-        ensures items { OnOk result (items self.new ≡ items self.old ++ added.items) }
-        ensures found { OnOk result (Extends self.old self.new) }
-        ensures count { OnOk result (count self.new ≡ count self.old + vec_len added) }
-        ensures capacity { self.new.list.capacity ≡ self.old.list.capacity }
-        ensures generation { self.new.list.generation ≡ self.old.list.generation }
-        ensures appends { OnOk result (Appends self.old.list added.items self.new.list) }
-        ensures shape { OnOk result (0 < vec_len added → IsRebuilt self.new.shape) }
-        ensures none { added.items ≡ [] → self.new ≡ self.old }
-        ensures full { IsErr result
-            ↔ (self.old.list.capacity < count self.old + vec_len added) }
-        ensures back { IfErr result (λ given. given ≡ added) }
-        ensures err { OnErr result (self.new ≡ self.old) }
+        ensures { AppendsAll self.old added result self.new }
     {
         self.tree.append_within_capacity(added)
     }

@@ -1,18 +1,12 @@
 //! Requesting the place of an insertion, and the methods of its entry.
-ghost use Rattle.std.specs.Prelude.{◌≡◌, ◌+◌, ◌<◌, ◌↔◌, Some, IsSome, IsNone, IfOk, IfErr, IfSome, OnErr, is_some, if◌then◌else◌, length};
-ghost use Rattle.std.specs.Option.{option_map};
+ghost use Rattle.std.specs.Prelude.{◌≡◌, ◌+◌, Some, is_some, if◌then◌else◌};
 ghost use Rattle.std.specs.Borrow.{sem};
-ghost use Rattle.ord_tree.specs.Chain.{next_index};
-ghost use Rattle.ord_tree.specs.Insert.{IsInsertion};
-ghost use Rattle.ord_tree.specs.Tree.{CanPutAt, IsGrown, put_at};
-ghost use Rattle.triple_ord.specs.Arena.{item_of, count, Updates, FindSame};
-ghost use Rattle.triple_ord.specs.Entry.{InsertsThere, IsEntryFor};
+ghost use Rattle.triple_ord.specs.Arena.{item_of, count, Updates};
+ghost use Rattle.triple_ord.specs.Entry.{InsertsThere};
 ghost use Rattle.triple_ord.specs.EntryKind.{pointer_of_kind};
-ghost use Rattle.triple_ord.specs.Insertion.{IsRefused};
 ghost use Rattle.triple_ord.specs.declared.growth.Growth.TheVariants.{Within, Reallocating};
-ghost use Rattle.triple_ord.specs.InsertEntry.{entry_arena, entry_shown, entry_put, entry_visits, entry_lender, rests_if_refused};
-ghost use Rattle.triple_ord.specs.Place.{aim_of, kind_now};
-ghost use Rattle.triple_ord.specs.Prepared.{IsReady};
+ghost use Rattle.triple_ord.specs.InsertEntry.{RequestsEntry, entry_arena, entry_shown, entry_put, entry_visits, rests_if_refused};
+ghost use Rattle.triple_ord.specs.Place.{kind_now};
 
 use super::SimpleOrdArena;
 use super::insert_entry::SimpleOrdArenaInsertEntry;
@@ -91,14 +85,8 @@ impl<P: BasePtr, T: SimpleOrdItem + Drop, A: Allocator> SimpleOrdArena<P, T, A> 
             P.BasePtr.own P.PartialEq P.Inx.BasePtrInx.own P.Inx.PartialEq
             P.Gen.BasePtrGen.own P.Gen.PartialEq A.Allocator
             self.entry result) }
-        ensures place { IfOk result (λ e. IsEntryFor P.numbers T.key_of T.Key.cmp P.Inx.number
-            Within P.Inx.most (kind_now kind.entry) self.old (entry_shown e)
-            (entry_put P.numbers e) (entry_visits e) (entry_arena e)) }
-        ensures found { IfOk result (λ e. FindSame self.old (entry_arena e)) }
-        ensures count { IfOk result (λ e. count (entry_arena e) ≡ count self.old) }
-        ensures refused { IfErr result (IsRefused T.key_of T.Key.cmp P.Inx.most Within
-            (aim_of P.Inx.number (kind_now kind.entry)) self.old) }
-        ensures same_reference { IfOk result (λ e. entry_lender e ≡ self.entry.ghost_name) }
+        ensures request { RequestsEntry P.numbers T.key_of T.Key.cmp P.Inx.number Within P.Inx.most
+            (kind_now kind.entry) self.old self.entry.ghost_name result }
     {
         let prepared = self.prepare(Growth::Within, kind)?;
         Ok(SimpleOrdArenaInsertEntry {
@@ -131,14 +119,8 @@ impl<P: BasePtr, T: SimpleOrdItem + Drop, A: Allocator> SimpleOrdArena<P, T, A> 
             P.BasePtr.own P.PartialEq P.Inx.BasePtrInx.own P.Inx.PartialEq
             P.Gen.BasePtrGen.own P.Gen.PartialEq A.Allocator
             self.entry result) }
-        ensures place { IfOk result (λ e. IsEntryFor P.numbers T.key_of T.Key.cmp P.Inx.number
-            Reallocating P.Inx.most (kind_now kind.entry) self.old (entry_shown e)
-            (entry_put P.numbers e) (entry_visits e) (entry_arena e)) }
-        ensures found { IfOk result (λ e. FindSame self.old (entry_arena e)) }
-        ensures count { IfOk result (λ e. count (entry_arena e) ≡ count self.old) }
-        ensures refused { IfErr result (IsRefused T.key_of T.Key.cmp P.Inx.most Reallocating
-            (aim_of P.Inx.number (kind_now kind.entry)) self.old) }
-        ensures same_reference { IfOk result (λ e. entry_lender e ≡ self.entry.ghost_name) }
+        ensures request { RequestsEntry P.numbers T.key_of T.Key.cmp P.Inx.number Reallocating P.Inx.most
+            (kind_now kind.entry) self.old self.entry.ghost_name result }
     {
         let prepared = self.prepare(Growth::Reallocating, kind)?;
         Ok(SimpleOrdArenaInsertEntry {
@@ -172,14 +154,8 @@ impl<P: BasePtr, T: SimpleOrdItem + Drop, A: Allocator> SimpleOrdArena<P, T, A> 
             P.BasePtr.own P.PartialEq P.Inx.BasePtrInx.own P.Inx.PartialEq
             P.Gen.BasePtrGen.own P.Gen.PartialEq A.Allocator
             self.entry result) }
-        ensures place { IfOk result (λ e. IsEntryFor P.numbers T.key_of T.Key.cmp P.Inx.number
-            Reallocating P.Inx.most (kind_now kind.entry) self.old (entry_shown e)
-            (entry_put P.numbers e) (entry_visits e) (entry_arena e)) }
-        ensures found { IfOk result (λ e. FindSame self.old (entry_arena e)) }
-        ensures count { IfOk result (λ e. count (entry_arena e) ≡ count self.old) }
-        ensures refused { IfErr result (IsRefused T.key_of T.Key.cmp P.Inx.most Reallocating
-            (aim_of P.Inx.number (kind_now kind.entry)) self.old) }
-        ensures same_reference { IfOk result (λ e. entry_lender e ≡ self.entry.ghost_name) }
+        ensures request { RequestsEntry P.numbers T.key_of T.Key.cmp P.Inx.number Reallocating P.Inx.most
+            (kind_now kind.entry) self.old self.entry.ghost_name result }
     {
         self.entry_insert_reallocating(kind)
     }

@@ -1,5 +1,5 @@
 //! Searches by key.
-ghost use Rattle.std.specs.Prelude.{◌≡◌, ℕ, IfSome, length};
+ghost use Rattle.std.specs.Prelude.{◌≡◌, ℕ, IfSome};
 ghost use Rattle.std.specs.Option.{option_map};
 ghost use Rattle.triple_ord.specs.ClosureSearch.{where_equal};
 ghost use Rattle.std.specs.declared.cmp.Ordering.TheVariants.{Equal};
@@ -7,7 +7,7 @@ ghost use Rattle.triple_ord.specs.Arena.{FindsBy};
 ghost use Rattle.triple_ord.specs.PastEquals.{order_past_equals};
 ghost use Rattle.triple_ord.specs.Search.{FindsKey, FindsSimilar};
 ghost use Rattle.triple_ord.specs.Ties.{taken};
-ghost use Rattle.triple_ord.specs.VisitBounds.{IsWithinBounds};
+ghost use Rattle.triple_ord.specs.VisitBounds.{IsBoundedSearch};
 
 use super::SimpleOrdArena;
 use crate::descent::descend_by_key;
@@ -32,6 +32,7 @@ impl<P: BasePtr, T: SimpleOrdItem, A: Allocator> SimpleOrdArena<P, T, A> {
         ensures found { (visits : ℕ) × FindsKey T.key_of T.Key.cmp self.now.list.entries k.now
             (option_map P.numbers result) visits }
     {
+        // For the prover: the list is sound.
         prove!(self.len() <= usize::MAX);
         self.find_key_counted(k).0
     }
@@ -40,9 +41,8 @@ impl<P: BasePtr, T: SimpleOrdItem, A: Allocator> SimpleOrdArena<P, T, A> {
     /// `fib(c+2) <= n+1`.
     #[inline(always)]
     pub fn find_key_counted(&self, k: &T::Key) -> (Option<P>, Visits)
-        ensures found { FindsKey T.key_of T.Key.cmp self.now.list.entries k.now
-            (option_map P.numbers result.0) result.1 }
-        ensures visits { IsWithinBounds (length self.now.list.entries) self.now.shape result.1 }
+        ensures { IsBoundedSearch self.now result.1 (FindsKey T.key_of T.Key.cmp
+            self.now.list.entries k.now (option_map P.numbers result.0) result.1) }
     {
         let (found, visits) = self.find_similar_key_counted(k);
         (equal_alone(found), visits)
@@ -59,6 +59,7 @@ impl<P: BasePtr, T: SimpleOrdItem, A: Allocator> SimpleOrdArena<P, T, A> {
         ensures found { (visits : ℕ) × FindsSimilar T.key_of T.Key.cmp
             self.now.list.entries k.now (option_map (λ a. (P.numbers a.0, a.1)) result) visits }
     {
+        // For the prover: the list is sound.
         prove!(self.len() <= usize::MAX);
         self.find_similar_key_counted(k).0
     }
@@ -66,9 +67,9 @@ impl<P: BasePtr, T: SimpleOrdItem, A: Allocator> SimpleOrdArena<P, T, A> {
     /// `find_similar_key`, with the number of entries visited, within the bounds of `find_key_counted`.
     #[inline(always)]
     pub fn find_similar_key_counted(&self, k: &T::Key) -> (Option<(P, Ordering)>, Visits)
-        ensures found { FindsSimilar T.key_of T.Key.cmp self.now.list.entries k.now
-            (option_map (λ a. (P.numbers a.0, a.1)) result.0) result.1 }
-        ensures visits { IsWithinBounds (length self.now.list.entries) self.now.shape result.1 }
+        ensures { IsBoundedSearch self.now result.1 (FindsSimilar T.key_of T.Key.cmp
+            self.now.list.entries k.now
+            (option_map (λ a. (P.numbers a.0, a.1)) result.0) result.1) }
     {
         self.search(Ties::Sought, k)
     }
@@ -86,6 +87,7 @@ impl<P: BasePtr, T: SimpleOrdItem, A: Allocator> SimpleOrdArena<P, T, A> {
         ensures found { (visits : ℕ) × FindsSimilar T.key_of (order_past_equals T.Key.cmp)
             self.now.list.entries k.now (option_map (λ a. (P.numbers a.0, a.1)) result) visits }
     {
+        // For the prover: the list is sound.
         prove!(self.len() <= usize::MAX);
         self.find_behind_key_counted(k).0
     }
@@ -93,9 +95,9 @@ impl<P: BasePtr, T: SimpleOrdItem, A: Allocator> SimpleOrdArena<P, T, A> {
     /// `find_behind_key`, with the number of entries visited, within the bounds of `find_key_counted`.
     #[inline(always)]
     pub fn find_behind_key_counted(&self, k: &T::Key) -> (Option<(P, Ordering)>, Visits)
-        ensures found { FindsSimilar T.key_of (order_past_equals T.Key.cmp)
-            self.now.list.entries k.now (option_map (λ a. (P.numbers a.0, a.1)) result.0) result.1 }
-        ensures visits { IsWithinBounds (length self.now.list.entries) self.now.shape result.1 }
+        ensures { IsBoundedSearch self.now result.1 (FindsSimilar T.key_of
+            (order_past_equals T.Key.cmp) self.now.list.entries k.now
+            (option_map (λ a. (P.numbers a.0, a.1)) result.0) result.1) }
     {
         self.search(Ties::Passed, k)
     }
@@ -103,9 +105,9 @@ impl<P: BasePtr, T: SimpleOrdItem, A: Allocator> SimpleOrdArena<P, T, A> {
     // A search from the root, which treats equal keys by `ties`.
     #[inline(always)]
     pub(super) fn search(&self, ties: Ties, k: &T::Key) -> (Option<(P, Ordering)>, Visits)
-        ensures found { FindsSimilar T.key_of (taken ties T.Key.cmp) self.now.list.entries k.now
-            (option_map (λ a. (P.numbers a.0, a.1)) result.0) result.1 }
-        ensures visits { IsWithinBounds (length self.now.list.entries) self.now.shape result.1 }
+        ensures { IsBoundedSearch self.now result.1 (FindsSimilar T.key_of (taken ties T.Key.cmp)
+            self.now.list.entries k.now
+            (option_map (λ a. (P.numbers a.0, a.1)) result.0) result.1) }
     {
         let mut probe = Probe::new(&self.tree);
         let found = descend_by_key(&mut probe, ties, k);

@@ -1,8 +1,8 @@
 //! Searches by key from a hint, which is an entry near which the key may be.
 ghost use Rattle.std.specs.Prelude.{◌≡◌, ℕ, IfSome, length, IfNone};
 ghost use Rattle.std.specs.Option.{option_map};
-ghost use Rattle.ord_tree.specs.Chain.{entry_at, item_of};
-ghost use Rattle.triple_ord.specs.Hint.{AnswersNear, IsNearHint};
+ghost use Rattle.ord_tree.specs.Chain.{item_of};
+ghost use Rattle.triple_ord.specs.Hint.{AnswersNear, SearchesNear};
 ghost use Rattle.std.specs.declared.cmp.Ordering.TheVariants.{Equal};
 ghost use Rattle.triple_ord.specs.Arena.{FindsBy};
 ghost use Rattle.triple_ord.specs.Search.{FindsKey, FindsSimilar};
@@ -34,6 +34,7 @@ impl<P: BasePtr, T: SimpleOrdItem, A: Allocator> SimpleOrdArena<P, T, A> {
         ensures found { (visits : ℕ) × FindsKey T.key_of T.Key.cmp self.now.list.entries k.now
             (option_map P.numbers result) visits }
     {
+        // For the prover: the list is sound.
         prove!(self.len() <= usize::MAX);
         self.find_key_linear_counted(p_init, num, k).0
     }
@@ -78,6 +79,7 @@ impl<P: BasePtr, T: SimpleOrdItem, A: Allocator> SimpleOrdArena<P, T, A> {
         ensures answers { AnswersNear T.key_of T.Key.cmp self.now.list.entries k.now
             (P.Inx.number p_init) num (option_map (λ a. (P.numbers a.0, a.1)) result) }
     {
+        // For the prover: the list is sound.
         prove!(self.len() <= usize::MAX);
         self.find_similar_key_linear_counted(p_init, num, k).0
     }
@@ -93,16 +95,9 @@ impl<P: BasePtr, T: SimpleOrdItem, A: Allocator> SimpleOrdArena<P, T, A> {
         num: usize,
         k: &T::Key,
     ) -> (Option<(P, Ordering)>, Visits)
-        ensures found { FindsSimilar T.key_of T.Key.cmp self.now.list.entries k.now
+        ensures { SearchesNear T.key_of T.Key.cmp T.Key.cmp self.now k.now
+            (P.Inx.number p_init) num
             (option_map (λ a. (P.numbers a.0, a.1)) result.0) result.1 }
-        ensures visits { IsWithinHintedBounds
-            (length self.now.list.entries) self.now.shape num result.1 }
-        ensures unhinted { IfNone (entry_at self.now.list.entries (P.Inx.number p_init))
-            (IsWithinBounds (length self.now.list.entries) self.now.shape result.1) }
-        ensures near { IsNearHint T.key_of T.Key.cmp self.now.list.entries k.now
-            (P.Inx.number p_init) num result.1 }
-        ensures answers { AnswersNear T.key_of T.Key.cmp self.now.list.entries k.now
-            (P.Inx.number p_init) num (option_map (λ a. (P.numbers a.0, a.1)) result.0) }
     {
         self.search_from(Ties::Sought, p_init, num, k)
     }
@@ -116,16 +111,9 @@ impl<P: BasePtr, T: SimpleOrdItem, A: Allocator> SimpleOrdArena<P, T, A> {
         num: usize,
         k: &T::Key,
     ) -> (Option<(P, Ordering)>, Visits)
-        ensures found { FindsSimilar T.key_of (taken ties T.Key.cmp) self.now.list.entries k.now
+        ensures { SearchesNear T.key_of T.Key.cmp (taken ties T.Key.cmp) self.now k.now
+            (P.Inx.number p_init) num
             (option_map (λ a. (P.numbers a.0, a.1)) result.0) result.1 }
-        ensures visits { IsWithinHintedBounds
-            (length self.now.list.entries) self.now.shape num result.1 }
-        ensures unhinted { IfNone (entry_at self.now.list.entries (P.Inx.number p_init))
-            (IsWithinBounds (length self.now.list.entries) self.now.shape result.1) }
-        ensures near { IsNearHint T.key_of T.Key.cmp self.now.list.entries k.now
-            (P.Inx.number p_init) num result.1 }
-        ensures answers { AnswersNear T.key_of T.Key.cmp self.now.list.entries k.now
-            (P.Inx.number p_init) num (option_map (λ a. (P.numbers a.0, a.1)) result.0) }
     {
         if !self.tree.contains_inx(p_init) {
             return self.search(ties, k);

@@ -1,9 +1,9 @@
 //! Creating an arena, and changing its capacity.
-ghost use Rattle.std.specs.Prelude.{◌≡◌, ◌+◌, ◌≤◌, ◌<◌, ◌↔◌, Some, Err, max, IsOk, IsErr, IfOk, OnOk, OnErr};
+ghost use Rattle.std.specs.Prelude.{◌≡◌, ◌+◌, ◌≤◌, ◌<◌, ◌↔◌, Some, Err, max, IsOk, IsErr, IfOk, OnOk};
 ghost use Rattle.ord_tree.specs.PlainArena.{capacity_for};
 ghost use Rattle.ord_tree.specs.Chain.{new_chain, with_capacity, greatest_index, chain_limit};
 ghost use Rattle.ord_tree.specs.Shape.{missing};
-ghost use Rattle.triple_ord.specs.Arena.{count, with_room_for, FindSame};
+ghost use Rattle.triple_ord.specs.Arena.{count, with_room_for, KeepsEntries};
 
 use super::SimpleOrdArena;
 use arena_base::{BasePtr, MaxCapacityReductionError, ReallocationError, doubled_capacity};
@@ -49,8 +49,7 @@ impl<P: BasePtr, T, A: Allocator> SimpleOrdArena<P, T, A> {
     /// - `BeyondMaxCapacity`: `n` is beyond the maximum or the greatest index of the pointers.
     /// - `AllocError`: growing failed.
     pub fn reallocate_min_capacity(&mut self, n: usize) -> Result<(), ReallocationError>
-        ensures found { FindSame self.old self.new }
-        ensures count { count self.new ≡ count self.old }
+        ensures kept { KeepsEntries result self.old self.new }
         ensures ok { OnOk result (self.new ≡ record self.old {
           list = with_capacity self.old.list (max n (greatest_index self.old.list.entries));
         }) }
@@ -58,7 +57,6 @@ impl<P: BasePtr, T, A: Allocator> SimpleOrdArena<P, T, A> {
             ↔ (chain_limit P.Inx.most self.old.list < n) }
         ensures memory { result ≡ Err ReallocationError.AllocError
             → self.old.list.capacity < n }
-        ensures err { OnErr result (self.new ≡ self.old) }
     {
         self.tree.reallocate_min_capacity(n)
     }
@@ -73,8 +71,7 @@ impl<P: BasePtr, T, A: Allocator> SimpleOrdArena<P, T, A> {
     /// - `BeyondMaxCapacity`: there would be more entries than the maximum, or than pointers have indexes.
     /// - `AllocError`: growing failed.
     pub fn reserve(&mut self, additional: usize) -> Result<(), ReallocationError>
-        ensures found { FindSame self.old self.new }
-        ensures count { count self.new ≡ count self.old }
+        ensures kept { KeepsEntries result self.old self.new }
         ensures ok { OnOk result (self.new ≡ record self.old {
           list = with_room_for P.Inx.most self.old.list (count self.old + additional);
         }) }
@@ -90,7 +87,6 @@ impl<P: BasePtr, T, A: Allocator> SimpleOrdArena<P, T, A> {
             ↔ (chain_limit P.Inx.most self.old.list < count self.old + additional) }
         ensures memory { result ≡ Err ReallocationError.AllocError
             → self.old.list.capacity < count self.old + additional }
-        ensures err { OnErr result (self.new ≡ self.old) }
     {
         // For the prover: the list is sound.
         let Some(needed) = self.len().checked_add(additional) else {
@@ -106,12 +102,10 @@ impl<P: BasePtr, T, A: Allocator> SimpleOrdArena<P, T, A> {
 
     /// Sets a maximum for the capacity, in O(1). On `Err` the capacity is already greater, and the arena is unchanged.
     pub fn set_max_capacity(&mut self, n: usize) -> Result<(), MaxCapacityReductionError>
-        ensures found { FindSame self.old self.new }
-        ensures count { count self.new ≡ count self.old }
+        ensures kept { KeepsEntries result self.old self.new }
         ensures ok { OnOk result
             (self.new ≡ record self.old { list = record self.old.list { maximum = Some n } }) }
         ensures refused { IsErr result ↔ (n < self.old.list.capacity) }
-        ensures err { OnErr result (self.new ≡ self.old) }
     {
         self.tree.set_max_capacity(n)
     }

@@ -3,11 +3,11 @@ ghost use Rattle.std.specs.Prelude.{◌≡◌, ◌≢◌, ◌+◌, ℕ, Ok, Some
 ghost use Rattle.std.specs.Option.{option_map};
 ghost use Rattle.std.specs.declared.cmp.Ordering.TheVariants.{Equal};
 ghost use Rattle.ord_tree.specs.Chain.{IsOccupied};
-ghost use Rattle.triple_ord.specs.Arena.{item_of, entry_at, count, Updates};
+ghost use Rattle.triple_ord.specs.Arena.{entry_at, count, Updates};
 ghost use Rattle.ord_tree.specs.Insert.{IsInsertion};
 ghost use Rattle.ord_tree.specs.Tree.{CanPutAt, IsGrown, put_at};
-ghost use Rattle.triple_ord.specs.Insertion.{with_room_by, LacksSlot, Inserts, InsertsWithin, InsertsBeside};
-ghost use Rattle.triple_ord.specs.declared.growth.Growth.TheVariants.{Reallocating};
+ghost use Rattle.triple_ord.specs.Insertion.{with_room_by, LacksSlot, InsertsByKey, InsertsBeside};
+ghost use Rattle.triple_ord.specs.declared.growth.Growth.TheVariants.{Within, Reallocating};
 
 use super::SimpleOrdArena;
 use crate::error::OrdInsertionError;
@@ -30,13 +30,8 @@ impl<P: BasePtr, T: SimpleOrdItem + Drop, A: Allocator> SimpleOrdArena<P, T, A> 
     /// The arena is unchanged and `t` is dropped.
     /// - `NotWithinCapacity`: a new entry is needed, and no slot is vacant.
     pub fn insert_within_capacity(&mut self, t: T) -> Result<(P, Option<T>), OrdInsertionError>
-        ensures inserts { InsertsWithin T.key_of T.Key.cmp P.Inx.most P.numbers self.old t result
-            self.new }
-        ensures updates { IfOk result (λ a. Updates self.old self.new (P.numbers a.0) (Some t)) }
-        ensures before { IfOk result (λ a. a.1 ≡ item_of self.old (P.numbers a.0)) }
-        ensures count { IfOk result
-            (λ a. count self.new ≡ (if is_some a.1 then count self.old else count self.old + 1)) }
-        ensures refused { OnErr result (self.new ≡ self.old) }
+        ensures { InsertsByKey T.key_of T.Key.cmp P.Inx.most Within P.numbers
+            self.old t result self.new }
     {
         // For the prover: the list is sound.
         let _ = self.len();
@@ -63,13 +58,8 @@ impl<P: BasePtr, T: SimpleOrdItem + Drop, A: Allocator> SimpleOrdArena<P, T, A> 
     /// O(log n), plus O(n) when the arena grows (amortized O(1)). A new entry changes the parent of at most five others. The amortized
     /// number of rank changes of others is at most 4.
     pub fn insert_reallocating(&mut self, t: T) -> Result<(P, Option<T>), OrdInsertionError>
-        ensures inserts { Inserts T.key_of T.Key.cmp P.Inx.most P.numbers self.old t
-            result self.new }
-        ensures updates { IfOk result (λ a. Updates self.old self.new (P.numbers a.0) (Some t)) }
-        ensures before { IfOk result (λ a. a.1 ≡ item_of self.old (P.numbers a.0)) }
-        ensures count { IfOk result
-            (λ a. count self.new ≡ (if is_some a.1 then count self.old else count self.old + 1)) }
-        ensures refused { OnErr result (self.new ≡ self.old) }
+        ensures { InsertsByKey T.key_of T.Key.cmp P.Inx.most Reallocating P.numbers
+            self.old t result self.new }
     {
         // For the prover: the list is sound.
         let _ = self.len();
@@ -84,13 +74,8 @@ impl<P: BasePtr, T: SimpleOrdItem + Drop, A: Allocator> SimpleOrdArena<P, T, A> 
     /// O(1), as it compares the last key first with the kind [`OrdInsertKind::Linear`] (or [`OrdInsertKind::NonhereditaryLinear`]), the
     /// index of [`last`](Self::last) and `num: 1`.
     pub fn insert(&mut self, t: T) -> Result<(P, Option<T>), OrdInsertionError>
-        ensures inserts { Inserts T.key_of T.Key.cmp P.Inx.most P.numbers self.old t
-            result self.new }
-        ensures updates { IfOk result (λ a. Updates self.old self.new (P.numbers a.0) (Some t)) }
-        ensures before { IfOk result (λ a. a.1 ≡ item_of self.old (P.numbers a.0)) }
-        ensures count { IfOk result
-            (λ a. count self.new ≡ (if is_some a.1 then count self.old else count self.old + 1)) }
-        ensures refused { OnErr result (self.new ≡ self.old) }
+        ensures { InsertsByKey T.key_of T.Key.cmp P.Inx.most Reallocating P.numbers
+            self.old t result self.new }
     {
         self.insert_reallocating(t)
     }

@@ -7,7 +7,7 @@ ghost use Rattle.ord_tree.specs.Tree.{IsGrown, put_at, with_item};
 ghost use Rattle.triple_ord.specs.Arena.{item_of, entry_at, count, Updates, FindSame};
 ghost use Rattle.triple_ord.specs.Entry.{InsertsThere, IsEntryFor};
 ghost use Rattle.triple_ord.specs.EntryKind.{pointer_of_kind};
-ghost use Rattle.triple_ord.specs.Insertion.{with_room_by, LacksSlot, IsRefused};
+ghost use Rattle.triple_ord.specs.Insertion.{IsRefused, MakesRoom};
 ghost use Rattle.triple_ord.specs.declared.growth.Growth.TheVariants.{Reallocating};
 ghost use Rattle.triple_ord.specs.Place.{aim_of, kind_now};
 ghost use Rattle.triple_ord.specs.Prepared.{HasRoomAt, IsReady, by_number};
@@ -109,13 +109,9 @@ impl<P: BasePtr, T: Drop, A: Allocator> SimpleOrdArena<P, T, A> {
     // The pointer of the next new entry, which has a vacant slot.
     #[inline(always)]
     fn next_slot(&mut self, growth: Growth) -> Result<P, OrdInsertionError>
-        ensures room { OnOk result
-            (self.new ≡ record self.old { list = with_room_by growth P.Inx.most self.old.list }) }
+        ensures makes { MakesRoom growth P.Inx.most self.old result self.new }
         ensures index { IfOk result (λ p. next_index self.new.list ≡ Some (P.numbers p).0) }
         ensures generation { IfOk result (λ p. (P.numbers p).1 ≡ self.new.list.generation) }
-        ensures entries { self.new.list.entries ≡ self.old.list.entries }
-        ensures refused { IfErr result (LacksSlot growth P.Inx.most self.old.list) }
-        ensures err { OnErr result (self.new ≡ self.old) }
     {
         // For the prover: the list is sound.
         let _ = self.len();
@@ -134,14 +130,8 @@ impl<P: BasePtr, T: Drop, A: Allocator> SimpleOrdArena<P, T, A> {
     // Makes sure that a slot is vacant.
     #[inline(always)]
     fn make_room(&mut self) -> Result<(), OrdInsertionError>
-        ensures ok { OnOk result
-            (self.new ≡ record self.old {
-              list = with_room_by Reallocating P.Inx.most self.old.list;
-            }) }
+        ensures makes { MakesRoom Reallocating P.Inx.most self.old result self.new }
         ensures next { OnOk result (IsSome (next_index self.new.list)) }
-        ensures entries { self.new.list.entries ≡ self.old.list.entries }
-        ensures refused { IfErr result (LacksSlot Reallocating P.Inx.most self.old.list) }
-        ensures err { OnErr result (self.new ≡ self.old) }
     {
         self.tree.make_room()?;
         Ok(())

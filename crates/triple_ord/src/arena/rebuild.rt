@@ -1,14 +1,14 @@
 //! Moving all entries to the least indexes, or over from another arena. Afterwards the tree is rebuilt: no search visits more entries
 //! than their number has binary digits.
 ghost use Rattle.std.specs.Prelude.{◌≡◌, ◌<◌, ◌↔◌, OnOk, OnErr, map};
-ghost use Rattle.ord_tree.specs.ArenaCompression.{compressed_generation, compression_overflows};
+ghost use Rattle.ord_tree.specs.ArenaCompression.{compressed_generation};
 ghost use Rattle.ord_tree.specs.Generation.{IsLawfulGeneration};
-ghost use Rattle.ord_tree.specs.Invalidation.{is_overflow};
 ghost use Rattle.ord_tree.specs.Chain.{chain_limit};
 ghost use Rattle.ord_tree.specs.ChainCompression.{canonical, relocated, IsCompression, IsTransfer};
 ghost use Rattle.ord_tree.specs.Half.{IsRebuilt};
 ghost use Rattle.ord_tree.specs.Shape.{missing};
-ghost use Rattle.triple_ord.specs.Arena.{items, count, IsOfGeneration, IsNumbered, FindsNothing};
+ghost use Rattle.triple_ord.specs.Arena.{items, count, IsNumbered, FindsNothing};
+ghost use Rattle.triple_ord.specs.Renumbering.{Renumbers};
 ghost use Rattle.triple_ord.specs.Order.{KeepsKeys};
 
 use super::SimpleOrdArena;
@@ -32,15 +32,10 @@ impl<P: BasePtr, T, A: Allocator> SimpleOrdArena<P, T, A> {
         f: F,
     ) -> InvalidationOption<()>
         requires { F.IsAlwaysCallable f }
-        ensures count { count self.new ≡ count self.old }
-        ensures ended { IsOfGeneration self.new
-            (compressed_generation P.Gen.greatest reset self.old.list.generation) }
+        ensures renumbers { Renumbers P.Gen.greatest reset self.old result self.new }
         ensures after { IsCompression P.numbers F.step
             (compressed_generation P.Gen.greatest reset self.old.list.generation)
             f self.old.list self.new.list }
-        ensures shape { IsRebuilt self.new.shape }
-        ensures overflow { is_overflow result
-            ≡ compression_overflows P.Gen.greatest reset self.old.list.generation }
     {
         self.tree.compress_with(reset, f)
     }
@@ -48,14 +43,9 @@ impl<P: BasePtr, T, A: Allocator> SimpleOrdArena<P, T, A> {
     /// Moves all entries to the indexes from 1 as `compress_with` does; each keeps its item.
     pub fn compress(&mut self, reset: bool) -> InvalidationOption<()>
         ensures items { items self.new ≡ items self.old }
-        ensures count { count self.new ≡ count self.old }
-        ensures ended { IsOfGeneration self.new
-            (compressed_generation P.Gen.greatest reset self.old.list.generation) }
+        ensures renumbers { Renumbers P.Gen.greatest reset self.old result self.new }
         ensures after { self.new.list ≡ relocated self.old.list
             (compressed_generation P.Gen.greatest reset self.old.list.generation) }
-        ensures shape { IsRebuilt self.new.shape }
-        ensures overflow { is_overflow result
-            ≡ compression_overflows P.Gen.greatest reset self.old.list.generation }
     {
         self.tree.compress(reset)
     }
@@ -65,14 +55,11 @@ impl<P: BasePtr, T, A: Allocator> SimpleOrdArena<P, T, A> {
     /// The capacity stays, and the free list is ascending, as if no slot had been used. O(capacity). Takes no memory.
     pub fn compress_canonical(&mut self, reset: bool) -> InvalidationOption<()>
         ensures items { items self.new ≡ items self.old }
-        ensures count { count self.new ≡ count self.old }
+        ensures renumbers { Renumbers P.Gen.greatest reset self.old result self.new }
         ensures found { IsNumbered self.new
             (compressed_generation P.Gen.greatest reset self.old.list.generation) (items self.old) }
         ensures after { self.new.list ≡ canonical self.old.list
             (compressed_generation P.Gen.greatest reset self.old.list.generation) }
-        ensures shape { IsRebuilt self.new.shape }
-        ensures overflow { is_overflow result
-            ≡ compression_overflows P.Gen.greatest reset self.old.list.generation }
     {
         self.tree.compress_canonical(reset)
     }
@@ -137,15 +124,10 @@ impl<P: BasePtr, T: SimpleOrdItem, A: Allocator> SimpleOrdArena<P, T, A> {
         requires callable { F.IsAlwaysCallable f }
         requires keeps { KeepsKeys T.key_of F.step }
         ensures keys { map T.key_of (items self.new) ≡ map T.key_of (items self.old) }
-        ensures count { count self.new ≡ count self.old }
-        ensures ended { IsOfGeneration self.new
-            (compressed_generation P.Gen.greatest reset self.old.list.generation) }
+        ensures renumbers { Renumbers P.Gen.greatest reset self.old result self.new }
         ensures after { IsCompression P.numbers F.step
             (compressed_generation P.Gen.greatest reset self.old.list.generation)
             f self.old.list self.new.list }
-        ensures shape { IsRebuilt self.new.shape }
-        ensures overflow { is_overflow result
-            ≡ compression_overflows P.Gen.greatest reset self.old.list.generation }
     {
         // For the prover: the list is sound.
         let _ = self.len();

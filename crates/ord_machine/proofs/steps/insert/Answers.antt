@@ -1,6 +1,6 @@
-use Rattle.triple_ord.specs.Insertion.{told}
+use Rattle.triple_ord.specs.Insertion.{with_kind}
 use Rattle.ord_machine.proofs.Insertions.{inserts-replied}
 use Rattle.ord_machine.proofs.steps.insert.Goals as goal
 
 pub returns : goal.returns
-returns g c = rw c.reply_to_insertion.ensures (inserts-replied _ _ _ _ _ _ _ _ _ _ _ _ (told c.insert.result) c.insert.ensures.inserts)
+returns g c = rw c.reply_to_insertion.ensures (inserts-replied _ _ _ _ _ _ _ _ _ _ _ _ (with_kind c.insert.result) c.insert.ensures.inserts)

@@ -1,5 +1,5 @@
-use Rattle.std.proofs.{Common.arith, lemmas.Grind.common_steps}
+use Rattle.std.proofs.{Common.arith, Common.rules, lemmas.Grind.common_steps}
 use Rattle.ord_machine.proofs.steps.similar_with.Goals as goal
 
-pub returns-clause-answer : goal.returns-clause-answer
-returns-clause-answer g c = grind (arith, common_steps)
+pub returns : goal.returns
+returns g c = record { does = grind (arith, common_steps); callable = search rules }

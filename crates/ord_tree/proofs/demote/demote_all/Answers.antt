@@ -6,14 +6,14 @@ use Rattle.ord_tree.proofs.demote.demote_all.Goals as goal
 pub loop-next-smaller : goal.loop-next-smaller
 loop-next-smaller g c =
     let r = c.requires in
-    let demoted = c.in-Some.ensures.demoted r.0 (c.loop-next.invariant.fallen r.0 r.1).0 in
+    let demoted = c.in-Some.ensures.after r.0 (c.loop-next.invariant.fallen r.0 r.1).0 in
     omega (arith, demoted.higher, demoted.fits)
 
 pub loop-next-preserved : goal.loop-next-preserved
 loop-next-preserved g c = record {
   fallen = λ order fallen.
       let now = c.loop-next.invariant.fallen order fallen in
-      let next = c.in-Some.ensures.demoted order now.0 in
+      let next = c.in-Some.ensures.after order now.0 in
       (next.fallen, λ j. now.1 j ∙ next.backs j);
   paid = λ order start.
       let on = c.loop-next.invariant.paid order start in
@@ -21,15 +21,16 @@ loop-next-preserved g c = record {
   kept = cc;
 }
 
-pub returns-clause-repaired : goal.returns-clause-repaired
-returns-clause-repaired g c = λ order fallen.
-    let now = c.loop-next.invariant.fallen order fallen in
-    IsRepaired-after now.1 (c.in_default.ensures.demoted order now.0)
+pub returns : goal.returns
+returns g c = record {
+  after = λ order fallen.
+      let now = c.loop-next.invariant.fallen order fallen in
+      IsRepaired-after now.1 (c.in_default.ensures.after order now.0);
+  account = λ order start.
+      let on = c.loop-next.invariant.paid order start in
+      IsSpelledWithin-up on 7 (c.in_default.ensures.account order on.fallen);
+  kept = cc;
+}
 
 pub loop-next-init : goal.loop-next-init
 loop-next-init g c = record { fallen = λ order fallen. (fallen, λ j. refl); paid = λ order start. IsFallenWithin-first start; kept = refl }
-
-pub returns-clause-account : goal.returns-clause-account
-returns-clause-account g c = λ order start.
-    let on = c.loop-next.invariant.paid order start in
-    IsSpelledWithin-up on 7 (c.in_default.ensures.account order on.fallen)

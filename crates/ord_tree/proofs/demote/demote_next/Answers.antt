@@ -3,15 +3,16 @@ use Rattle.ord_tree.proofs.DemotionAccount.{lowered_branch}
 use Rattle.ord_tree.proofs.demote.demote_next.Goals as goal
 
 pub branch_of-requires-clause-occupied : goal.branch_of-requires-clause-occupied
-branch_of-requires-clause-occupied g c = demoted_occupied (c.if-not-demote.ensures.mended c.requires.0 c.requires.1)
+branch_of-requires-clause-occupied g c = demoted_occupied (c.if-not-demote.ensures.after c.requires.0 c.requires.1)
 
 pub branch_of-requires-clause-parent : goal.branch_of-requires-clause-parent
-branch_of-requires-clause-parent g c = parent_occupied (c.if-not-demote.ensures.mended c.requires.0 c.requires.1)
+branch_of-requires-clause-parent g c = parent_occupied (c.if-not-demote.ensures.after c.requires.0 c.requires.1)
 
-pub returns-clause-demoted : goal.returns-clause-demoted
-returns-clause-demoted g c = λ order fallen.
-    demoted_branch (c.if-not-demote.ensures.mended order fallen) g.N.Nodes.number c.branch_of.result (record { parent = c.branch_of.ensures.parent; side = c.branch_of.ensures.side })
-
-pub returns-clause-account : goal.returns-clause-account
-returns-clause-account g c = λ order fallen.
-    lowered_branch (c.if-not-demote.ensures.account order fallen) g.N.Nodes.number c.branch_of.result (record { parent = c.branch_of.ensures.parent; side = c.branch_of.ensures.side })
+pub returns : goal.returns
+returns g c = record {
+  after = λ order fallen.
+      demoted_branch (c.if-not-demote.ensures.after order fallen) g.N.Nodes.number c.branch_of.result (record { parent = c.branch_of.ensures.parent; side = c.branch_of.ensures.side });
+  account = λ order fallen.
+      lowered_branch (c.if-not-demote.ensures.account order fallen) g.N.Nodes.number c.branch_of.result (record { parent = c.branch_of.ensures.parent; side = c.branch_of.ensures.side });
+  kept = cc;
+}

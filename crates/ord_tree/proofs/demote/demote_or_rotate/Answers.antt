@@ -15,27 +15,51 @@ overflow_add-inner g c =
 pub rotate-requires : goal.rotate-requires
 rotate-requires g c = c.requires.1.site
 
-pub returns-then-links-outer-eq1-clause-mended : goal.returns-then-links-outer-eq1-clause-mended
-returns-then-links-outer-eq1-clause-mended g c = λ order lean.
-    let site = lean.site in
-    let r = site_read g.N.Nodes.number site _ c.other-other.ensures _ _ c.links-rank.ensures c.links-links.ensures
-    _ _ (c.child.ensures _ c.links-links.ensures) (c.child-2.ensures _ c.links-links.ensures) _ _ c.rank_of-outer.ensures c.rank_of-inner.ensures in
-    IsRepaired-lifted lean (c.rotate.ensures.rotated site) (omega (arith, r)) r.high_is (omega (arith, r))
+pub returns-then-links-outer-eq1 : goal.returns-then-links-outer-eq1
+returns-then-links-outer-eq1 g c = record {
+  after = λ order lean.
+      let site = lean.site in
+      let r = site_read g.N.Nodes.number site _ c.other-other.ensures _ _ c.links-rank.ensures c.links-links.ensures
+      _ _ (c.child.ensures _ c.links-links.ensures) (c.child-2.ensures _ c.links-links.ensures) _ _ c.rank_of-outer.ensures c.rank_of-inner.ensures in
+      IsRepaired-lifted lean (c.rotate.ensures.rotated site) (omega (arith, r)) r.high_is (omega (arith, r));
+  account = λ order lean.
+      let site = lean.site in
+      let r = site_read g.N.Nodes.number site _ c.other-other.ensures _ _ c.links-rank.ensures c.links-links.ensures
+      _ _ (c.child.ensures _ c.links-links.ensures) (c.child-2.ensures _ c.links-links.ensures) _ _ c.rank_of-outer.ensures c.rank_of-inner.ensures in
+      IsSpelledWithin-lifted lean (c.rotate.ensures.rotated site) (omega (arith, r)) r.high_is;
+  kept = cc;
+}
 
-pub returns-then-links-inner-eq2-clause-mended : goal.returns-then-links-inner-eq2-clause-mended
-returns-then-links-inner-eq2-clause-mended g c = λ order lean.
-    let number = g.N.Nodes.number in
-    let r = site_read number lean.site _ c.other-other.ensures _ _ c.links-rank.ensures c.links-links.ensures
-    _ _ (c.child.ensures _ c.links-links.ensures) (c.child-2.ensures _ c.links-links.ensures) _ _ c.rank_of-outer.ensures c.rank_of-inner.ensures in
-    let at = g.N.Nodes.at in
-    let s = number c.args.s in
-    let y = number c.args.y in
-    let first = c.set_rank.ensures in
-    let second = c.set_rank-then-links-inner-eq2.ensures in
-    let P : ℕ → Type 0 = λ k. IsReranked (at c.args.nodes.now) (at c.set_rank.new.self) s (k - 1) in
-    let Q : ℕ → Type 0 = λ k. IsReranked (at c.set_rank.new.self) (at c.set_rank-then-links-inner-eq2.new.self) y (k - 1) in
-    IsDemoted-both lean (subst P r.low_is (record { here = first.here; elsewhere = first.elsewhere })) (subst Q r.high_is (record { here = second.here; elsewhere = second.elsewhere }))
-    (omega (arith, r, lean.over)) (omega (arith, r)) (ap is_some c.links-links.ensures) (ap is_some c.links-rank.ensures)
+pub returns-then-links-inner-eq2 : goal.returns-then-links-inner-eq2
+returns-then-links-inner-eq2 g c = record {
+  after = λ order lean.
+      let number = g.N.Nodes.number in
+      let r = site_read number lean.site _ c.other-other.ensures _ _ c.links-rank.ensures c.links-links.ensures
+      _ _ (c.child.ensures _ c.links-links.ensures) (c.child-2.ensures _ c.links-links.ensures) _ _ c.rank_of-outer.ensures c.rank_of-inner.ensures in
+      let at = g.N.Nodes.at in
+      let s = number c.args.s in
+      let y = number c.args.y in
+      let first = c.set_rank.ensures in
+      let second = c.set_rank-then-links-inner-eq2.ensures in
+      let P : ℕ → Type 0 = λ k. IsReranked (at c.args.nodes.now) (at c.set_rank.new.self) s (k - 1) in
+      let Q : ℕ → Type 0 = λ k. IsReranked (at c.set_rank.new.self) (at c.set_rank-then-links-inner-eq2.new.self) y (k - 1) in
+      IsDemoted-both lean (subst P r.low_is (record { here = first.here; elsewhere = first.elsewhere })) (subst Q r.high_is (record { here = second.here; elsewhere = second.elsewhere }))
+      (omega (arith, r, lean.over)) (omega (arith, r)) (ap is_some c.links-links.ensures) (ap is_some c.links-rank.ensures);
+  account = λ order lean.
+      let number = g.N.Nodes.number in
+      let r = site_read number lean.site _ c.other-other.ensures _ _ c.links-rank.ensures c.links-links.ensures
+      _ _ (c.child.ensures _ c.links-links.ensures) (c.child-2.ensures _ c.links-links.ensures) _ _ c.rank_of-outer.ensures c.rank_of-inner.ensures in
+      let at = g.N.Nodes.at in
+      let s = number c.args.s in
+      let y = number c.args.y in
+      let first = c.set_rank.ensures in
+      let second = c.set_rank-then-links-inner-eq2.ensures in
+      let P : ℕ → Type 0 = λ k. IsReranked (at c.args.nodes.now) (at c.set_rank.new.self) s (k - 1) in
+      let Q : ℕ → Type 0 = λ k. IsReranked (at c.set_rank.new.self) (at c.set_rank-then-links-inner-eq2.new.self) y (k - 1) in
+      IsDemotedWithin-both lean (subst P r.low_is (record { here = first.here; elsewhere = first.elsewhere })) (subst Q r.high_is (record { here = second.here; elsewhere = second.elsewhere }))
+      (omega (arith, r, lean.over)) (omega (arith, r));
+  kept = cc;
+}
 
 pub unwrap-a-requires : goal.unwrap-a-requires
 unwrap-a-requires g c =
@@ -65,50 +89,29 @@ rotate-requires-3 g c =
     → IsRotated site (g.N.Nodes.at c.rotate-2.new.nodes) (option_map number c.rotate-2.new.root) c.rank_of-inner.result c.links-rank.result.rank in
     site_above site x x_is (subst P c.other-other.ensures c.rotate-2.ensures.rotated (site_below site x x_is))
 
-pub returns-clause-mended : goal.returns-clause-mended
-returns-clause-mended g c = λ order lean.
-    let number = g.N.Nodes.number in
-    let site = lean.site in
-    let r = site_read number site _ c.other-other.ensures _ _ c.links-rank.ensures c.links-links.ensures
-    _ _ (c.child.ensures _ c.links-links.ensures) (c.child-2.ensures _ c.links-links.ensures) _ _ c.rank_of-outer.ensures c.rank_of-inner.ensures in
-    let x = number c.unwrap-a.result in
-    let x_is = inner-read number site _ c.other-other.ensures _ _ c.links-rank.ensures c.links-links.ensures _ (c.child-3.ensures _ c.links-links.ensures) _ c.unwrap-a.ensures in
-    let P : Side → Type 0 = λ side. (site : Site (g.N.Nodes.at c.args.nodes.now) (option_map number c.args.root.now) side (number c.args.s) x)
-    → IsRotated site (g.N.Nodes.at c.rotate-2.new.nodes) (option_map number c.rotate-2.new.root) c.rank_of-inner.result c.links-rank.result.rank in
-    let rotated = subst P c.other-other.ensures c.rotate-2.ensures.rotated (site_below site x x_is) in
-    IsRepaired-between lean x x_is rotated (c.rotate-3.ensures.rotated (site_above site x x_is rotated)) r.inner_is r.high_is (omega (arith, r, lean.over)) (omega (arith, r, lean.over))
-
-pub returns-then-links-outer-eq1-clause-account : goal.returns-then-links-outer-eq1-clause-account
-returns-then-links-outer-eq1-clause-account g c = λ order lean.
-    let site = lean.site in
-    let r = site_read g.N.Nodes.number site _ c.other-other.ensures _ _ c.links-rank.ensures c.links-links.ensures
-    _ _ (c.child.ensures _ c.links-links.ensures) (c.child-2.ensures _ c.links-links.ensures) _ _ c.rank_of-outer.ensures c.rank_of-inner.ensures in
-    IsSpelledWithin-lifted lean (c.rotate.ensures.rotated site) (omega (arith, r)) r.high_is
-
-pub returns-then-links-inner-eq2-clause-account : goal.returns-then-links-inner-eq2-clause-account
-returns-then-links-inner-eq2-clause-account g c = λ order lean.
-    let number = g.N.Nodes.number in
-    let r = site_read number lean.site _ c.other-other.ensures _ _ c.links-rank.ensures c.links-links.ensures
-    _ _ (c.child.ensures _ c.links-links.ensures) (c.child-2.ensures _ c.links-links.ensures) _ _ c.rank_of-outer.ensures c.rank_of-inner.ensures in
-    let at = g.N.Nodes.at in
-    let s = number c.args.s in
-    let y = number c.args.y in
-    let first = c.set_rank.ensures in
-    let second = c.set_rank-then-links-inner-eq2.ensures in
-    let P : ℕ → Type 0 = λ k. IsReranked (at c.args.nodes.now) (at c.set_rank.new.self) s (k - 1) in
-    let Q : ℕ → Type 0 = λ k. IsReranked (at c.set_rank.new.self) (at c.set_rank-then-links-inner-eq2.new.self) y (k - 1) in
-    IsDemotedWithin-both lean (subst P r.low_is (record { here = first.here; elsewhere = first.elsewhere })) (subst Q r.high_is (record { here = second.here; elsewhere = second.elsewhere }))
-    (omega (arith, r, lean.over)) (omega (arith, r))
-
-pub returns-clause-account : goal.returns-clause-account
-returns-clause-account g c = λ order lean.
-    let number = g.N.Nodes.number in
-    let site = lean.site in
-    let r = site_read number site _ c.other-other.ensures _ _ c.links-rank.ensures c.links-links.ensures
-    _ _ (c.child.ensures _ c.links-links.ensures) (c.child-2.ensures _ c.links-links.ensures) _ _ c.rank_of-outer.ensures c.rank_of-inner.ensures in
-    let x = number c.unwrap-a.result in
-    let x_is = inner-read number site _ c.other-other.ensures _ _ c.links-rank.ensures c.links-links.ensures _ (c.child-3.ensures _ c.links-links.ensures) _ c.unwrap-a.ensures in
-    let P : Side → Type 0 = λ side. (site : Site (g.N.Nodes.at c.args.nodes.now) (option_map number c.args.root.now) side (number c.args.s) x)
-    → IsRotated site (g.N.Nodes.at c.rotate-2.new.nodes) (option_map number c.rotate-2.new.root) c.rank_of-inner.result c.links-rank.result.rank in
-    let rotated = subst P c.other-other.ensures c.rotate-2.ensures.rotated (site_below site x x_is) in
-    IsSpelledWithin-between lean x x_is rotated (c.rotate-3.ensures.rotated (site_above site x x_is rotated)) r.inner_is r.high_is (omega (arith, r, lean.over)) (omega (arith, r, lean.over))
+pub returns : goal.returns
+returns g c = record {
+  after = λ order lean.
+      let number = g.N.Nodes.number in
+      let site = lean.site in
+      let r = site_read number site _ c.other-other.ensures _ _ c.links-rank.ensures c.links-links.ensures
+      _ _ (c.child.ensures _ c.links-links.ensures) (c.child-2.ensures _ c.links-links.ensures) _ _ c.rank_of-outer.ensures c.rank_of-inner.ensures in
+      let x = number c.unwrap-a.result in
+      let x_is = inner-read number site _ c.other-other.ensures _ _ c.links-rank.ensures c.links-links.ensures _ (c.child-3.ensures _ c.links-links.ensures) _ c.unwrap-a.ensures in
+      let P : Side → Type 0 = λ side. (site : Site (g.N.Nodes.at c.args.nodes.now) (option_map number c.args.root.now) side (number c.args.s) x)
+      → IsRotated site (g.N.Nodes.at c.rotate-2.new.nodes) (option_map number c.rotate-2.new.root) c.rank_of-inner.result c.links-rank.result.rank in
+      let rotated = subst P c.other-other.ensures c.rotate-2.ensures.rotated (site_below site x x_is) in
+      IsRepaired-between lean x x_is rotated (c.rotate-3.ensures.rotated (site_above site x x_is rotated)) r.inner_is r.high_is (omega (arith, r, lean.over)) (omega (arith, r, lean.over));
+  account = λ order lean.
+      let number = g.N.Nodes.number in
+      let site = lean.site in
+      let r = site_read number site _ c.other-other.ensures _ _ c.links-rank.ensures c.links-links.ensures
+      _ _ (c.child.ensures _ c.links-links.ensures) (c.child-2.ensures _ c.links-links.ensures) _ _ c.rank_of-outer.ensures c.rank_of-inner.ensures in
+      let x = number c.unwrap-a.result in
+      let x_is = inner-read number site _ c.other-other.ensures _ _ c.links-rank.ensures c.links-links.ensures _ (c.child-3.ensures _ c.links-links.ensures) _ c.unwrap-a.ensures in
+      let P : Side → Type 0 = λ side. (site : Site (g.N.Nodes.at c.args.nodes.now) (option_map number c.args.root.now) side (number c.args.s) x)
+      → IsRotated site (g.N.Nodes.at c.rotate-2.new.nodes) (option_map number c.rotate-2.new.root) c.rank_of-inner.result c.links-rank.result.rank in
+      let rotated = subst P c.other-other.ensures c.rotate-2.ensures.rotated (site_below site x x_is) in
+      IsSpelledWithin-between lean x x_is rotated (c.rotate-3.ensures.rotated (site_above site x x_is rotated)) r.inner_is r.high_is (omega (arith, r, lean.over)) (omega (arith, r, lean.over));
+  kept = cc;
+}

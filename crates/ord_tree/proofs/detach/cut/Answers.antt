@@ -19,40 +19,39 @@ hang-requires g c = λ i e.
     let rest_is = child_other-read number c.args.bare _ c.other.ensures c.links-links.result c.child-rest.result c.child-rest.ensures in
     c.replace_child.ensures.occupied i ∙ rest_occupied c.requires.1 (as_numbers number c.links-links.result) c.links-links.ensures i (sym rest_is ∙ e)
 
-pub returns-clause-fallen : goal.returns-clause-fallen
-returns-clause-fallen g c = λ order loose.
-    let number = g.N.Nodes.number in
-    let at = g.N.Nodes.at in
-    let links = as_numbers number c.links-links.result in
-    let rest_is = child_other-read number c.args.bare _ c.other.ensures c.links-links.result c.child-rest.result c.child-rest.ensures in
-    let r = c.replace_child.ensures in
-    let P = IsReplaced (at c.args.nodes.now) (at c.replace_child.new.nodes) links.back (option_map number c.args.root.now) (option_map number c.replace_child.new.root) (number c.args.v) in
-    cut_branch loose links c.links-links.ensures (at c.replace_child.new.nodes) (at c.hang.new.nodes) (option_map number c.replace_child.new.root)
-    (subst P rest_is (record { at_top = r.at_top; below = r.below; here = r.here; elsewhere = r.elsewhere; backs = r.backs }))
-    (λ i n link. c.hang.ensures.here i n (rest_is ∙ link)) (λ j other. c.hang.ensures.elsewhere j (λ link. other (sym rest_is ∙ link)))
-    number c.branch_of-branch.result (record { parent = c.branch_of-branch.ensures.parent; side = c.branch_of-branch.ensures.side })
-
-pub returns-clause-backs : goal.returns-clause-backs
-returns-clause-backs g c = λ order loose.
-    let number = g.N.Nodes.number in
-    let at = g.N.Nodes.at in
-    let links = as_numbers number c.links-links.result in
-    let rest_is = child_other-read number c.args.bare _ c.other.ensures c.links-links.result c.child-rest.result c.child-rest.ensures in
-    let r = c.replace_child.ensures in
-    let P = IsReplaced (at c.args.nodes.now) (at c.replace_child.new.nodes) links.back (option_map number c.args.root.now) (option_map number c.replace_child.new.root) (number c.args.v) in
-    moves_one loose links c.links-links.ensures (at c.replace_child.new.nodes) (at c.hang.new.nodes) (option_map number c.replace_child.new.root)
-    (subst P rest_is (record { at_top = r.at_top; below = r.below; here = r.here; elsewhere = r.elsewhere; backs = r.backs }))
-    (λ i n link. c.hang.ensures.here i n (rest_is ∙ link)) (λ j other. c.hang.ensures.elsewhere j (λ link. other (sym rest_is ∙ link)))
-
-pub returns-clause-account : goal.returns-clause-account
-returns-clause-account g c = λ order loose.
-    let number = g.N.Nodes.number in
-    let at = g.N.Nodes.at in
-    let links = as_numbers number c.links-links.result in
-    let rest_is = child_other-read number c.args.bare _ c.other.ensures c.links-links.result c.child-rest.result c.child-rest.ensures in
-    let r = c.replace_child.ensures in
-    let P = IsReplaced (at c.args.nodes.now) (at c.replace_child.new.nodes) links.back (option_map number c.args.root.now) (option_map number c.replace_child.new.root) (number c.args.v) in
-    cut_paid loose links c.links-links.ensures (at c.replace_child.new.nodes) (at c.hang.new.nodes) (option_map number c.replace_child.new.root)
-    (subst P rest_is (record { at_top = r.at_top; below = r.below; here = r.here; elsewhere = r.elsewhere; backs = r.backs }))
-    (λ i n link. c.hang.ensures.here i n (rest_is ∙ link)) (λ j other. c.hang.ensures.elsewhere j (λ link. other (sym rest_is ∙ link)))
-    number c.branch_of-branch.result (record { parent = c.branch_of-branch.ensures.parent; side = c.branch_of-branch.ensures.side })
+pub returns-clause-taken : goal.returns-clause-taken
+returns-clause-taken g c = record {
+  after = λ order loose.
+      let number = g.N.Nodes.number in
+      let at = g.N.Nodes.at in
+      let links = as_numbers number c.links-links.result in
+      let rest_is = child_other-read number c.args.bare _ c.other.ensures c.links-links.result c.child-rest.result c.child-rest.ensures in
+      let r = c.replace_child.ensures in
+      let P = IsReplaced (at c.args.nodes.now) (at c.replace_child.new.nodes) links.back (option_map number c.args.root.now) (option_map number c.replace_child.new.root) (number c.args.v) in
+      cut_branch loose links c.links-links.ensures (at c.replace_child.new.nodes) (at c.hang.new.nodes) (option_map number c.replace_child.new.root)
+      (subst P rest_is (record { at_top = r.at_top; below = r.below; here = r.here; elsewhere = r.elsewhere; backs = r.backs }))
+      (λ i n link. c.hang.ensures.here i n (rest_is ∙ link)) (λ j other. c.hang.ensures.elsewhere j (λ link. other (sym rest_is ∙ link)))
+      number c.branch_of-branch.result (record { parent = c.branch_of-branch.ensures.parent; side = c.branch_of-branch.ensures.side });
+  account = λ order loose.
+      let number = g.N.Nodes.number in
+      let at = g.N.Nodes.at in
+      let links = as_numbers number c.links-links.result in
+      let rest_is = child_other-read number c.args.bare _ c.other.ensures c.links-links.result c.child-rest.result c.child-rest.ensures in
+      let r = c.replace_child.ensures in
+      let P = IsReplaced (at c.args.nodes.now) (at c.replace_child.new.nodes) links.back (option_map number c.args.root.now) (option_map number c.replace_child.new.root) (number c.args.v) in
+      cut_paid loose links c.links-links.ensures (at c.replace_child.new.nodes) (at c.hang.new.nodes) (option_map number c.replace_child.new.root)
+      (subst P rest_is (record { at_top = r.at_top; below = r.below; here = r.here; elsewhere = r.elsewhere; backs = r.backs }))
+      (λ i n link. c.hang.ensures.here i n (rest_is ∙ link)) (λ j other. c.hang.ensures.elsewhere j (λ link. other (sym rest_is ∙ link)))
+      number c.branch_of-branch.result (record { parent = c.branch_of-branch.ensures.parent; side = c.branch_of-branch.ensures.side });
+  backs = λ order loose.
+      let number = g.N.Nodes.number in
+      let at = g.N.Nodes.at in
+      let links = as_numbers number c.links-links.result in
+      let rest_is = child_other-read number c.args.bare _ c.other.ensures c.links-links.result c.child-rest.result c.child-rest.ensures in
+      let r = c.replace_child.ensures in
+      let P = IsReplaced (at c.args.nodes.now) (at c.replace_child.new.nodes) links.back (option_map number c.args.root.now) (option_map number c.replace_child.new.root) (number c.args.v) in
+      moves_one loose links c.links-links.ensures (at c.replace_child.new.nodes) (at c.hang.new.nodes) (option_map number c.replace_child.new.root)
+      (subst P rest_is (record { at_top = r.at_top; below = r.below; here = r.here; elsewhere = r.elsewhere; backs = r.backs }))
+      (λ i n link. c.hang.ensures.here i n (rest_is ∙ link)) (λ j other. c.hang.ensures.elsewhere j (λ link. other (sym rest_is ∙ link)));
+  kept = cc;
+}

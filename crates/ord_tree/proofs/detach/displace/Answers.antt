@@ -29,50 +29,61 @@ substitute-requires g c =
     let is_v = ap (option_map number) c.unwrap-v.ensures in
     let loose = loose_v c.requires.1 links c.links.ensures some.0 some.1 v is_v in
     can_stand c.requires.1 links c.links.ensures some.0 some.1 v is_v (g.N.Nodes.at c.cut-branch.new.nodes) (option_map number c.cut-branch.new.root)
-    (c.cut-branch.ensures.occupied v ∙ v_occupied loose) number c.cut-branch.result (c.cut-branch.ensures.fallen c.requires.0 loose)
+    (c.cut-branch.ensures.occupied v ∙ v_occupied loose) number c.cut-branch.result (c.cut-branch.ensures.taken.after c.requires.0 loose)
 
-pub returns-clause-fallen : goal.returns-clause-fallen
-returns-clause-fallen g c = λ order can.
-    let number = g.N.Nodes.number in
-    let at = g.N.Nodes.at in
-    let v = number c.unwrap-v.result in
-    let links = as_numbers number c.links.result in
-    let some = mapped number c.links.result.lesser c.if-is_none.ensures in
-    let is_v = ap (option_map number) c.unwrap-v.ensures in
-    let loose = loose_v can links c.links.ensures some.0 some.1 v is_v in
-    displaced can links c.links.ensures some.0 some.1 v is_v (at c.cut-branch.new.nodes) (option_map number c.cut-branch.new.root)
-    (c.cut-branch.ensures.occupied v ∙ v_occupied loose) (at c.substitute.new.nodes) (option_map number c.substitute.new.root) c.substitute.ensures.held
-    number c.cut-branch.result c.branch_with.result c.branch_with.ensures (c.cut-branch.ensures.fallen order loose)
+pub returns : goal.returns
+returns g c = record {
+  after = λ order can.
+      let number = g.N.Nodes.number in
+      let at = g.N.Nodes.at in
+      let v = number c.unwrap-v.result in
+      let links = as_numbers number c.links.result in
+      let some = mapped number c.links.result.lesser c.if-is_none.ensures in
+      let is_v = ap (option_map number) c.unwrap-v.ensures in
+      let loose = loose_v can links c.links.ensures some.0 some.1 v is_v in
+      displaced can links c.links.ensures some.0 some.1 v is_v (at c.cut-branch.new.nodes) (option_map number c.cut-branch.new.root)
+      (c.cut-branch.ensures.occupied v ∙ v_occupied loose) (at c.substitute.new.nodes) (option_map number c.substitute.new.root) c.substitute.ensures.held
+      number c.cut-branch.result c.branch_with.result c.branch_with.ensures (c.cut-branch.ensures.taken.after order loose);
+  account = λ order can.
+      let number = g.N.Nodes.number in
+      let at = g.N.Nodes.at in
+      let v = number c.unwrap-v.result in
+      let links = as_numbers number c.links.result in
+      let some = mapped number c.links.result.lesser c.if-is_none.ensures in
+      let is_v = ap (option_map number) c.unwrap-v.ensures in
+      let loose = loose_v can links c.links.ensures some.0 some.1 v is_v in
+      displaced_paid can links c.links.ensures some.0 some.1 v is_v (at c.cut-branch.new.nodes) (option_map number c.cut-branch.new.root)
+      (c.cut-branch.ensures.occupied v ∙ v_occupied loose) (at c.substitute.new.nodes) (option_map number c.substitute.new.root) c.substitute.ensures.held
+      can.built.shape (potential can.built.shape + 1) number (potential can.built.shape + 2) (omega arith) c.cut-branch.result c.branch_with.result c.branch_with.ensures (c.cut-branch.ensures.taken.account order loose);
+  backs = λ order can.
+      let number = g.N.Nodes.number in
+      let at = g.N.Nodes.at in
+      let v = number c.unwrap-v.result in
+      let links = as_numbers number c.links.result in
+      let some = mapped number c.links.result.lesser c.if-is_none.ensures in
+      let is_v = ap (option_map number) c.unwrap-v.ensures in
+      let loose = loose_v can links c.links.ensures some.0 some.1 v is_v in
+      let stands = can_stand can links c.links.ensures some.0 some.1 v is_v (at c.cut-branch.new.nodes) (option_map number c.cut-branch.new.root)
+      (c.cut-branch.ensures.occupied v ∙ v_occupied loose) number c.cut-branch.result (c.cut-branch.ensures.taken.after order loose) in
+      MovesBacks-then 1 3 (at c.args.nodes.now) (at c.cut-branch.new.nodes) (at c.substitute.new.nodes) (c.cut-branch.ensures.taken.backs order loose)
+      (c.substitute.ensures.backs stands.0 stands.1);
+  kept = cc;
+}
 
-pub returns-clause-backs : goal.returns-clause-backs
-returns-clause-backs g c = λ order can.
-    let number = g.N.Nodes.number in
-    let at = g.N.Nodes.at in
-    let v = number c.unwrap-v.result in
-    let links = as_numbers number c.links.result in
-    let some = mapped number c.links.result.lesser c.if-is_none.ensures in
-    let is_v = ap (option_map number) c.unwrap-v.ensures in
-    let loose = loose_v can links c.links.ensures some.0 some.1 v is_v in
-    let stands = can_stand can links c.links.ensures some.0 some.1 v is_v (at c.cut-branch.new.nodes) (option_map number c.cut-branch.new.root)
-    (c.cut-branch.ensures.occupied v ∙ v_occupied loose) number c.cut-branch.result (c.cut-branch.ensures.fallen order loose) in
-    MovesBacks-then 1 3 (at c.args.nodes.now) (at c.cut-branch.new.nodes) (at c.substitute.new.nodes) (c.cut-branch.ensures.backs order loose)
-    (c.substitute.ensures.backs stands.0 stands.1)
-
-pub returns-clause-account : goal.returns-clause-account
-returns-clause-account g c = λ order can.
-    let number = g.N.Nodes.number in
-    let at = g.N.Nodes.at in
-    let v = number c.unwrap-v.result in
-    let links = as_numbers number c.links.result in
-    let some = mapped number c.links.result.lesser c.if-is_none.ensures in
-    let is_v = ap (option_map number) c.unwrap-v.ensures in
-    let loose = loose_v can links c.links.ensures some.0 some.1 v is_v in
-    displaced_paid can links c.links.ensures some.0 some.1 v is_v (at c.cut-branch.new.nodes) (option_map number c.cut-branch.new.root)
-    (c.cut-branch.ensures.occupied v ∙ v_occupied loose) (at c.substitute.new.nodes) (option_map number c.substitute.new.root) c.substitute.ensures.held
-    can.built.shape (potential can.built.shape + 1) number (potential can.built.shape + 2) (omega arith) c.cut-branch.result c.branch_with.result c.branch_with.ensures (c.cut-branch.ensures.account order loose)
-
-pub returns-then-is_none-clause-account : goal.returns-then-is_none-clause-account
-returns-then-is_none-clause-account g c = λ order can.
-    let number = g.N.Nodes.number in
-    let none = mapped_none number c.links.result.lesser (search rules) in
-    paid_more number _ _ _ _ (potential can.built.shape + 1) _ (omega arith) _ (c.cut.ensures.account order (loose_z can (as_numbers number c.links.result) c.links.ensures none))
+pub returns-then-is_none : goal.returns-then-is_none
+returns-then-is_none g c = record {
+  after = λ order can.
+      let none = mapped_none g.N.Nodes.number c.links.result.lesser (search rules) in
+      let loose = loose_z can (as_numbers g.N.Nodes.number c.links.result) c.links.ensures none in
+      c.cut.ensures.taken.after order loose;
+  account = λ order can.
+      let number = g.N.Nodes.number in
+      let none = mapped_none number c.links.result.lesser (search rules) in
+      paid_more number _ _ _ _ (potential can.built.shape + 1) _ (omega arith) _ (c.cut.ensures.taken.account order (loose_z can (as_numbers number c.links.result) c.links.ensures none));
+  backs = λ order can.
+      let none = mapped_none g.N.Nodes.number c.links.result.lesser (search rules) in
+      let loose = loose_z can (as_numbers g.N.Nodes.number c.links.result) c.links.ensures none in
+      let moved = c.cut.ensures.taken.backs order loose in
+      (moved.0, omega (arith, moved.1), moved.2);
+  kept = cc;
+}

@@ -11,15 +11,16 @@ promote_all-requires g c =
     let r = c.requires in
     (beside c.args.side (g.N.Nodes.number c.args.y) (g.N.Nodes.number c.args.x) r.0, r.1, IsRising-attached r.2 (g.N.Nodes.at c.set_child.new.self) c.set_child.ensures.here c.set_child.ensures.elsewhere)
 
-pub returns-clause-repaired : goal.returns-clause-repaired
-returns-clause-repaired g c = λ order slack bud.
-    let number = g.N.Nodes.number in
-    IsRepaired-after (backs-attached bud (g.N.Nodes.at c.set_child.new.self) c.set_child.ensures.here c.set_child.ensures.elsewhere)
-    (c.promote_all.ensures.repaired (beside c.args.side (number c.args.y) (number c.args.x) order) slack (IsRising-attached bud (g.N.Nodes.at c.set_child.new.self) c.set_child.ensures.here c.set_child.ensures.elsewhere))
-
-pub returns-clause-account : goal.returns-clause-account
-returns-clause-account g c = λ order slack bud.
-    let number = g.N.Nodes.number in
-    let hung = g.N.Nodes.at c.set_child.new.self in
-    IsSpelledWithin-leaf bud hung c.set_child.ensures.here c.set_child.ensures.elsewhere
-    (c.promote_all.ensures.account (beside c.args.side (number c.args.y) (number c.args.x) order) slack (IsRising-attached bud hung c.set_child.ensures.here c.set_child.ensures.elsewhere))
+pub returns : goal.returns
+returns g c = record {
+  after = λ o bud.
+      let number = g.N.Nodes.number in
+      IsRepaired-after (backs-attached bud (g.N.Nodes.at c.set_child.new.self) c.set_child.ensures.here c.set_child.ensures.elsewhere)
+      (c.promote_all.ensures.after (beside c.args.side (number c.args.y) (number c.args.x) o.0, o.1) (IsRising-attached bud (g.N.Nodes.at c.set_child.new.self) c.set_child.ensures.here c.set_child.ensures.elsewhere));
+  account = λ o bud.
+      let number = g.N.Nodes.number in
+      let hung = g.N.Nodes.at c.set_child.new.self in
+      IsSpelledWithin-leaf bud hung c.set_child.ensures.here c.set_child.ensures.elsewhere
+      (c.promote_all.ensures.account (beside c.args.side (number c.args.y) (number c.args.x) o.0, o.1) (IsRising-attached bud hung c.set_child.ensures.here c.set_child.ensures.elsewhere));
+  kept = cc;
+}

@@ -15,18 +15,33 @@ links-high-requires g c =
     let u = rising_under c.requires.2 (number c.in-Some.z) (y_back c.requires.2 (as_numbers number c.links-low.result) c.links-low.ensures ∙ ap (option_map number) c.in-Some.is) in
     z_occupied u
 
-pub returns-in_default-clause-promoted : goal.returns-in_default-clause-promoted
-returns-in_default-clause-promoted g c = λ order slack rising.
-    let number = g.N.Nodes.number in
-    let top = y_back rising (as_numbers number c.links-low.result) c.links-low.ensures ∙ ap (option_map number) c.in_default.is in
-    record { built = IsBuilt-top rising top; backs = ([], omega arith, λ j. inr refl) }
+pub returns-in_default : goal.returns-in_default
+returns-in_default g c = record {
+  after = λ o rising.
+      let number = g.N.Nodes.number in
+      let top = y_back rising (as_numbers number c.links-low.result) c.links-low.ensures ∙ ap (option_map number) c.in_default.is in
+      record { built = IsBuilt-top rising top; backs = ([], omega arith, λ j. inr refl) };
+  account = λ o rising.
+      let number = g.N.Nodes.number in
+      IsSpelledWithin-top rising (y_back rising (as_numbers number c.links-low.result) c.links-low.ensures ∙ ap (option_map number) c.in_default.is);
+  kept = cc;
+}
 
-pub returns-then-high-low-clause-promoted : goal.returns-then-high-low-clause-promoted
-returns-then-high-low-clause-promoted g c = λ order slack rising.
-    let number = g.N.Nodes.number in
-    let u = rising_under rising (number c.in-Some.z) (y_back rising (as_numbers number c.links-low.result) c.links-low.ensures ∙ ap (option_map number) c.in-Some.is) in
-    let ranks = ranks-read number u _ _ c.links-low.ensures c.links-high.ensures in
-    record { built = IsBuilt-stop u (omega (arith, ranks)); backs = ([], omega arith, λ j. inr refl) }
+pub returns-then-high-low : goal.returns-then-high-low
+returns-then-high-low g c = record {
+  after = λ o rising.
+      let number = g.N.Nodes.number in
+      let u = rising_under rising (number c.in-Some.z) (y_back rising (as_numbers number c.links-low.result) c.links-low.ensures ∙ ap (option_map number) c.in-Some.is) in
+      let ranks = ranks-read number u _ _ c.links-low.ensures c.links-high.ensures in
+      record { built = IsBuilt-stop u (omega (arith, ranks)); backs = ([], omega arith, λ j. inr refl) };
+  account = λ o rising.
+      let number = g.N.Nodes.number in
+      let hangs = y_back rising (as_numbers number c.links-low.result) c.links-low.ensures ∙ ap (option_map number) c.in-Some.is in
+      let u = rising_under rising (number c.in-Some.z) hangs in
+      let ranks = ranks-read number u _ _ c.links-low.ensures c.links-high.ensures in
+      IsSpelledWithin-under rising (number c.in-Some.z) hangs (IsSpelledWithin-stop u (omega (arith, ranks)));
+  kept = cc;
+}
 
 pub rank_of-sibling-requires : goal.rank_of-sibling-requires
 rank_of-sibling-requires g c =
@@ -49,16 +64,29 @@ overflow_add-high g c =
     let ranks = ranks-read number u _ _ c.links-low.ensures c.links-high.ensures in
     record { fits = omega (arith, ranks, low-small u) }
 
-pub returns-then-high-sibling-eq1-clause-promoted : goal.returns-then-high-sibling-eq1-clause-promoted
-returns-then-high-sibling-eq1-clause-promoted g c = λ order slack rising.
-    let number = g.N.Nodes.number in
-    let u = rising_under rising (number c.in-Some.z) (y_back rising (as_numbers number c.links-low.result) c.links-low.ensures ∙ ap (option_map number) c.in-Some.is) in
-    let ranks = ranks-read number u _ _ c.links-low.ensures c.links-high.ensures in
-    let sibling_is = beside-read number u _ _ c.links-low.ensures c.links-high.ensures _ c.side_of-side.ensures _ c.other.ensures _ (c.child.ensures _ c.links-high.ensures) _ c.rank_of-sibling.ensures in
-    let z = number c.in-Some.z in
-    let P : ℕ → Type 0 = λ k. IsReranked (g.N.Nodes.at c.args.nodes.now) (g.N.Nodes.at c.set_rank.new.self) z (k + 1) in
-    IsPromoted-promoted u (g.N.Nodes.at c.set_rank.new.self) (subst P ranks.0 (record { here = c.set_rank.ensures.here; elsewhere = c.set_rank.ensures.elsewhere }))
-    (omega (arith, ranks, u.over.lesser)) (omega (arith, ranks, sibling_is))
+pub returns-then-high-sibling-eq1 : goal.returns-then-high-sibling-eq1
+returns-then-high-sibling-eq1 g c = record {
+  after = λ o rising.
+      let number = g.N.Nodes.number in
+      let u = rising_under rising (number c.in-Some.z) (y_back rising (as_numbers number c.links-low.result) c.links-low.ensures ∙ ap (option_map number) c.in-Some.is) in
+      let ranks = ranks-read number u _ _ c.links-low.ensures c.links-high.ensures in
+      let sibling_is = beside-read number u _ _ c.links-low.ensures c.links-high.ensures _ c.side_of-side.ensures _ c.other.ensures _ (c.child.ensures _ c.links-high.ensures) _ c.rank_of-sibling.ensures in
+      let z = number c.in-Some.z in
+      let P : ℕ → Type 0 = λ k. IsReranked (g.N.Nodes.at c.args.nodes.now) (g.N.Nodes.at c.set_rank.new.self) z (k + 1) in
+      IsPromoted-promoted u (g.N.Nodes.at c.set_rank.new.self) (subst P ranks.0 (record { here = c.set_rank.ensures.here; elsewhere = c.set_rank.ensures.elsewhere }))
+      (omega (arith, ranks, u.over.lesser)) (omega (arith, ranks, sibling_is));
+  account = λ o rising.
+      let number = g.N.Nodes.number in
+      let hangs = y_back rising (as_numbers number c.links-low.result) c.links-low.ensures ∙ ap (option_map number) c.in-Some.is in
+      let u = rising_under rising (number c.in-Some.z) hangs in
+      let ranks = ranks-read number u _ _ c.links-low.ensures c.links-high.ensures in
+      let sibling_is = beside-read number u _ _ c.links-low.ensures c.links-high.ensures _ c.side_of-side.ensures _ c.other.ensures _ (c.child.ensures _ c.links-high.ensures) _ c.rank_of-sibling.ensures in
+      let z = number c.in-Some.z in
+      let P : ℕ → Type 0 = λ k. IsReranked (g.N.Nodes.at c.args.nodes.now) (g.N.Nodes.at c.set_rank.new.self) z (k + 1) in
+      IsRisingWithin-under rising z hangs (IsRisingWithin-promoted u (g.N.Nodes.at c.set_rank.new.self) (subst P ranks.0 (record { here = c.set_rank.ensures.here; elsewhere = c.set_rank.ensures.elsewhere }))
+      (omega (arith, ranks, u.over.lesser)) (omega (arith, ranks, sibling_is)));
+  kept = cc;
+}
 
 pub rotate_once_or_twice-requires : goal.rotate_once_or_twice-requires
 rotate_once_or_twice-requires g c =
@@ -70,53 +98,29 @@ rotate_once_or_twice-requires g c =
     let P : Side → Type 0 = λ side. IsSteep (g.N.Nodes.at c.args.nodes.now) (option_map number c.args.root.now) side (number c.in-Some.z) (number c.args.y) c.requires.0 c.requires.1 in
     (c.requires.0, c.requires.1, subst P (sym side_is) (IsSteep-rising u (omega (arith, ranks, u.over.lesser)) (omega (arith, ranks, sibling_is))))
 
-pub returns-clause-promoted : goal.returns-clause-promoted
-returns-clause-promoted g c = λ order slack rising.
-    let number = g.N.Nodes.number in
-    let u = rising_under rising (number c.in-Some.z) (y_back rising (as_numbers number c.links-low.result) c.links-low.ensures ∙ ap (option_map number) c.in-Some.is) in
-    let ranks = ranks-read number u _ _ c.links-low.ensures c.links-high.ensures in
-    let side_is = side-read number u _ _ c.links-low.ensures c.links-high.ensures _ c.side_of-side.ensures in
-    let sibling_is = beside-read number u _ _ c.links-low.ensures c.links-high.ensures _ c.side_of-side.ensures _ c.other.ensures _ (c.child.ensures _ c.links-high.ensures) _ c.rank_of-sibling.ensures in
-    let P : Side → Type 0 = λ side. IsSteep (g.N.Nodes.at c.args.nodes.now) (option_map number c.args.root.now) side (number c.in-Some.z) (number c.args.y) order slack in
-    c.rotate_once_or_twice.ensures.repaired order slack (subst P (sym side_is) (IsSteep-rising u (omega (arith, ranks, u.over.lesser)) (omega (arith, ranks, sibling_is))))
-
-pub returns-in_default-clause-account : goal.returns-in_default-clause-account
-returns-in_default-clause-account g c = λ order slack rising.
-    let number = g.N.Nodes.number in
-    IsSpelledWithin-top rising (y_back rising (as_numbers number c.links-low.result) c.links-low.ensures ∙ ap (option_map number) c.in_default.is)
-
-pub returns-then-high-low-clause-account : goal.returns-then-high-low-clause-account
-returns-then-high-low-clause-account g c = λ order slack rising.
-    let number = g.N.Nodes.number in
-    let hangs = y_back rising (as_numbers number c.links-low.result) c.links-low.ensures ∙ ap (option_map number) c.in-Some.is in
-    let u = rising_under rising (number c.in-Some.z) hangs in
-    let ranks = ranks-read number u _ _ c.links-low.ensures c.links-high.ensures in
-    IsSpelledWithin-under rising (number c.in-Some.z) hangs (IsSpelledWithin-stop u (omega (arith, ranks)))
-
-pub returns-then-high-sibling-eq1-clause-account : goal.returns-then-high-sibling-eq1-clause-account
-returns-then-high-sibling-eq1-clause-account g c = λ order slack rising.
-    let number = g.N.Nodes.number in
-    let hangs = y_back rising (as_numbers number c.links-low.result) c.links-low.ensures ∙ ap (option_map number) c.in-Some.is in
-    let u = rising_under rising (number c.in-Some.z) hangs in
-    let ranks = ranks-read number u _ _ c.links-low.ensures c.links-high.ensures in
-    let sibling_is = beside-read number u _ _ c.links-low.ensures c.links-high.ensures _ c.side_of-side.ensures _ c.other.ensures _ (c.child.ensures _ c.links-high.ensures) _ c.rank_of-sibling.ensures in
-    let z = number c.in-Some.z in
-    let P : ℕ → Type 0 = λ k. IsReranked (g.N.Nodes.at c.args.nodes.now) (g.N.Nodes.at c.set_rank.new.self) z (k + 1) in
-    IsRisingWithin-under rising z hangs (IsRisingWithin-promoted u (g.N.Nodes.at c.set_rank.new.self) (subst P ranks.0 (record { here = c.set_rank.ensures.here; elsewhere = c.set_rank.ensures.elsewhere }))
-    (omega (arith, ranks, u.over.lesser)) (omega (arith, ranks, sibling_is)))
-
-pub returns-clause-account : goal.returns-clause-account
-returns-clause-account g c = λ order slack rising.
-    let number = g.N.Nodes.number in
-    let z = number c.in-Some.z in
-    let y = number c.args.y in
-    let hangs = y_back rising (as_numbers number c.links-low.result) c.links-low.ensures ∙ ap (option_map number) c.in-Some.is in
-    let u = rising_under rising z hangs in
-    let ranks = ranks-read number u _ _ c.links-low.ensures c.links-high.ensures in
-    let side_is = side-read number u _ _ c.links-low.ensures c.links-high.ensures _ c.side_of-side.ensures in
-    let sibling_is = beside-read number u _ _ c.links-low.ensures c.links-high.ensures _ c.side_of-side.ensures _ c.other.ensures _ (c.child.ensures _ c.links-high.ensures) _ c.rank_of-sibling.ensures in
-    let P : Side → Type 0 = λ side. (steep : IsSteep (g.N.Nodes.at c.args.nodes.now) (option_map number c.args.root.now) side z y order slack)
-    → IsSpelledWithin (steep_ranks steep) (g.N.Nodes.at c.rotate_once_or_twice.new.nodes) (option_map number c.rotate_once_or_twice.new.root) order (steep_credit steep + 3) in
-    let equal : u.high ≡ u.low + 1 = omega (arith, ranks, u.over.lesser) in
-    let not_sibling : rank_of u.far + 1 ≢ u.high = omega (arith, ranks, sibling_is) in
-    IsSpelledWithin-under rising z hangs (IsSpelledWithin-steep u equal not_sibling 3 (subst P side_is (c.rotate_once_or_twice.ensures.account order slack) (IsSteep-rising u equal not_sibling)))
+pub returns : goal.returns
+returns g c = record {
+  after = λ o rising.
+      let number = g.N.Nodes.number in
+      let u = rising_under rising (number c.in-Some.z) (y_back rising (as_numbers number c.links-low.result) c.links-low.ensures ∙ ap (option_map number) c.in-Some.is) in
+      let ranks = ranks-read number u _ _ c.links-low.ensures c.links-high.ensures in
+      let side_is = side-read number u _ _ c.links-low.ensures c.links-high.ensures _ c.side_of-side.ensures in
+      let sibling_is = beside-read number u _ _ c.links-low.ensures c.links-high.ensures _ c.side_of-side.ensures _ c.other.ensures _ (c.child.ensures _ c.links-high.ensures) _ c.rank_of-sibling.ensures in
+      let P : Side → Type 0 = λ side. IsSteep (g.N.Nodes.at c.args.nodes.now) (option_map number c.args.root.now) side (number c.in-Some.z) (number c.args.y) o.0 o.1 in
+      c.rotate_once_or_twice.ensures.after o (subst P (sym side_is) (IsSteep-rising u (omega (arith, ranks, u.over.lesser)) (omega (arith, ranks, sibling_is))));
+  account = λ o rising.
+      let number = g.N.Nodes.number in
+      let z = number c.in-Some.z in
+      let y = number c.args.y in
+      let hangs = y_back rising (as_numbers number c.links-low.result) c.links-low.ensures ∙ ap (option_map number) c.in-Some.is in
+      let u = rising_under rising z hangs in
+      let ranks = ranks-read number u _ _ c.links-low.ensures c.links-high.ensures in
+      let side_is = side-read number u _ _ c.links-low.ensures c.links-high.ensures _ c.side_of-side.ensures in
+      let sibling_is = beside-read number u _ _ c.links-low.ensures c.links-high.ensures _ c.side_of-side.ensures _ c.other.ensures _ (c.child.ensures _ c.links-high.ensures) _ c.rank_of-sibling.ensures in
+      let P : Side → Type 0 = λ side. (steep : IsSteep (g.N.Nodes.at c.args.nodes.now) (option_map number c.args.root.now) side z y o.0 o.1)
+      → IsSpelledWithin (steep_ranks steep) (g.N.Nodes.at c.rotate_once_or_twice.new.nodes) (option_map number c.rotate_once_or_twice.new.root) o.0 (steep_credit steep + 3) in
+      let equal : u.high ≡ u.low + 1 = omega (arith, ranks, u.over.lesser) in
+      let not_sibling : rank_of u.far + 1 ≢ u.high = omega (arith, ranks, sibling_is) in
+      IsSpelledWithin-under rising z hangs (IsSpelledWithin-steep u equal not_sibling 3 (subst P side_is (c.rotate_once_or_twice.ensures.account o) (IsSteep-rising u equal not_sibling)));
+  kept = cc;
+}

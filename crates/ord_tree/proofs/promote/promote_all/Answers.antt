@@ -6,30 +6,31 @@ use Rattle.ord_tree.proofs.promote.promote_all.Goals as goal
 pub loop-z-smaller : goal.loop-z-smaller
 loop-z-smaller g c =
     let r = c.requires in
-    let promoted = c.in-Some.ensures.promoted r.0 r.1 (c.loop-z.invariant.rising r.0 r.1 r.2).0 in
+    let promoted = c.in-Some.ensures.after (r.0, r.1) (c.loop-z.invariant.rising r.0 r.1 r.2).0 in
     omega (arith, promoted.higher, promoted.fits)
 
 pub loop-z-preserved : goal.loop-z-preserved
 loop-z-preserved g c = record {
   rising = λ order slack rising.
       let now = c.loop-z.invariant.rising order slack rising in
-      let next = c.in-Some.ensures.promoted order slack now.0 in
+      let next = c.in-Some.ensures.after (order, slack) now.0 in
       (next.rising, λ j. now.1 j ∙ next.backs j);
   paid = λ order slack first.
       let on = c.loop-z.invariant.paid order slack first in
-      IsRisingWithin-next on (c.in-Some.ensures.account order slack on.rising);
+      IsRisingWithin-next on (c.in-Some.ensures.account (order, slack) on.rising);
   kept = cc;
 }
 
-pub returns-clause-repaired : goal.returns-clause-repaired
-returns-clause-repaired g c = λ order slack rising.
-    let now = c.loop-z.invariant.rising order slack rising in
-    IsRepaired-after now.1 (c.in_default.ensures.promoted order slack now.0)
+pub returns : goal.returns
+returns g c = record {
+  after = λ o rising.
+      let now = c.loop-z.invariant.rising o.0 o.1 rising in
+      IsRepaired-after now.1 (c.in_default.ensures.after o now.0);
+  account = λ o first.
+      let on = c.loop-z.invariant.paid o.0 o.1 first in
+      IsSpelledWithin-after on 3 (c.in_default.ensures.account o on.rising);
+  kept = cc;
+}
 
 pub loop-z-init : goal.loop-z-init
 loop-z-init g c = record { rising = λ order slack rising. (rising, λ j. refl); paid = λ order slack first. IsRisingWithin-first first; kept = refl }
-
-pub returns-clause-account : goal.returns-clause-account
-returns-clause-account g c = λ order slack first.
-    let on = c.loop-z.invariant.paid order slack first in
-    IsSpelledWithin-after on 3 (c.in_default.ensures.account order slack on.rising)

@@ -6,21 +6,22 @@ use Rattle.ord_tree.proofs.PromotionAccount.{IsSpelledWithin-single, IsSpelledWi
 use Rattle.ord_tree.proofs.{Reading.child-read, Reading.child_other-read, LeafBranches.is_some-mapped}
 use Rattle.ord_tree.proofs.promote.rotate_once_or_twice.Goals as goal
 
-pub returns-then-low-outer-eq1-clause-repaired : goal.returns-then-low-outer-eq1-clause-repaired
-returns-then-low-outer-eq1-clause-repaired g c = λ order slack steep.
-    let number = g.N.Nodes.number in
-    let low = as_numbers number c.links-low.result in
-    let outer_is : c.rank_of-outer.result ≡ rank_of steep.site.outer
-    = rw (c.rank_of-outer.ensures, child-read number c.args.side c.links-low.result c.child.result (c.child.ensures _ c.links-low.ensures)) (outer_rank steep.site low c.links-low.ensures) in
-    IsRepaired-single steep (c.rotate.ensures.rotated steep.site) outer_is (low_rank steep.site low c.links-low.ensures) (omega arith)
-
-pub returns-then-low-outer-eq1-clause-account : goal.returns-then-low-outer-eq1-clause-account
-returns-then-low-outer-eq1-clause-account g c = λ order slack steep.
-    let number = g.N.Nodes.number in
-    let low = as_numbers number c.links-low.result in
-    let outer_is : c.rank_of-outer.result ≡ rank_of steep.site.outer
-    = rw (c.rank_of-outer.ensures, child-read number c.args.side c.links-low.result c.child.result (c.child.ensures _ c.links-low.ensures)) (outer_rank steep.site low c.links-low.ensures) in
-    IsSpelledWithin-single steep (c.rotate.ensures.rotated steep.site) outer_is (low_rank steep.site low c.links-low.ensures) (omega arith)
+pub returns-then-low-outer-eq1 : goal.returns-then-low-outer-eq1
+returns-then-low-outer-eq1 g c = record {
+  after = λ o steep.
+      let number = g.N.Nodes.number in
+      let low = as_numbers number c.links-low.result in
+      let outer_is : c.rank_of-outer.result ≡ rank_of steep.site.outer
+      = rw (c.rank_of-outer.ensures, child-read number c.args.side c.links-low.result c.child.result (c.child.ensures _ c.links-low.ensures)) (outer_rank steep.site low c.links-low.ensures) in
+      IsRepaired-single steep (c.rotate.ensures.rotated steep.site) outer_is (low_rank steep.site low c.links-low.ensures) (omega arith);
+  account = λ o steep.
+      let number = g.N.Nodes.number in
+      let low = as_numbers number c.links-low.result in
+      let outer_is : c.rank_of-outer.result ≡ rank_of steep.site.outer
+      = rw (c.rank_of-outer.ensures, child-read number c.args.side c.links-low.result c.child.result (c.child.ensures _ c.links-low.ensures)) (outer_rank steep.site low c.links-low.ensures) in
+      IsSpelledWithin-single steep (c.rotate.ensures.rotated steep.site) outer_is (low_rank steep.site low c.links-low.ensures) (omega arith);
+  kept = cc;
+}
 
 pub unwrap-x-requires : goal.unwrap-x-requires
 unwrap-x-requires g c =
@@ -54,34 +55,35 @@ rotate-requires-3 g c =
     → IsRotated site (g.N.Nodes.at c.rotate-2.new.nodes) (option_map number c.rotate-2.new.root) c.links-rank.result.rank c.links-low.result.rank in
     site_above steep.site x x_is (subst P c.other-other.ensures c.rotate-2.ensures.rotated (site_below steep.site x x_is))
 
-pub returns-clause-repaired : goal.returns-clause-repaired
-returns-clause-repaired g c = λ order slack steep.
-    let number = g.N.Nodes.number in
-    let low = as_numbers number c.links-low.result in
-    let x = number c.unwrap-x.result in
-    let outer_is : c.rank_of-outer.result ≡ rank_of steep.site.outer
-    = rw (c.rank_of-outer.ensures, child-read number c.args.side c.links-low.result c.child.result (c.child.ensures _ c.links-low.ensures)) (outer_rank steep.site low c.links-low.ensures) in
-    let inner_is = child_other-read number c.args.side _ c.other-other.ensures c.links-low.result c.child-2.result (c.child-2.ensures _ c.links-low.ensures) in
-    let x_is : root_of steep.site.inner ≡ Some x
-    = sym (inner_root steep.site low c.links-low.ensures) ∙ sym inner_is ∙ ap (option_map number) c.unwrap-x.ensures in
-    let P : Side → Type 0 = λ side. (site : Site (g.N.Nodes.at c.args.nodes.now) (option_map number c.args.root.now) side (number c.args.y) x)
-    → IsRotated site (g.N.Nodes.at c.rotate-2.new.nodes) (option_map number c.rotate-2.new.root) c.links-rank.result.rank c.links-low.result.rank in
-    let rotated = subst P c.other-other.ensures c.rotate-2.ensures.rotated (site_below steep.site x x_is) in
-    IsRepaired-double steep x x_is rotated (c.rotate-3.ensures.rotated (site_above steep.site x x_is rotated))
-    (middle_rank steep.site x x_is low (as_numbers number c.links-rank.result) c.links-low.ensures c.links-rank.ensures) (low_rank steep.site low c.links-low.ensures) (omega arith)
-
-pub returns-clause-account : goal.returns-clause-account
-returns-clause-account g c = λ order slack steep.
-    let number = g.N.Nodes.number in
-    let low = as_numbers number c.links-low.result in
-    let x = number c.unwrap-x.result in
-    let outer_is : c.rank_of-outer.result ≡ rank_of steep.site.outer
-    = rw (c.rank_of-outer.ensures, child-read number c.args.side c.links-low.result c.child.result (c.child.ensures _ c.links-low.ensures)) (outer_rank steep.site low c.links-low.ensures) in
-    let inner_is = child_other-read number c.args.side _ c.other-other.ensures c.links-low.result c.child-2.result (c.child-2.ensures _ c.links-low.ensures) in
-    let x_is : root_of steep.site.inner ≡ Some x
-    = sym (inner_root steep.site low c.links-low.ensures) ∙ sym inner_is ∙ ap (option_map number) c.unwrap-x.ensures in
-    let P : Side → Type 0 = λ side. (site : Site (g.N.Nodes.at c.args.nodes.now) (option_map number c.args.root.now) side (number c.args.y) x)
-    → IsRotated site (g.N.Nodes.at c.rotate-2.new.nodes) (option_map number c.rotate-2.new.root) c.links-rank.result.rank c.links-low.result.rank in
-    let rotated = subst P c.other-other.ensures c.rotate-2.ensures.rotated (site_below steep.site x x_is) in
-    IsSpelledWithin-double steep x x_is rotated (c.rotate-3.ensures.rotated (site_above steep.site x x_is rotated))
-    (middle_rank steep.site x x_is low (as_numbers number c.links-rank.result) c.links-low.ensures c.links-rank.ensures) (low_rank steep.site low c.links-low.ensures) (omega arith)
+pub returns : goal.returns
+returns g c = record {
+  after = λ o steep.
+      let number = g.N.Nodes.number in
+      let low = as_numbers number c.links-low.result in
+      let x = number c.unwrap-x.result in
+      let outer_is : c.rank_of-outer.result ≡ rank_of steep.site.outer
+      = rw (c.rank_of-outer.ensures, child-read number c.args.side c.links-low.result c.child.result (c.child.ensures _ c.links-low.ensures)) (outer_rank steep.site low c.links-low.ensures) in
+      let inner_is = child_other-read number c.args.side _ c.other-other.ensures c.links-low.result c.child-2.result (c.child-2.ensures _ c.links-low.ensures) in
+      let x_is : root_of steep.site.inner ≡ Some x
+      = sym (inner_root steep.site low c.links-low.ensures) ∙ sym inner_is ∙ ap (option_map number) c.unwrap-x.ensures in
+      let P : Side → Type 0 = λ side. (site : Site (g.N.Nodes.at c.args.nodes.now) (option_map number c.args.root.now) side (number c.args.y) x)
+      → IsRotated site (g.N.Nodes.at c.rotate-2.new.nodes) (option_map number c.rotate-2.new.root) c.links-rank.result.rank c.links-low.result.rank in
+      let rotated = subst P c.other-other.ensures c.rotate-2.ensures.rotated (site_below steep.site x x_is) in
+      IsRepaired-double steep x x_is rotated (c.rotate-3.ensures.rotated (site_above steep.site x x_is rotated))
+      (middle_rank steep.site x x_is low (as_numbers number c.links-rank.result) c.links-low.ensures c.links-rank.ensures) (low_rank steep.site low c.links-low.ensures) (omega arith);
+  account = λ o steep.
+      let number = g.N.Nodes.number in
+      let low = as_numbers number c.links-low.result in
+      let x = number c.unwrap-x.result in
+      let outer_is : c.rank_of-outer.result ≡ rank_of steep.site.outer
+      = rw (c.rank_of-outer.ensures, child-read number c.args.side c.links-low.result c.child.result (c.child.ensures _ c.links-low.ensures)) (outer_rank steep.site low c.links-low.ensures) in
+      let inner_is = child_other-read number c.args.side _ c.other-other.ensures c.links-low.result c.child-2.result (c.child-2.ensures _ c.links-low.ensures) in
+      let x_is : root_of steep.site.inner ≡ Some x
+      = sym (inner_root steep.site low c.links-low.ensures) ∙ sym inner_is ∙ ap (option_map number) c.unwrap-x.ensures in
+      let P : Side → Type 0 = λ side. (site : Site (g.N.Nodes.at c.args.nodes.now) (option_map number c.args.root.now) side (number c.args.y) x)
+      → IsRotated site (g.N.Nodes.at c.rotate-2.new.nodes) (option_map number c.rotate-2.new.root) c.links-rank.result.rank c.links-low.result.rank in
+      let rotated = subst P c.other-other.ensures c.rotate-2.ensures.rotated (site_below steep.site x x_is) in
+      IsSpelledWithin-double steep x x_is rotated (c.rotate-3.ensures.rotated (site_above steep.site x x_is rotated))
+      (middle_rank steep.site x x_is low (as_numbers number c.links-rank.result) c.links-low.ensures c.links-rank.ensures) (low_rank steep.site low c.links-low.ensures) (omega arith);
+  kept = cc;
+}

@@ -1,7 +1,7 @@
 use Rattle.std.proofs.Common.{ℕ, Some, ◌-◌, arith, ◌∙◌, ap, option_map, length, length-append, [], ◌∷◌}
 use Rattle.ord_tree.specs.Half.{half_rank}
 use Rattle.ord_tree.specs.declared.tree_links.TreeLinks.{TreeLinks}
-use Rattle.ord_tree.proofs.Rebuilding.{next-run, next-room, next-some, next-there, next-link-there, bare-met, IsUnopened-met}
+use Rattle.ord_tree.proofs.Rebuilding.{IsPlan-kept, next-run, next-room, next-some, next-there, next-link-there, bare-met, IsUnopened-met}
 use Rattle.ord_tree.proofs.rebuild.meet.Goals as goal
 
 pub set_links-requires : goal.set_links-requires
@@ -19,14 +19,18 @@ number_of-requires g c =
     let popped = rw c.unwrap-frame.ensures at c.pop.ensures.items in
     c.hang.ensures.occupied _ ∙ c.set_links.ensures.occupied _ ∙ next-there (next-run c.requires.2 c.requires.3 _ _ popped)
 
-pub returns-clause-met : goal.returns-clause-met
-returns-clause-met g c = λ s todo plan ready.
-    let at = g.N.Nodes.at in
-    let popped = rw c.unwrap-frame.ensures at c.pop.ensures.items in
-    let rank_is = c.rank_over-rank.ensures ∙ ap (half_rank c.unwrap-frame.result.len) (c.saturating_sub.ensures ∙ ap (λ (d : ℕ). c.args.top - d) c.len.ensures.value) in
-    rw c.number_of.ensures
-    (IsUnopened-met (next-run plan ready _ _ popped) (at c.set_links.new.self) (at c.hang.new.nodes) c.rank_over-rank.result rank_is
-    c.set_links.ensures.here c.set_links.ensures.elsewhere c.hang.ensures.here c.hang.ensures.elsewhere)
+pub returns-clause-step : goal.returns-clause-step
+returns-clause-step g c = record {
+  plan = λ s plan. IsPlan-kept (λ j. c.hang.ensures.occupied j ∙ c.set_links.ensures.occupied j) plan;
+  after = λ s todo plan ready.
+      let at = g.N.Nodes.at in
+      let popped = rw c.unwrap-frame.ensures at c.pop.ensures.items in
+      let rank_is = c.rank_over-rank.ensures ∙ ap (half_rank c.unwrap-frame.result.len) (c.saturating_sub.ensures ∙ ap (λ (d : ℕ). c.args.top - d) c.len.ensures.value) in
+      rw c.number_of.ensures
+      (IsUnopened-met (next-run plan ready _ _ popped) (at c.set_links.new.self) (at c.hang.new.nodes) c.rank_over-rank.result rank_is
+      c.set_links.ensures.here c.set_links.ensures.elsewhere c.hang.ensures.here c.hang.ensures.elsewhere);
+  kept = cc;
+}
 
 pub returns-clause-middle : goal.returns-clause-middle
 returns-clause-middle g c = ap Some c.number_of.ensures

@@ -58,12 +58,12 @@ pub loop-preserved : goal.loop-preserved
 loop-preserved g c =
     let number = g.N.Nodes.number in
     record {
-      plan = λ s plan. c.pass-finished.ensures.plan s (c.loop.invariant.plan s plan);
+      plan = λ s plan. c.pass-finished.ensures.step.plan s (c.loop.invariant.plan s plan);
       passing = λ s walked plan.
           let passing = c.loop.invariant.passing s walked plan in
           let is = target_of passing (number c.unwrap-x.result) (ap (option_map number) c.unwrap-x.ensures) in
-          IsPassing-next passing is c.requires.once (rw c.loop.invariant.kept at c.next-target.ensures) (c.pass-finished.ensures.passed s is.rest (c.loop.invariant.plan s plan) is.ready);
-      kept = c.pass-finished.ensures.kept ∙ c.loop.invariant.kept;
+          IsPassing-next passing is c.requires.once (rw c.loop.invariant.kept at c.next-target.ensures) (c.pass-finished.ensures.step.after s is.rest (c.loop.invariant.plan s plan) is.ready);
+      kept = c.pass-finished.ensures.step.kept ∙ c.loop.invariant.kept;
     }
 
 pub returns-clause-rebuilt : goal.returns-clause-rebuilt

@@ -10,17 +10,22 @@ returns-in_default-clause-memory g c = grind (arith, common_steps)
 pub returns-in-Ok-rest-clause-rests : goal.returns-in-Ok-rest-clause-rests
 returns-in-Ok-rest-clause-rests g c = grind (arith, common_steps)
 
-pub returns-in-Ok-rest-clause-names : goal.returns-in-Ok-rest-clause-names
-returns-in-Ok-rest-clause-names g c = grind (arith, common_steps)
-
-pub returns-in-Ok-rest-clause-taken : goal.returns-in-Ok-rest-clause-taken
-returns-in-Ok-rest-clause-taken g c = grind (arith, common_steps)
-
-pub returns-in-Ok-rest-clause-trades : goal.returns-in-Ok-rest-clause-trades
-returns-in-Ok-rest-clause-trades g c = grind (arith, common_steps)
-
-pub returns-in-Ok-rest-clause-sold : goal.returns-in-Ok-rest-clause-sold
-returns-in-Ok-rest-clause-sold g c = grind (arith, settled)
+pub returns-in-Ok-rest-clause-settles : goal.returns-in-Ok-rest-clause-settles
+returns-in-Ok-rest-clause-settles g c =
+    let q = c.args.other.now in
+    let amount : c.args.order.quantity - c.in-Ok.left ≡ dealt q c.args.order = omega (arith, rw c.limit-price.ensures at c.in-Ok.ensures.left) in
+    record {
+      names = grind (arith, common_steps);
+      taken = grind (arith, common_steps);
+      trades = grind (arith, common_steps);
+      bought = grind (arith, settled);
+      sold = grind (arith, settled);
+      others = λ p untraded. rw (c.take.ensures, amount) (behind-others q.side p (dealt q c.args.order) q.orders c.offer.ensures.sound.of_side c.offer.ensures.sound.some_left untraded);
+      limited = deals-limited q (limit_of c.args.order.side c.args.order.kind) c.args.order.quantity c.offer.ensures.sound.in_order;
+      own_kept = tt;
+      other_kept = tt;
+      trades_kept = tt;
+    }
 
 pub returns-in-Err-clause-full : goal.returns-in-Err-clause-full
 returns-in-Err-clause-full g c = grind (arith, common_steps)
@@ -28,16 +33,6 @@ returns-in-Err-clause-full g c = grind (arith, common_steps)
 pub returns-in-Ok-rest-clause-own_others : goal.returns-in-Ok-rest-clause-own_others
 returns-in-Ok-rest-clause-own_others g c =
     rests-others c.args.own.now c.rest.new.own c.limit-price.result c.rest_of-2.result c.args.order.tag c.in-Ok-rest.id c.in-Ok-rest.ensures.rests
-
-pub returns-in-Ok-rest-clause-others : goal.returns-in-Ok-rest-clause-others
-returns-in-Ok-rest-clause-others g c = λ p untraded.
-    let q = c.args.other.now in
-    let amount : c.args.order.quantity - c.in-Ok.left ≡ dealt q c.args.order = omega (arith, rw c.limit-price.ensures at c.in-Ok.ensures.left) in
-    rw (c.take.ensures, amount) (behind-others q.side p (dealt q c.args.order) q.orders c.offer.ensures.sound.of_side c.offer.ensures.sound.some_left untraded)
-
-pub returns-in-Ok-rest-clause-limited : goal.returns-in-Ok-rest-clause-limited
-returns-in-Ok-rest-clause-limited g c =
-    deals-limited c.args.other.now (limit_of c.args.order.side c.args.order.kind) c.args.order.quantity c.offer.ensures.sound.in_order
 
 pub returns-in-Ok-rest-clause-quiet : goal.returns-in-Ok-rest-clause-quiet
 returns-in-Ok-rest-clause-quiet g c = λ none.

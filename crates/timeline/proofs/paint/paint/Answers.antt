@@ -1,40 +1,39 @@
 use Rattle.std.proofs.Common.{subst, Option, ℕ, IfSome, ◌<◌}
 use Rattle.timeline.specs.Layout.{changes_of}
-use Rattle.timeline.proofs.Painting.{at_put, cleared, painted-none, painted-some, painted-refused, painted-kept, stands}
+use Rattle.timeline.proofs.Painting.{IsCleared, at_put, cleared, painted-none, painted-some, painted-refused, painted-kept, stands}
+use Rattle.timeline.proofs.paint.paint.Given.{Over}
 use Rattle.timeline.proofs.paint.paint.Goals as goal
+use Rattle.timeline.proofs.paint.paint.Goals.{After-take_over-taken}
+
+-- The change stands between those that were left.
+cleared-put : (g : Over) (c : After-take_over-taken g)
+    → IsCleared (changes_of c.args.changes.now) c.args.from c.args.until c.args.value c.take_over-taken.result c.take_over-taken.new.changes.entries c.insert_at-p.result
+cleared-put g c =
+    let inserted = c.insert_at-p.ensures.inserted in
+    let over = c.take_over-taken.ensures.taken (at_put c.args.changes.now c.insert_at-p.new.changes c.insert_at-p.result c.args.from c.args.until c.args.value inserted c.requires.rising c.requires.later) in
+    cleared c.args.changes.now c.insert_at-p.new.changes c.insert_at-p.result c.args.from c.args.until c.args.value inserted c.requires.rising c.requires.later
+    c.take_over-taken.result c.take_over-taken.new.changes.entries over
 
 pub returns-in-Some-clause-painted : goal.returns-in-Some-clause-painted
 returns-in-Some-clause-painted g c =
-    let inserted = c.insert_at-p.ensures.inserted in
-    let over = c.take_over-taken.ensures.taken (at_put c.args.changes.now c.insert_at-p.new.changes c.insert_at-p.result c.args.from c.args.until c.args.value inserted c.requires.rising c.requires.later) in
-    let clear = cleared c.args.changes.now c.insert_at-p.new.changes c.insert_at-p.result c.args.from c.args.until c.args.value inserted c.requires.rising c.requires.later
-    c.take_over-taken.result c.take_over-taken.new.changes.entries over in
+    let clear = cleared-put g (goal.at.returns-in-Some-clause-painted g c).After-take_over-taken in
     let ordered = subst (λ (o : Option ℕ). IfSome o (λ u. c.args.from < u)) c.in-Some.is c.requires.later in
     painted-some (changes_of c.args.changes.now) c.requires.rising c.args.from c.args.until c.args.value c.take_over-taken.result c.take_over-taken.new.changes.entries c.insert_at-p.result clear c.in-Some.until c.in-Some.is ordered c.args.spare c.requires.spare (changes_of c.finish.new.changes) c.finish.result
     (c.finish.ensures.finished (stands (changes_of c.args.changes.now) c.requires.rising c.args.from c.args.until c.args.value c.take_over-taken.result c.take_over-taken.new.changes.entries c.insert_at-p.result clear c.in-Some.until c.in-Some.is ordered))
 
 pub returns-in-Some-clause-refused : goal.returns-in-Some-clause-refused
 returns-in-Some-clause-refused g c =
-    let inserted = c.insert_at-p.ensures.inserted in
-    let over = c.take_over-taken.ensures.taken (at_put c.args.changes.now c.insert_at-p.new.changes c.insert_at-p.result c.args.from c.args.until c.args.value inserted c.requires.rising c.requires.later) in
-    let clear = cleared c.args.changes.now c.insert_at-p.new.changes c.insert_at-p.result c.args.from c.args.until c.args.value inserted c.requires.rising c.requires.later
-    c.take_over-taken.result c.take_over-taken.new.changes.entries over in
+    let clear = cleared-put g (goal.at.returns-in-Some-clause-refused g c).After-take_over-taken in
     let ordered = subst (λ (o : Option ℕ). IfSome o (λ u. c.args.from < u)) c.in-Some.is c.requires.later in
     painted-refused (changes_of c.args.changes.now) c.requires.rising c.args.from c.args.until c.args.value c.take_over-taken.result c.take_over-taken.new.changes.entries c.insert_at-p.result clear c.in-Some.until c.in-Some.is ordered g.V.Clone.is_infallible c.args.spare c.finish.result (c.finish.ensures.refused clear.at)
 
 pub returns-in-Some-clause-err : goal.returns-in-Some-clause-err
 returns-in-Some-clause-err g c =
-    let inserted = c.insert_at-p.ensures.inserted in
-    let over = c.take_over-taken.ensures.taken (at_put c.args.changes.now c.insert_at-p.new.changes c.insert_at-p.result c.args.from c.args.until c.args.value inserted c.requires.rising c.requires.later) in
-    let clear = cleared c.args.changes.now c.insert_at-p.new.changes c.insert_at-p.result c.args.from c.args.until c.args.value inserted c.requires.rising c.requires.later
-    c.take_over-taken.result c.take_over-taken.new.changes.entries over in
+    let clear = cleared-put g (goal.at.returns-in-Some-clause-err g c).After-take_over-taken in
     let ordered = subst (λ (o : Option ℕ). IfSome o (λ u. c.args.from < u)) c.in-Some.is c.requires.later in
     painted-kept (changes_of c.args.changes.now) c.requires.rising c.args.from c.args.until c.args.value c.take_over-taken.result c.take_over-taken.new.changes.entries c.insert_at-p.result clear c.in-Some.until c.in-Some.is ordered g.V.Clone.is_infallible c.args.spare c.finish.new.changes.entries c.finish.result (c.finish.ensures.refused clear.at) (c.finish.ensures.err clear.at)
 
 pub returns-in-None-clause-painted : goal.returns-in-None-clause-painted
 returns-in-None-clause-painted g c =
-    let inserted = c.insert_at-p.ensures.inserted in
-    let over = c.take_over-taken.ensures.taken (at_put c.args.changes.now c.insert_at-p.new.changes c.insert_at-p.result c.args.from c.args.until c.args.value inserted c.requires.rising c.requires.later) in
-    let clear = cleared c.args.changes.now c.insert_at-p.new.changes c.insert_at-p.result c.args.from c.args.until c.args.value inserted c.requires.rising c.requires.later
-    c.take_over-taken.result c.take_over-taken.new.changes.entries over in
-    painted-none (changes_of c.args.changes.now) c.requires.rising c.args.from c.args.until c.args.value c.take_over-taken.result c.take_over-taken.new.changes.entries c.insert_at-p.result clear c.in-None.is c.join_before.new.changes.entries (c.join_before.ensures.joined clear.at)
+    let clear = cleared-put g (goal.at.returns-in-None-clause-painted g c).After-take_over-taken in
+    painted-none (changes_of c.args.changes.now) c.requires.rising c.args.from c.args.until c.args.value c.take_over-taken.result c.take_over-taken.new.changes.entries c.insert_at-p.result clear c.in-None.is c.join_before.new.changes.entries (c.join_before.ensures.taken clear.at)

@@ -1,4 +1,5 @@
-use Rattle.std.proofs.Common.{◌∙◌, arith}
+use Rattle.std.proofs.Common.{◌∙◌, arith, rules}
+use Rattle.std.proofs.lemmas.Grind.{common_steps}
 use Rattle.timeline.proofs.Taking.{at_now, taking-more, taking-done}
 use Rattle.timeline.proofs.paint.take_behind.Goals as goal
 
@@ -10,8 +11,12 @@ loop-value-preserved g c = (
   omega (arith, c.in-Some.ensures.count, c.loop-value.invariant.2),
 )
 
-pub returns-clause-taken : goal.returns-clause-taken
-returns-clause-taken g c at =
-    taking-done c.args.until c.args.changes.now.entries c.args.p at c.loop-value.moved c.loop-value.changes.entries (c.loop-value.invariant.0 at) c.take_next.new.changes.entries
-    (c.in_default.ensures.taken (at_now c.args.until c.args.changes.now.entries c.args.p at c.loop-value.moved c.loop-value.changes.entries (c.loop-value.invariant.0 at)))
-    c.len.ensures.sound.sorted
+pub returns : goal.returns
+returns g c = record {
+  taken = λ at.
+      taking-done c.args.until c.args.changes.now.entries c.args.p at c.loop-value.moved c.loop-value.changes.entries (c.loop-value.invariant.0 at) c.take_next.new.changes.entries
+      (c.in_default.ensures.taken (at_now c.args.until c.args.changes.now.entries c.args.p at c.loop-value.moved c.loop-value.changes.entries (c.loop-value.invariant.0 at)))
+      c.len.ensures.sound.sorted;
+  capacity = search rules;
+  count = grind (arith, common_steps);
+}

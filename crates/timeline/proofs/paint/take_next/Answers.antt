@@ -13,4 +13,4 @@ returns-then-not-is_reached-clause-taken g c at =
 pub returns-in-Some-clause-taken : goal.returns-in-Some-clause-taken
 returns-in-Some-clause-taken g c at =
     takes-next c.args.changes.now.entries c.len.ensures.sound.distinct c.args.p at c.args.until c.in_ok-next.next c.in_ok-time.field-0.now c.in_ok-next.ensures.value c.in_ok-time.ensures (c.is_reached.ensures.yes c.if-not-is_reached.false)
-    (c.in-Some.field-0-0, c.in-Some.value) c.in-Some.ensures.value c.remove.new.self.entries (ap (λ a. a.entries) c.in-Some.ensures.gone)
+    (c.in-Some.field-0-0, c.in-Some.value) c.in-Some.ensures.value c.remove.new.self.entries (ap (λ a. a.entries) c.in-Some.ensures.removes.gone)

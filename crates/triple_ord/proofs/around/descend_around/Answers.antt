@@ -24,11 +24,10 @@ loop-at-preserved g c =
           (step-on _ c.args.probe.now.tree.now c.root-at.ensures.distinct _ _ _ _ _ _ d _ _ _ _ seen.there c.compare_around-p.result.1 tt seen.answered seen.unequal);
     }
 
-pub returns-clause-found : goal.returns-clause-found
-returns-clause-found g c =
-    descent-around _ _ _ c.root-at.ensures.distinct _ _ _ _ _ _ (rw c.in_default.is at c.loop-at.invariant.descended)
-
-pub returns-clause-visits : goal.returns-clause-visits
-returns-clause-visits g c =
+pub returns : goal.returns
+returns g c =
     let d = c.loop-at.invariant.descended in
-    within_bounds _ c.root-at.ensures.sound c.visits_law.ensures _ (omega (arith, d.descending.few, d.count))
+    record {
+      found = descent-around _ _ _ c.root-at.ensures.distinct _ _ _ _ _ _ (rw c.in_default.is at d);
+      visits = within_bounds _ c.root-at.ensures.sound c.visits_law.ensures _ (omega (arith, d.descending.few, d.count));
+    }

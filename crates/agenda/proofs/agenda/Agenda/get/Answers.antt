@@ -1,4 +1,4 @@
-use Rattle.std.proofs.Common.{rules, sym, ◌∙◌}
+use Rattle.std.proofs.Common.{rules}
 use Rattle.agenda.proofs.Leaving.{job_of-found}
 use Rattle.agenda.proofs.agenda.Agenda.get.Goals as goal
 

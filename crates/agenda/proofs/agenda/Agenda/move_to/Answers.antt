@@ -4,10 +4,14 @@ use Rattle.std.proofs.Common.{rules}
 use Rattle.agenda.proofs.{Moving.arena-moved, Moving.rescheduled, Moving.moves-moved, Moving.count-moved, Leaving.job_of-found}
 use Rattle.agenda.proofs.agenda.Agenda.move_to.Goals as goal
 
-pub returns-in_err-moved-clause-value : goal.returns-in_err-moved-clause-value
-returns-in_err-moved-clause-value g c =
+pub returns-in_err-moved-clause-gives : goal.returns-in_err-moved-clause-gives
+returns-in_err-moved-clause-gives g c =
     let none = sym c.remove.ensures.removal.value ∙ sym c.allow.ensures ∙ c.in_err-moved.was in
-    rw (← c.self.view_is, ← c.ticket.view_is) (ap is_some c.from_residual.ensures ∙ sym (ap is_some (job_of-found _ c.len.ensures.sound.distinct _ ∙ none)))
+    record {
+      value = rw (← c.self.view_is, ← c.ticket.view_is) (ap is_some c.from_residual.ensures ∙ sym (ap is_some (job_of-found _ c.len.ensures.sound.distinct _ ∙ none)));
+      step = step-stays _ _ (search rules);
+      count = search rules;
+    }
 
 pub invariant_of-self-2 : goal.invariant_of-self-2
 invariant_of-self-2 g c =
@@ -15,11 +19,6 @@ invariant_of-self-2 g c =
     arena-moved c.self.inside.jobs c.remove.new.self c.put_within-pointer.new.jobs c.ticket.inside.pointer c.put_within-pointer.result c.args.deadline c.in_ok-moved.moved
     c.len.ensures.sound c.self.invariant (sym c.remove.ensures.removal.value ∙ some) (rw some at c.remove.ensures.removal.removed) c.put_within-pointer.ensures.sound
     (rw c.into_k_v-job.ensures at c.put_within-pointer.ensures.inserted)
-
-pub returns-clause-value : goal.returns-clause-value
-returns-clause-value g c =
-    let some = sym c.allow.ensures ∙ c.in_ok-moved.was in
-    rw (← c.self.view_is, ← c.ticket.view_is) (sym (ap is_some (job_of-found _ c.len.ensures.sound.distinct _ ∙ sym c.remove.ensures.removal.value ∙ some)))
 
 pub returns-clause-moved : goal.returns-clause-moved
 returns-clause-moved g c =
@@ -35,19 +34,15 @@ returns-clause-moves g c =
     c.len.ensures.sound c.self.invariant (sym c.remove.ensures.removal.value ∙ some) (rw some at c.remove.ensures.removal.removed) c.put_within-pointer.ensures.sound
     (rw c.into_k_v-job.ensures at c.put_within-pointer.ensures.inserted))
 
-pub returns-clause-count : goal.returns-clause-count
-returns-clause-count g c =
+pub returns-clause-gives : goal.returns-clause-gives
+returns-clause-gives g c =
     let some = sym c.allow.ensures ∙ c.in_ok-moved.was in
-    rw (← c.self.view_is) (count-moved c.self.inside.jobs c.remove.new.self c.put_within-pointer.new.jobs c.ticket.inside.pointer c.put_within-pointer.result c.args.deadline c.in_ok-moved.moved
-    c.len.ensures.sound c.self.invariant (sym c.remove.ensures.removal.value ∙ some) (rw some at c.remove.ensures.removal.removed) c.put_within-pointer.ensures.sound
-    (rw c.into_k_v-job.ensures at c.put_within-pointer.ensures.inserted))
-
-pub returns-clause-step : goal.returns-clause-step
-returns-clause-step g c =
-    let some = sym c.allow.ensures ∙ c.in_ok-moved.was in
-    rw (← c.self.view_is) (step-renews _ _ _ _ _ (rescheduled c.self.inside.jobs c.remove.new.self c.put_within-pointer.new.jobs c.ticket.inside.pointer c.put_within-pointer.result c.args.deadline c.in_ok-moved.moved
-    c.len.ensures.sound c.self.invariant (sym c.remove.ensures.removal.value ∙ some) (rw some at c.remove.ensures.removal.removed) c.put_within-pointer.ensures.sound
-    (rw c.into_k_v-job.ensures at c.put_within-pointer.ensures.inserted)))
-
-pub returns-in_err-moved-clause-step : goal.returns-in_err-moved-clause-step
-returns-in_err-moved-clause-step g c = step-stays _ _ (search rules)
+    let removed = rw some at c.remove.ensures.removal.removed in
+    let inserted = rw c.into_k_v-job.ensures at c.put_within-pointer.ensures.inserted in
+    record {
+      value = rw (← c.self.view_is, ← c.ticket.view_is) (sym (ap is_some (job_of-found _ c.len.ensures.sound.distinct _ ∙ sym c.remove.ensures.removal.value ∙ some)));
+      step = rw (← c.self.view_is) (step-renews _ _ _ _ _ (rescheduled c.self.inside.jobs c.remove.new.self c.put_within-pointer.new.jobs c.ticket.inside.pointer c.put_within-pointer.result c.args.deadline c.in_ok-moved.moved
+          c.len.ensures.sound c.self.invariant (sym c.remove.ensures.removal.value ∙ some) removed c.put_within-pointer.ensures.sound inserted));
+      count = rw (← c.self.view_is) (count-moved c.self.inside.jobs c.remove.new.self c.put_within-pointer.new.jobs c.ticket.inside.pointer c.put_within-pointer.result c.args.deadline c.in_ok-moved.moved
+          c.len.ensures.sound c.self.invariant (sym c.remove.ensures.removal.value ∙ some) removed c.put_within-pointer.ensures.sound inserted);
+    }

@@ -23,19 +23,19 @@ pub returns-in_err-deadline-clause-value : goal.returns-in_err-deadline-clause-v
 returns-in_err-deadline-clause-value c =
     let ticket = c.in_ok-ticket.field-0.now in
     let here = found c.args.self.now c.requires c.args.id ticket c.len.ensures.sound.distinct (sym c.in_ok-ticket.ensures.value) in
-    let e = c.in_err-deadline.ensures.value ∙ here.job in absurd (cc)
+    let e = c.in_err-deadline.ensures.takes.value ∙ here.job in absurd (cc)
 
 pub returns-in_err-deadline-clause-plan : goal.returns-in_err-deadline-clause-plan
 returns-in_err-deadline-clause-plan c =
     let ticket = c.in_ok-ticket.field-0.now in
     let here = found c.args.self.now c.requires c.args.id ticket c.len.ensures.sound.distinct (sym c.in_ok-ticket.ensures.value) in
-    let e = c.in_err-deadline.ensures.value ∙ here.job in absurd (cc)
+    let e = c.in_err-deadline.ensures.takes.value ∙ here.job in absurd (cc)
 
 pub returns-clause-value : goal.returns-clause-value
 returns-clause-value c =
     let ticket = c.in_ok-ticket.field-0.now in
     let here = found c.args.self.now c.requires c.args.id ticket c.len.ensures.sound.distinct (sym c.in_ok-ticket.ensures.value) in
-    ap (λ o. option_map told_entry o) (c.in_ok-deadline.ensures.value ∙ here.job)
+    ap (λ o. option_map told_entry o) (c.in_ok-deadline.ensures.takes.value ∙ here.job)
     ∙ sym (ap (λ (o : Option Job). option_map told o) here.at)
 
 pub returns-clause-plan : goal.returns-clause-plan
@@ -44,7 +44,7 @@ returns-clause-plan c =
     let ticket = c.in_ok-ticket.field-0.now in
     let some = sym c.in_ok-ticket.ensures.value in
     let others = without_is old c.requires c.args.id ticket c.len.ensures.sound.distinct some in
-    let gone = ap (λ a. a.jobs) c.in_ok-deadline.ensures.gone in
+    let gone = ap (λ a. a.jobs) c.in_ok-deadline.ensures.takes.gone in
     record {
       linked = removed old c.requires c.args.id ticket c.len.ensures.sound.distinct some
           (tree.get nat_cmp c.remove.new.self) c.cancel.new.self.jobs gone

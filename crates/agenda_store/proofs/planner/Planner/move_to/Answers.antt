@@ -10,7 +10,7 @@ pub returns-in-Some-clause-value : goal.returns-in-Some-clause-value
 returns-in-Some-clause-value c =
     let old = c.args.self.now in
     let here = found old c.requires c.args.id c.in-Some.ticket.now c.len.ensures.sound.distinct (sym c.in-Some.ensures.value) in
-    c.reschedule.ensures.value ∙ ap is_some here.job ∙ sym (ap (λ (o : Option Job). is_some o) here.at)
+    c.reschedule.ensures.gives.value ∙ ap is_some here.job ∙ sym (ap (λ (o : Option Job). is_some o) here.at)
 
 pub returns-in-Some-clause-plan : goal.returns-in-Some-clause-plan
 returns-in-Some-clause-plan c =
@@ -18,7 +18,7 @@ returns-in-Some-clause-plan c =
     let t = c.in-Some.ticket.now in
     let some = sym c.in-Some.ensures.value in
     let here = found old c.requires c.args.id t c.len.ensures.sound.distinct some in
-    let yes : c.reschedule.result ≡ true = c.reschedule.ensures.value ∙ ap is_some here.job in
+    let yes : c.reschedule.result ≡ true = c.reschedule.ensures.gives.value ∙ ap is_some here.job in
     let moves = subst (λ (b : Bool). OnTrue b (MovesDeadline old.agenda t c.args.deadline c.reschedule.new.self)) yes c.reschedule.ensures.moved in
     record {
       linked = relocated old c.requires c.args.id t c.len.ensures.sound.distinct some c.args.deadline c.reschedule.new.self moves;

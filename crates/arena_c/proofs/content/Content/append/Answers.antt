@@ -10,6 +10,6 @@ loop-i-preserved c =
     let ks = c.args.keys.now in let vs = c.args.values.now in let i = c.loop-i.i in let old = c.loop-i.self-inside.pairs in let new = c.insert.new.self in
     let in_ks : i < length ks = omega (arith, c.loop-i-test.true) in let in_vs : i < length vs = omega (arith, c.loop-i-test.true, c.requires.lengths) in
     let same : to_z w64 (of_z w64 (get_or ks i (pos 0))) ≡ get_or ks i (pos 0) = search rules in
-    let put = subst (λ (k : ℤ). Inserts int_cmp most_entries old c.in-Ok.field-0 k (get_or vs i 0) new) same c.in-Ok.ensures.ok in
+    let put = subst (λ (k : ℤ). Inserts int_cmp most_entries old c.in-Ok.field-0 k (get_or vs i 0) new) same c.in-Ok.ensures.inserts.ok in
     let step = append-step old new c.in-Ok.field-0 _ ks vs i in_ks in_vs put c.loop-i.invariant.order c.loop-i.invariant.held in
-    record { held = step.0; order = step.1; counted = omega (arith, c.in-Ok.ensures.count, c.loop-i.invariant.counted); capacity = room-kept (count old) old.capacity _ new.capacity put.capacity (omega (arith, in_ks, c.loop-i.invariant.counted, c.loop-i.invariant.capacity, c.requires.room)) ∙ c.loop-i.invariant.capacity; generation = put.generation ∙ c.loop-i.invariant.generation }
+    record { held = step.0; order = step.1; counted = omega (arith, c.in-Ok.ensures.inserts.count, c.loop-i.invariant.counted); capacity = room-kept (count old) old.capacity _ new.capacity put.capacity (omega (arith, in_ks, c.loop-i.invariant.counted, c.loop-i.invariant.capacity, c.requires.room)) ∙ c.loop-i.invariant.capacity; generation = put.generation ∙ c.loop-i.invariant.generation }

@@ -14,8 +14,8 @@ loop-i-preserved c =
     let found : entry_found a (first_pointer a.entries) ≡ Some e =
     sym (found-at (λ (b : Arena). first_pointer b.entries) a a c.self.inside.pairs c.first.result c.entry_found-first.result refl c.self.view_is c.first.ensures.value c.entry_found-first.ensures) ∙ c.in-Some-Some.is-0 in
     let due : first_item_until int_cmp k a.entries ≡ Some c.in-Some-Some.field-0-1 = sym (c.pop_first_until.ensures.value ∙ ap (λ (b : Arena). first_item_until int_cmp k b.entries) c.self.view_is) ∙ c.in-Some-Some.is-1 in
-    let gone : new.entries ≡ behind_first a.entries = ap (λ (b : Arena). b.entries) c.in-Some-Some.ensures.gone ∙ ap (λ (b : Arena). behind_first b.entries) c.self.view_is in
-    let kept : new.capacity ≡ a.capacity = ap (λ (b : Arena). b.capacity) c.in-Some-Some.ensures.gone ∙ ap (λ (b : Arena). b.capacity) c.self.view_is in
+    let gone : new.entries ≡ behind_first a.entries = ap (λ (b : Arena). b.entries) c.in-Some-Some.ensures.removes.gone ∙ ap (λ (b : Arena). behind_first b.entries) c.self.view_is in
+    let kept : new.capacity ≡ a.capacity = ap (λ (b : Arena). b.capacity) c.in-Some-Some.ensures.removes.gone ∙ ap (λ (b : Arena). b.capacity) c.self.view_is in
     let s = pop-step a k e c.in-Some-Some.field-0-1 found due in
     let cut : drop n old.entries ≡ s.entry ∷ behind_first a.entries = sym c.loop-i.invariant.left ∙ s.cut in
     let after = drop-some old.entries (behind_first a.entries) s.entry n cut in

@@ -1,15 +1,9 @@
 use Rattle.std.proofs.Common.{refl}
-use Rattle.ord_tree.proofs.Entries.{slots_of-changed, slots_of-elsewhere, slots_of-occupied, bare-written}
+use Rattle.ord_tree.proofs.Entries.{Writes-entry}
 use Rattle.ord_tree.proofs.store.ChainArenaSimpleOrdArenaNodeNodes.set_rank.Goals as goal
 
-pub returns-clause-here : goal.returns-clause-here
-returns-clause-here g c = rw (← c.get.ensures.value) (slots_of-changed c.args.self.now _ _ _ c.pair_mut-pair.ensures.value (λ m. record m { rank = c.args.rank }) refl)
-
-pub returns-clause-elsewhere : goal.returns-clause-elsewhere
-returns-clause-elsewhere g c = rw (← c.get.ensures.value) (slots_of-elsewhere c.args.self.now _ _ _ c.pair_mut-pair.ensures.value)
-
-pub returns-clause-occupied : goal.returns-clause-occupied
-returns-clause-occupied g c = slots_of-occupied c.args.self.now _ _ _ c.pair_mut-pair.ensures.value
-
-pub returns-clause-kept : goal.returns-clause-kept
-returns-clause-kept g c = bare-written c.args.self.now _ _ _ c.pair_mut-pair.ensures.value refl
+pub returns : goal.returns
+returns g c =
+    rw (← c.get.ensures.value) (Writes-entry c.args.self.now _ _ _ c.pair_mut-pair.ensures.value refl
+    (λ m. record m { rank = c.args.rank })
+    refl)

@@ -3,6 +3,9 @@ use Rattle.ord_tree.specs.Node.{bare}
 use Rattle.ord_tree.proofs.Compressing.{bare-canonical}
 use Rattle.ord_tree.proofs.tree.OrdTree.compress_canonical.Goals as goal
 
-pub returns-clause-after : goal.returns-clause-after
-returns-clause-after g c =
-    rw (← c.self.view_is) (c.rebuild_over.ensures.kept ∙ ap bare c.compress_canonical-overflow.ensures.after ∙ bare-canonical c.self.inside.chain _)
+pub returns : goal.returns
+returns g c = record {
+  after = rw (← c.self.view_is) (c.rebuild_over.ensures.kept ∙ ap bare c.compress_canonical-overflow.ensures.after ∙ bare-canonical c.self.inside.chain _);
+  shape = c.rebuild_over.ensures.rebuilt;
+  overflow = rw (← c.self.view_is) c.compress_canonical-overflow.ensures.overflow;
+}

@@ -7,7 +7,10 @@ use Rattle.ord_tree.proofs.tree.OrdTree.inc_generation.Goals as goal
 pub invariant_of-self : goal.invariant_of-self
 invariant_of-self g c = IsLaidOut-entries c.self.inside.chain c.inc_generation.new.self _ (ap (λ (c : Chain _). c.entries) c.inc_generation.ensures.after) c.self.invariant
 
-pub returns-clause-after : goal.returns-clause-after
-returns-clause-after g c =
+pub returns : goal.returns
+returns g c =
     let root = c.self.inside.root in
-    rw (← c.self.view_is) (ap (λ (c : Chain _). tree_of c (option_map g.P.Inx.BasePtrInx.number root)) c.inc_generation.ensures.after)
+    rw (← c.self.view_is) (record {
+      after = ap (λ (c : Chain _). tree_of c (option_map g.P.Inx.BasePtrInx.number root)) c.inc_generation.ensures.after;
+      overflow = c.inc_generation.ensures.overflow;
+    })

@@ -24,7 +24,7 @@ move_beside-requires-clause-entry g c =
     let held = rw (← c.self.view_is) at c.requires.entry in
     let out = taken_out c.self.inside.chain (option_map number c.self.inside.root) _ c.self.invariant (sym (is_some-bare c.self.inside.chain.entries _) ∙ held)
     g.P.Inx.BasePtrInx.most g.P.Gen.BasePtrGen.greatest c.len.ensures.sound g.met.P.Inx.BasePtrInx.fits _ (rw c.node_at-z.ensures at c.neighbour-before.ensures)
-    c.detach.new.nodes (option_map number c.detach.new.root) c.detach.ensures.kept (rw c.node_at-z.ensures at c.detach.ensures.built) (rw c.node_at-z.ensures at c.detach.ensures.backs)
+    c.detach.new.nodes (option_map number c.detach.new.root) c.detach.ensures.kept (rw c.node_at-z.ensures at c.detach.ensures.after) (rw c.node_at-z.ensures at c.detach.ensures.backs)
     (rw c.node_at-z.ensures at c.detach.ensures.account) in
     still_in out
 
@@ -34,7 +34,7 @@ move_beside-requires-clause-place g c =
     let held = rw (← c.self.view_is) at c.requires.entry in
     let out = taken_out c.self.inside.chain (option_map number c.self.inside.root) _ c.self.invariant (sym (is_some-bare c.self.inside.chain.entries _) ∙ held)
     g.P.Inx.BasePtrInx.most g.P.Gen.BasePtrGen.greatest c.len.ensures.sound g.met.P.Inx.BasePtrInx.fits _ (rw c.node_at-z.ensures at c.neighbour-before.ensures)
-    c.detach.new.nodes (option_map number c.detach.new.root) c.detach.ensures.kept (rw c.node_at-z.ensures at c.detach.ensures.built) (rw c.node_at-z.ensures at c.detach.ensures.backs)
+    c.detach.new.nodes (option_map number c.detach.new.root) c.detach.ensures.kept (rw c.node_at-z.ensures at c.detach.ensures.after) (rw c.node_at-z.ensures at c.detach.ensures.backs)
     (rw c.node_at-z.ensures at c.detach.ensures.account) in
     let can = rw (← c.self.view_is) at c.requires.place in
     can_place out number c.args.at can c.kind_of.result c.kind_of.ensures
@@ -45,7 +45,7 @@ node_at-y-requires g c =
     let held = rw (← c.self.view_is) at c.requires.entry in
     let out = taken_out c.self.inside.chain (option_map number c.self.inside.root) _ c.self.invariant (sym (is_some-bare c.self.inside.chain.entries _) ∙ held)
     g.P.Inx.BasePtrInx.most g.P.Gen.BasePtrGen.greatest c.len.ensures.sound g.met.P.Inx.BasePtrInx.fits _ (rw c.node_at-z.ensures at c.neighbour-before.ensures)
-    c.detach.new.nodes (option_map number c.detach.new.root) c.detach.ensures.kept (rw c.node_at-z.ensures at c.detach.ensures.built) (rw c.node_at-z.ensures at c.detach.ensures.backs)
+    c.detach.new.nodes (option_map number c.detach.new.root) c.detach.ensures.kept (rw c.node_at-z.ensures at c.detach.ensures.after) (rw c.node_at-z.ensures at c.detach.ensures.backs)
     (rw c.node_at-z.ensures at c.detach.ensures.account) in
     let can = rw (← c.self.view_is) at c.requires.place in
     y_in out number c.args.at can c.move_beside.new.self c.kind_of.result c.kind_of.ensures c.move_beside.ensures
@@ -56,7 +56,7 @@ branch_across-branch-requires-clause-beside g c =
     let held = rw (← c.self.view_is) at c.requires.entry in
     let out = taken_out c.self.inside.chain (option_map number c.self.inside.root) _ c.self.invariant (sym (is_some-bare c.self.inside.chain.entries _) ∙ held)
     g.P.Inx.BasePtrInx.most g.P.Gen.BasePtrGen.greatest c.len.ensures.sound g.met.P.Inx.BasePtrInx.fits _ (rw c.node_at-z.ensures at c.neighbour-before.ensures)
-    c.detach.new.nodes (option_map number c.detach.new.root) c.detach.ensures.kept (rw c.node_at-z.ensures at c.detach.ensures.built) (rw c.node_at-z.ensures at c.detach.ensures.backs)
+    c.detach.new.nodes (option_map number c.detach.new.root) c.detach.ensures.kept (rw c.node_at-z.ensures at c.detach.ensures.after) (rw c.node_at-z.ensures at c.detach.ensures.backs)
     (rw c.node_at-z.ensures at c.detach.ensures.account) in
     let can = rw (← c.self.view_is) at c.requires.place in
     rw c.node_at-y.ensures (y_in out number c.args.at can c.move_beside.new.self c.kind_of.result c.kind_of.ensures c.move_beside.ensures)
@@ -67,7 +67,7 @@ branch_across-branch-requires-clause-leaf g c =
     let held = rw (← c.self.view_is) at c.requires.entry in
     let out = taken_out c.self.inside.chain (option_map number c.self.inside.root) _ c.self.invariant (sym (is_some-bare c.self.inside.chain.entries _) ∙ held)
     g.P.Inx.BasePtrInx.most g.P.Gen.BasePtrGen.greatest c.len.ensures.sound g.met.P.Inx.BasePtrInx.fits _ (rw c.node_at-z.ensures at c.neighbour-before.ensures)
-    c.detach.new.nodes (option_map number c.detach.new.root) c.detach.ensures.kept (rw c.node_at-z.ensures at c.detach.ensures.built) (rw c.node_at-z.ensures at c.detach.ensures.backs)
+    c.detach.new.nodes (option_map number c.detach.new.root) c.detach.ensures.kept (rw c.node_at-z.ensures at c.detach.ensures.after) (rw c.node_at-z.ensures at c.detach.ensures.backs)
     (rw c.node_at-z.ensures at c.detach.ensures.account) in
     let can = rw (← c.self.view_is) at c.requires.place in
     rw c.node_at-z.ensures (x_in out number c.args.at can c.move_beside.new.self c.kind_of.result c.kind_of.ensures c.move_beside.ensures)
@@ -78,7 +78,7 @@ branch_across-branch-requires-clause-aside g c =
     let held = rw (← c.self.view_is) at c.requires.entry in
     let out = taken_out c.self.inside.chain (option_map number c.self.inside.root) _ c.self.invariant (sym (is_some-bare c.self.inside.chain.entries _) ∙ held)
     g.P.Inx.BasePtrInx.most g.P.Gen.BasePtrGen.greatest c.len.ensures.sound g.met.P.Inx.BasePtrInx.fits _ (rw c.node_at-z.ensures at c.neighbour-before.ensures)
-    c.detach.new.nodes (option_map number c.detach.new.root) c.detach.ensures.kept (rw c.node_at-z.ensures at c.detach.ensures.built) (rw c.node_at-z.ensures at c.detach.ensures.backs)
+    c.detach.new.nodes (option_map number c.detach.new.root) c.detach.ensures.kept (rw c.node_at-z.ensures at c.detach.ensures.after) (rw c.node_at-z.ensures at c.detach.ensures.backs)
     (rw c.node_at-z.ensures at c.detach.ensures.account) in
     let can = rw (← c.self.view_is) at c.requires.place in
     rw (c.node_at-y.ensures, c.node_at-z.ensures) (_, _, aside out number c.args.at can c.move_beside.new.self c.kind_of.result c.kind_of.ensures c.move_beside.ensures)
@@ -89,7 +89,7 @@ set_links-requires g c =
     let held = rw (← c.self.view_is) at c.requires.entry in
     let out = taken_out c.self.inside.chain (option_map number c.self.inside.root) _ c.self.invariant (sym (is_some-bare c.self.inside.chain.entries _) ∙ held)
     g.P.Inx.BasePtrInx.most g.P.Gen.BasePtrGen.greatest c.len.ensures.sound g.met.P.Inx.BasePtrInx.fits _ (rw c.node_at-z.ensures at c.neighbour-before.ensures)
-    c.detach.new.nodes (option_map number c.detach.new.root) c.detach.ensures.kept (rw c.node_at-z.ensures at c.detach.ensures.built) (rw c.node_at-z.ensures at c.detach.ensures.backs)
+    c.detach.new.nodes (option_map number c.detach.new.root) c.detach.ensures.kept (rw c.node_at-z.ensures at c.detach.ensures.after) (rw c.node_at-z.ensures at c.detach.ensures.backs)
     (rw c.node_at-z.ensures at c.detach.ensures.account) in
     let can = rw (← c.self.view_is) at c.requires.place in
     rw c.node_at-z.ensures (x_slot out number c.args.at can c.move_beside.new.self c.kind_of.result c.kind_of.ensures c.move_beside.ensures)
@@ -100,12 +100,12 @@ add_leaf-requires g c =
     let held = rw (← c.self.view_is) at c.requires.entry in
     let out = taken_out c.self.inside.chain (option_map number c.self.inside.root) _ c.self.invariant (sym (is_some-bare c.self.inside.chain.entries _) ∙ held)
     g.P.Inx.BasePtrInx.most g.P.Gen.BasePtrGen.greatest c.len.ensures.sound g.met.P.Inx.BasePtrInx.fits _ (rw c.node_at-z.ensures at c.neighbour-before.ensures)
-    c.detach.new.nodes (option_map number c.detach.new.root) c.detach.ensures.kept (rw c.node_at-z.ensures at c.detach.ensures.built) (rw c.node_at-z.ensures at c.detach.ensures.backs)
+    c.detach.new.nodes (option_map number c.detach.new.root) c.detach.ensures.kept (rw c.node_at-z.ensures at c.detach.ensures.after) (rw c.node_at-z.ensures at c.detach.ensures.backs)
     (rw c.node_at-z.ensures at c.detach.ensures.account) in
     let can = rw (← c.self.view_is) at c.requires.place in
     let bud = rw (c.node_at-y.ensures, c.node_at-z.ensures) at c.branch_across-branch.ensures in
     let branch = bud _ _ (aside out number c.args.at can c.move_beside.new.self c.kind_of.result c.kind_of.ensures c.move_beside.ensures) in
-    rw c.node_at-z.ensures (_, 1, new_leaf out number c.args.at can c.move_beside.new.self c.kind_of.result c.kind_of.ensures c.move_beside.ensures c.set_links.new.self _ branch c.set_links.ensures.kept (rw c.node_at-z.ensures at c.set_links.ensures.here) (rw c.node_at-z.ensures at c.set_links.ensures.elsewhere))
+    rw c.node_at-z.ensures (_, 1, new_leaf out number c.args.at can c.move_beside.new.self c.kind_of.result c.kind_of.ensures c.move_beside.ensures c.set_links.new.self _ branch (rw c.node_at-z.ensures at c.set_links.ensures))
 
 pub invariant_of-self : goal.invariant_of-self
 invariant_of-self g c =
@@ -113,13 +113,13 @@ invariant_of-self g c =
     let held = rw (← c.self.view_is) at c.requires.entry in
     let out = taken_out c.self.inside.chain (option_map number c.self.inside.root) _ c.self.invariant (sym (is_some-bare c.self.inside.chain.entries _) ∙ held)
     g.P.Inx.BasePtrInx.most g.P.Gen.BasePtrGen.greatest c.len.ensures.sound g.met.P.Inx.BasePtrInx.fits _ (rw c.node_at-z.ensures at c.neighbour-before.ensures)
-    c.detach.new.nodes (option_map number c.detach.new.root) c.detach.ensures.kept (rw c.node_at-z.ensures at c.detach.ensures.built) (rw c.node_at-z.ensures at c.detach.ensures.backs)
+    c.detach.new.nodes (option_map number c.detach.new.root) c.detach.ensures.kept (rw c.node_at-z.ensures at c.detach.ensures.after) (rw c.node_at-z.ensures at c.detach.ensures.backs)
     (rw c.node_at-z.ensures at c.detach.ensures.account) in
     let can = rw (← c.self.view_is) at c.requires.place in
     let bud = rw (c.node_at-y.ensures, c.node_at-z.ensures) at c.branch_across-branch.ensures in
     let branch = bud _ _ (aside out number c.args.at can c.move_beside.new.self c.kind_of.result c.kind_of.ensures c.move_beside.ensures) in
-    laid_again out number c.args.at can c.move_beside.new.self c.kind_of.result c.kind_of.ensures c.move_beside.ensures c.set_links.new.self _ branch c.set_links.ensures.kept (rw c.node_at-z.ensures at c.set_links.ensures.here) (rw c.node_at-z.ensures at c.set_links.ensures.elsewhere)
-    c.self.invariant c.add_leaf.new.nodes (option_map number c.add_leaf.new.root) c.add_leaf.ensures.kept (rw c.node_at-z.ensures at c.add_leaf.ensures.repaired)
+    laid_again out number c.args.at can c.move_beside.new.self c.kind_of.result c.kind_of.ensures c.move_beside.ensures c.set_links.new.self _ branch (rw c.node_at-z.ensures at c.set_links.ensures)
+    c.self.invariant c.add_leaf.new.nodes (option_map number c.add_leaf.new.root) c.add_leaf.ensures.kept (λ order slack. (rw c.node_at-z.ensures at c.add_leaf.ensures.after) (order, slack))
 
 pub returns-clause-list : goal.returns-clause-list
 returns-clause-list g c =
@@ -127,13 +127,13 @@ returns-clause-list g c =
     let held = rw (← c.self.view_is) at c.requires.entry in
     let out = taken_out c.self.inside.chain (option_map number c.self.inside.root) _ c.self.invariant (sym (is_some-bare c.self.inside.chain.entries _) ∙ held)
     g.P.Inx.BasePtrInx.most g.P.Gen.BasePtrGen.greatest c.len.ensures.sound g.met.P.Inx.BasePtrInx.fits _ (rw c.node_at-z.ensures at c.neighbour-before.ensures)
-    c.detach.new.nodes (option_map number c.detach.new.root) c.detach.ensures.kept (rw c.node_at-z.ensures at c.detach.ensures.built) (rw c.node_at-z.ensures at c.detach.ensures.backs)
+    c.detach.new.nodes (option_map number c.detach.new.root) c.detach.ensures.kept (rw c.node_at-z.ensures at c.detach.ensures.after) (rw c.node_at-z.ensures at c.detach.ensures.backs)
     (rw c.node_at-z.ensures at c.detach.ensures.account) in
     let can = rw (← c.self.view_is) at c.requires.place in
     let bud = rw (c.node_at-y.ensures, c.node_at-z.ensures) at c.branch_across-branch.ensures in
     let branch = bud _ _ (aside out number c.args.at can c.move_beside.new.self c.kind_of.result c.kind_of.ensures c.move_beside.ensures) in
-    rw (← c.self.view_is) (list_moved out number c.args.at can c.move_beside.new.self c.kind_of.result c.kind_of.ensures c.move_beside.ensures c.set_links.new.self _ branch c.set_links.ensures.kept (rw c.node_at-z.ensures at c.set_links.ensures.here) (rw c.node_at-z.ensures at c.set_links.ensures.elsewhere)
-    c.self.invariant c.add_leaf.new.nodes (option_map number c.add_leaf.new.root) c.add_leaf.ensures.kept (rw c.node_at-z.ensures at c.add_leaf.ensures.repaired))
+    rw (← c.self.view_is) (list_moved out number c.args.at can c.move_beside.new.self c.kind_of.result c.kind_of.ensures c.move_beside.ensures c.set_links.new.self _ branch (rw c.node_at-z.ensures at c.set_links.ensures)
+    c.self.invariant c.add_leaf.new.nodes (option_map number c.add_leaf.new.root) c.add_leaf.ensures.kept (λ order slack. (rw c.node_at-z.ensures at c.add_leaf.ensures.after) (order, slack)))
 
 pub returns-clause-shape : goal.returns-clause-shape
 returns-clause-shape g c =
@@ -141,11 +141,11 @@ returns-clause-shape g c =
     let held = rw (← c.self.view_is) at c.requires.entry in
     let out = taken_out c.self.inside.chain (option_map number c.self.inside.root) _ c.self.invariant (sym (is_some-bare c.self.inside.chain.entries _) ∙ held)
     g.P.Inx.BasePtrInx.most g.P.Gen.BasePtrGen.greatest c.len.ensures.sound g.met.P.Inx.BasePtrInx.fits _ (rw c.node_at-z.ensures at c.neighbour-before.ensures)
-    c.detach.new.nodes (option_map number c.detach.new.root) c.detach.ensures.kept (rw c.node_at-z.ensures at c.detach.ensures.built) (rw c.node_at-z.ensures at c.detach.ensures.backs)
+    c.detach.new.nodes (option_map number c.detach.new.root) c.detach.ensures.kept (rw c.node_at-z.ensures at c.detach.ensures.after) (rw c.node_at-z.ensures at c.detach.ensures.backs)
     (rw c.node_at-z.ensures at c.detach.ensures.account) in
     let can = rw (← c.self.view_is) at c.requires.place in
     let bud = rw (c.node_at-y.ensures, c.node_at-z.ensures) at c.branch_across-branch.ensures in
     let branch = bud _ _ (aside out number c.args.at can c.move_beside.new.self c.kind_of.result c.kind_of.ensures c.move_beside.ensures) in
-    rw (← c.self.view_is) (rearranged out number c.args.at can c.move_beside.new.self c.kind_of.result c.kind_of.ensures c.move_beside.ensures c.set_links.new.self _ branch c.set_links.ensures.kept (rw c.node_at-z.ensures at c.set_links.ensures.here) (rw c.node_at-z.ensures at c.set_links.ensures.elsewhere)
-    c.self.invariant c.add_leaf.new.nodes (option_map number c.add_leaf.new.root) c.add_leaf.ensures.kept (rw c.node_at-z.ensures at c.add_leaf.ensures.repaired)
-    (rw c.node_at-z.ensures at c.add_leaf.ensures.account))
+    rw (← c.self.view_is) (rearranged out number c.args.at can c.move_beside.new.self c.kind_of.result c.kind_of.ensures c.move_beside.ensures c.set_links.new.self _ branch (rw c.node_at-z.ensures at c.set_links.ensures)
+    c.self.invariant c.add_leaf.new.nodes (option_map number c.add_leaf.new.root) c.add_leaf.ensures.kept (λ order slack. (rw c.node_at-z.ensures at c.add_leaf.ensures.after) (order, slack))
+    (λ order slack. (rw c.node_at-z.ensures at c.add_leaf.ensures.account) (order, slack)))

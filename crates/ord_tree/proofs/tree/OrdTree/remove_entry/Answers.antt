@@ -23,14 +23,14 @@ remove_entry-requires g c =
     let held = rw (← c.self.view_is) at c.requires in
     still_there c.self.inside.chain (option_map g.P.Inx.BasePtrInx.number c.self.inside.root) _ c.self.invariant (sym (is_some-bare c.self.inside.chain.entries _) ∙ held)
     g.P.Inx.BasePtrInx.most g.P.Gen.BasePtrGen.greatest c.len.ensures.sound g.met.P.Inx.BasePtrInx.fits _ (rw c.node_at-z.ensures at c.neighbour-before.ensures)
-    c.detach.new.nodes (option_map g.P.Inx.BasePtrInx.number c.detach.new.root) c.detach.ensures.kept (rw c.node_at-z.ensures at c.detach.ensures.built) (rw c.node_at-z.ensures at c.detach.ensures.backs) (rw c.node_at-z.ensures at c.detach.ensures.account)
+    c.detach.new.nodes (option_map g.P.Inx.BasePtrInx.number c.detach.new.root) c.detach.ensures.kept (rw c.node_at-z.ensures at c.detach.ensures.after) (rw c.node_at-z.ensures at c.detach.ensures.backs) (rw c.node_at-z.ensures at c.detach.ensures.account)
 
 pub invariant_of-self : goal.invariant_of-self
 invariant_of-self g c =
     let held = rw (← c.self.view_is) at c.requires in
     (removal c.self.inside.chain (option_map g.P.Inx.BasePtrInx.number c.self.inside.root) _ c.self.invariant (sym (is_some-bare c.self.inside.chain.entries _) ∙ held)
     g.P.Inx.BasePtrInx.most g.P.Gen.BasePtrGen.greatest c.len.ensures.sound g.met.P.Inx.BasePtrInx.fits _ (rw c.node_at-z.ensures at c.neighbour-before.ensures)
-    c.detach.new.nodes (option_map g.P.Inx.BasePtrInx.number c.detach.new.root) c.detach.ensures.kept (rw c.node_at-z.ensures at c.detach.ensures.built) (rw c.node_at-z.ensures at c.detach.ensures.backs) (rw c.node_at-z.ensures at c.detach.ensures.account)
+    c.detach.new.nodes (option_map g.P.Inx.BasePtrInx.number c.detach.new.root) c.detach.ensures.kept (rw c.node_at-z.ensures at c.detach.ensures.after) (rw c.node_at-z.ensures at c.detach.ensures.backs) (rw c.node_at-z.ensures at c.detach.ensures.account)
     c.remove_entry.new.self g.P.Gen.BasePtrGen.number (allowed_value c.remove_entry.result) (allowed_value c.item_taken.result) c.remove_entry.ensures.value c.remove_entry.ensures.removed c.item_taken.ensures.value).laid
 
 pub returns : goal.returns
@@ -38,7 +38,7 @@ returns g c =
     let held = rw (← c.self.view_is) at c.requires in
     let r = removal c.self.inside.chain (option_map g.P.Inx.BasePtrInx.number c.self.inside.root) _ c.self.invariant (sym (is_some-bare c.self.inside.chain.entries _) ∙ held)
     g.P.Inx.BasePtrInx.most g.P.Gen.BasePtrGen.greatest c.len.ensures.sound g.met.P.Inx.BasePtrInx.fits _ (rw c.node_at-z.ensures at c.neighbour-before.ensures)
-    c.detach.new.nodes (option_map g.P.Inx.BasePtrInx.number c.detach.new.root) c.detach.ensures.kept (rw c.node_at-z.ensures at c.detach.ensures.built) (rw c.node_at-z.ensures at c.detach.ensures.backs) (rw c.node_at-z.ensures at c.detach.ensures.account)
+    c.detach.new.nodes (option_map g.P.Inx.BasePtrInx.number c.detach.new.root) c.detach.ensures.kept (rw c.node_at-z.ensures at c.detach.ensures.after) (rw c.node_at-z.ensures at c.detach.ensures.backs) (rw c.node_at-z.ensures at c.detach.ensures.account)
     c.remove_entry.new.self g.P.Gen.BasePtrGen.number (allowed_value c.remove_entry.result) (allowed_value c.item_taken.result) c.remove_entry.ensures.value c.remove_entry.ensures.removed c.item_taken.ensures.value in
     record {
       value = rw (← c.self.view_is) r.value;

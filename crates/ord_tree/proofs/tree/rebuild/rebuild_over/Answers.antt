@@ -7,8 +7,7 @@ rebuild-requires-clause-once g c = IsOnce-bare c.args.chain.now _ _ c.len-len.en
 pub rebuild-requires-clause-there : goal.rebuild-requires-clause-there
 rebuild-requires-clause-there g c = slots-within_bare c.args.chain.now
 
-pub returns-clause-laid : goal.returns-clause-laid
-returns-clause-laid g c = (rebuilt-shape_in c.args.chain.now c.rebuild.new.nodes c.rebuild.ensures.kept _ c.rebuild.ensures.rebuilt).0
-
-pub returns-clause-rebuilt : goal.returns-clause-rebuilt
-returns-clause-rebuilt g c = (rebuilt-shape_in c.args.chain.now c.rebuild.new.nodes c.rebuild.ensures.kept _ c.rebuild.ensures.rebuilt).1
+pub returns : goal.returns
+returns g c =
+    let both = rebuilt-shape_in c.args.chain.now c.rebuild.new.nodes c.rebuild.ensures.kept _ c.rebuild.ensures.rebuilt in
+    record { laid = both.0; rebuilt = both.1; kept = c.rebuild.ensures.kept }

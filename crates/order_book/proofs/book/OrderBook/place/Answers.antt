@@ -15,9 +15,9 @@ invariant_of-self g c =
     (record {
       in_order = lawful.asks.in_order;
       rests = settled.ensures.rests;
-      taken = settled.ensures.taken;
-      own_kept = settled.ensures.own_kept;
-      other_kept = settled.ensures.other_kept;
+      taken = settled.ensures.settles.taken;
+      own_kept = settled.ensures.settles.own_kept;
+      other_kept = settled.ensures.settles.other_kept;
     })
 
 pub invariant_of-self-in-Sell : goal.invariant_of-self-in-Sell
@@ -30,25 +30,29 @@ invariant_of-self-in-Sell g c =
     (record {
       in_order = lawful.bids.in_order;
       rests = settled.ensures.rests;
-      taken = settled.ensures.taken;
-      own_kept = settled.ensures.own_kept;
-      other_kept = settled.ensures.other_kept;
+      taken = settled.ensures.settles.taken;
+      own_kept = settled.ensures.settles.own_kept;
+      other_kept = settled.ensures.settles.other_kept;
     })
 
-pub returns-in-Ok-clause-step : goal.returns-in-Ok-clause-step
-returns-in-Ok-clause-step g c =
+pub returns-in-Ok-clause-steps : goal.returns-in-Ok-clause-steps
+returns-in-Ok-clause-steps g c =
     let bids = c.self.inside.bids in
     let asks = c.self.inside.asks in
     let lawful : IsBook (record { bids = bids; asks = asks }) = subst (λ (b : Book). IsBook b) (sym c.self.view_is) c.count.ensures.lawful in
-    elim c.match-order.branch [
-      | in-Buy w ↦
-          let settled = w.settle-settled in
-          step-of bids asks settled.new.own settled.new.other c.args.self.now c.match-order.self c.self.view_is w.self-is
-          (λ counted. goes-own settled.result bids settled.new.own settled.ensures.own_kept _ _ _ settled.ensures.rests)
-          (λ counted. goes-other settled.result asks settled.new.other settled.ensures.other_kept _ lawful.asks.summable.few settled.ensures.taken counted)
-      | in-Sell w ↦
-          let settled = w.settle-settled-in-Sell in
-          step-of bids asks settled.new.other settled.new.own c.args.self.now c.match-order.self c.self.view_is w.self-is
-          (λ counted. goes-other settled.result bids settled.new.other settled.ensures.other_kept _ lawful.bids.summable.few settled.ensures.taken counted)
-          (λ counted. goes-own settled.result asks settled.new.own settled.ensures.own_kept _ _ _ settled.ensures.rests)
-    ]
+    record {
+      step = elim c.match-order.branch [
+        | in-Buy w ↦
+            let settled = w.settle-settled in
+            step-of bids asks settled.new.own settled.new.other c.args.self.now c.match-order.self c.self.view_is w.self-is
+            (λ counted. goes-own settled.result bids settled.new.own settled.ensures.settles.own_kept _ _ _ settled.ensures.rests)
+            (λ counted. goes-other settled.result asks settled.new.other settled.ensures.settles.other_kept _ lawful.asks.summable.few settled.ensures.settles.taken counted)
+        | in-Sell w ↦
+            let settled = w.settle-settled-in-Sell in
+            step-of bids asks settled.new.other settled.new.own c.args.self.now c.match-order.self c.self.view_is w.self-is
+            (λ counted. goes-other settled.result bids settled.new.other settled.ensures.settles.other_kept _ lawful.bids.summable.few settled.ensures.settles.taken counted)
+            (λ counted. goes-own settled.result asks settled.new.own settled.ensures.settles.own_kept _ _ _ settled.ensures.rests)
+      ];
+      err = tt;
+      kept = tt;
+    }

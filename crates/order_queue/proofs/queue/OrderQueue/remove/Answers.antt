@@ -14,11 +14,11 @@ returns-in_err-rank-clause-value g c =
 pub returns-in_err-rank-clause-updates : goal.returns-in_err-rank-clause-updates
 returns-in_err-rank-clause-updates g c =
     let distinct = c.len.ensures.sound.distinct in
-    let after = subst (λ (a : Sorted ℕ Lot). IsDistinct a.entries) (sym c.in_err-rank.ensures.none) distinct in
+    let after = subst (λ (a : Sorted ℕ Lot). IsDistinct a.entries) (sym c.in_err-rank.ensures.removes.none) distinct in
     rw (← c.self.view_is) (updates-found c.self.inside.side c.self.inside.orders c.remove.new.self c.args.pointer None distinct after c.in_err-rank.ensures.updates)
 
 pub invariant_of-self-2 : goal.invariant_of-self-2
-invariant_of-self-2 g c = rw c.in_ok-rank.ensures.gone (recursion-without IsLawful c.self.inside.orders.entries c.args.pointer.0 c.self.invariant)
+invariant_of-self-2 g c = rw c.in_ok-rank.ensures.removes.gone (recursion-without IsLawful c.self.inside.orders.entries c.args.pointer.0 c.self.invariant)
 
 pub returns-clause-value : goal.returns-clause-value
 returns-clause-value g c =
@@ -27,8 +27,8 @@ returns-clause-value g c =
 
 pub returns-clause-updates : goal.returns-clause-updates
 returns-clause-updates g c =
-    rw (← c.self.view_is) (updates-found c.self.inside.side c.self.inside.orders c.remove.new.self c.args.pointer None c.len.ensures.sound.distinct c.in_ok-rank.ensures.sound.distinct c.in_ok-rank.ensures.updates)
+    rw (← c.self.view_is) (updates-found c.self.inside.side c.self.inside.orders c.remove.new.self c.args.pointer None c.len.ensures.sound.distinct c.in_ok-rank.ensures.removes.sound.distinct c.in_ok-rank.ensures.updates)
 
 pub returns-clause-gone : goal.returns-clause-gone
 returns-clause-gone g c =
-    rw (← c.self.view_is, c.in_ok-rank.ensures.gone) (queue-without c.self.inside.side c.self.inside.orders c.args.pointer c.len.ensures.sound.distinct (ap is_some (sym c.in_ok-rank.ensures.value)))
+    rw (← c.self.view_is, c.in_ok-rank.ensures.removes.gone) (queue-without c.self.inside.side c.self.inside.orders c.args.pointer c.len.ensures.sound.distinct (ap is_some (sym c.in_ok-rank.ensures.value)))

@@ -1,4 +1,4 @@
-use Rattle.std.proofs.Common.{◌≡◌, ◌∙◌, ◌++◌, List, [], ◌∷◌, Result, Ok, Err, IsOk, is_ok, if◌then◌else◌, map, append_assoc, sym, ap, arith}
+use Rattle.std.proofs.Common.{◌≡◌, ◌∙◌, ◌++◌, List, [], ◌∷◌, Result, Ok, Err, IsOk, is_ok, if◌then◌else◌, map, append_assoc, sym, ap, arith, rules}
 use Rattle.std.proofs.{lemmas.List.append-nil, lemmas.List.map-append}
 use Rattle.std.specs.Range.Bound.{bound_map}
 use Rattle.sorted_arena.specs.Sorted.{item_of}
@@ -32,8 +32,7 @@ loop-preserved g c =
       room = omega (arith, c.loop.invariant.room, c.push.ensures.upper_bound, c.push.ensures.capacity);
     }
 
-pub returns-clause-drained : goal.returns-clause-drained
-returns-clause-drained g c = (taking-done _ _ _ _ _ _ _ _ c.loop.invariant.taking (omega (arith, c.run_between-first.ensures.count, c.loop.auto.counter-end, c.loop-test.false))).2
-
-pub returns-clause-after : goal.returns-clause-after
-returns-clause-after g c = (taking-done _ _ _ _ _ _ _ _ c.loop.invariant.taking (omega (arith, c.run_between-first.ensures.count, c.loop.auto.counter-end, c.loop-test.false))).0
+pub returns : goal.returns
+returns g c =
+    let done = taking-done _ _ _ _ _ _ _ _ c.loop.invariant.taking (omega (arith, c.run_between-first.ensures.count, c.loop.auto.counter-end, c.loop-test.false)) in
+    record { drained = done.2; after = done.0; room = search rules; kept = search rules; err = search rules }

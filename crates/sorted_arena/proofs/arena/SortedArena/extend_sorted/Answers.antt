@@ -1,13 +1,18 @@
-use Rattle.std.proofs.Common.{◌∙◌, [], ◌++◌, List, map, sym, ap}
+use Rattle.std.proofs.Common.{◌∙◌, [], ◌++◌, List, map, sym, ap, rules}
 use Rattle.triple_ord.specs.Chain.{Entry}
 use Rattle.sorted_arena.specs.Sorted.{item_of}
 use Rattle.sorted_arena.proofs.Cutting.{append-nil}
 use Rattle.sorted_arena.proofs.arena.SortedArena.extend_sorted.Goals as goal
 
-pub returns-then-is_made_ready-clause-part : goal.returns-then-is_made_ready-clause-part
-returns-then-is_made_ready-clause-part g c = (
-  c.args.pairs.items,
-  [],
-  sym (append-nil c.args.pairs.items),
-  c.append_sorted.ensures.items ∙ ap (λ (es : List (Entry (g.row.K.Denot × g.row.V.Denot))). map item_of es ++ c.args.pairs.items) c.is_made_ready.ensures.entries,
-)
+pub returns-then-is_made_ready : goal.returns-then-is_made_ready
+returns-then-is_made_ready g c =
+    let all = c.append_sorted.ensures.items ∙ ap (λ (es : List (Entry (g.row.K.Denot × g.row.V.Denot))). map item_of es ++ c.args.pairs.items) c.is_made_ready.ensures.kept.entries in
+    record {
+      ok = all;
+      unsorted = search rules;
+      part = (c.args.pairs.items, [], sym (append-nil c.args.pairs.items), all);
+      kept = search rules;
+      generation = search rules;
+      full = search rules;
+      memory = search rules;
+    }

@@ -1,7 +1,7 @@
-use Rattle.std.proofs.Common.{◌≡◌, ◌∙◌, refl, ◌-◌, ◌++◌, ◌∷◌, [], None, sym, ap, subst, map, arith, append_assoc, List, IsSomeAnd}
+use Rattle.std.proofs.Common.{◌≡◌, ◌∙◌, refl, ◌-◌, ◌++◌, ◌∷◌, [], None, sym, ap, subst, map, arith, rules, append_assoc, List, IsSomeAnd}
 use Rattle.std.specs.declared.cmp.Ordering.{TheVariants.Greater}
 use Rattle.triple_ord.specs.Gap.{last_of}
-use Rattle.sorted_arena.specs.Sorted.{item_of, Sorted}
+use Rattle.sorted_arena.specs.Sorted.{item_of, Keeps, Sorted}
 use Rattle.sorted_arena.proofs.Cutting.{append-nil}
 use Rattle.sorted_arena.proofs.Merging.{keeps-all, keeps-more}
 use Rattle.std.proofs.lemmas.Grind.{common_steps}
@@ -12,58 +12,88 @@ use Rattle.sorted_arena.proofs.arena.SortedArena.insert_sorted.Goals as goal
 pub overflow_sub-result : goal.overflow_sub-result
 overflow_sub-result g c = omega (arith, counted c.len.result c.len-before.result c.loop-k.self.entries c.args.self.now.entries c.loop-k.yielded c.len.ensures.value c.len-before.ensures.value c.loop-k.invariant.held)
 
-pub returns-then-is_last_greater-clause-unsorted : goal.returns-then-is_last_greater-clause-unsorted
-returns-then-is_last_greater-clause-unsorted g c at is =
-    let place : c.len.result - c.len-before.result ≡ at = cc in
-    let last = last-greater g.K.Ord.cmp c.in-Some.k c.loop-k.self.entries (sym c.is_last_greater.ensures ∙ c.if-is_last_greater.true) in
+pub returns-then-is_last_greater : goal.returns-then-is_last_greater
+returns-then-is_last_greater g c = record {
+  ok = search rules;
+  unsorted = λ at is.
+      let place : c.len.result - c.len-before.result ≡ at = cc in
+      let last = last-greater g.K.Ord.cmp c.in-Some.k c.loop-k.self.entries (sym c.is_last_greater.ensures ∙ c.if-is_last_greater.true) in
+      record {
+        front = c.loop-k.yielded;
+        pair = (c.in-Some.k, c.in-Some.v);
+        back = into_iter_items c.next.new.self;
+        cut = c.loop-k.invariant.cut ∙ ap (λ xs. c.loop-k.yielded ++ xs) c.in-Some.ensures.steps.0;
+        place = omega (arith, place, counted c.len.result c.len-before.result c.loop-k.self.entries c.args.self.now.entries c.loop-k.yielded c.len.ensures.value c.len-before.ensures.value c.loop-k.invariant.held);
+        in_order = (c.loop-k.self.entries, c.loop-k.invariant.held, c.len.ensures.sound.sorted);
+        smaller = subst (λ (xs : List (g.row.K.Denot × g.row.V.Denot)). IsSomeAnd (last_of None xs) (λ x. g.K.Ord.cmp x.0 c.in-Some.k ≡ Greater)) c.loop-k.invariant.held last;
+      };
+  part = (c.loop-k.yielded, into_iter_items c.loop-k.k-iterator, c.loop-k.invariant.cut, c.loop-k.invariant.held);
+  kept = search rules;
+  generation = search rules;
+  full = search rules;
+  memory = search rules;
+}
+
+pub returns-in-Err-default-BeyondMaxCapacity : goal.returns-in-Err-default-BeyondMaxCapacity
+returns-in-Err-default-BeyondMaxCapacity g c =
+    let same = c.in-Err-default-BeyondMaxCapacity.ensures.inserts.err in
     record {
-      front = c.loop-k.yielded;
-      pair = (c.in-Some.k, c.in-Some.v);
-      back = into_iter_items c.next.new.self;
-      cut = c.loop-k.invariant.cut ∙ ap (λ xs. c.loop-k.yielded ++ xs) c.in-Some.ensures.steps.0;
-      place = omega (arith, place, counted c.len.result c.len-before.result c.loop-k.self.entries c.args.self.now.entries c.loop-k.yielded c.len.ensures.value c.len-before.ensures.value c.loop-k.invariant.held);
-      in_order = (c.loop-k.self.entries, c.loop-k.invariant.held, c.len.ensures.sound.sorted);
-      smaller = subst (λ (xs : List (g.row.K.Denot × g.row.V.Denot)). IsSomeAnd (last_of None xs) (λ x. g.K.Ord.cmp x.0 c.in-Some.k ≡ Greater)) c.loop-k.invariant.held last;
+      ok = search rules;
+      unsorted = search rules;
+      part = (
+        c.loop-k.yielded,
+        into_iter_items c.loop-k.k-iterator,
+        c.loop-k.invariant.cut,
+        ap (λ (a : Sorted g.row.K.Denot g.row.V.Denot). map item_of a.entries) same ∙ c.loop-k.invariant.held,
+      );
+      kept = subst (λ (a : Sorted g.row.K.Denot g.row.V.Denot). Keeps c.args.self.now a) (sym same) c.loop-k.invariant.keeps;
+      generation = search rules;
+      full = search rules;
+      memory = search rules;
     }
 
-pub returns-then-is_last_greater-clause-part : goal.returns-then-is_last_greater-clause-part
-returns-then-is_last_greater-clause-part g c = (c.loop-k.yielded, into_iter_items c.loop-k.k-iterator, c.loop-k.invariant.cut, c.loop-k.invariant.held)
+pub returns-in-Err-default-AllocError : goal.returns-in-Err-default-AllocError
+returns-in-Err-default-AllocError g c =
+    let same = c.in-Err-default-AllocError.ensures.inserts.err in
+    record {
+      ok = search rules;
+      unsorted = search rules;
+      part = (
+        c.loop-k.yielded,
+        into_iter_items c.loop-k.k-iterator,
+        c.loop-k.invariant.cut,
+        ap (λ (a : Sorted g.row.K.Denot g.row.V.Denot). map item_of a.entries) same ∙ c.loop-k.invariant.held,
+      );
+      kept = subst (λ (a : Sorted g.row.K.Denot g.row.V.Denot). Keeps c.args.self.now a) (sym same) c.loop-k.invariant.keeps;
+      generation = search rules;
+      full = search rules;
+      memory = search rules;
+    }
 
-pub returns-in-Err-default-BeyondMaxCapacity-clause-part : goal.returns-in-Err-default-BeyondMaxCapacity-clause-part
-returns-in-Err-default-BeyondMaxCapacity-clause-part g c = (
-  c.loop-k.yielded,
-  into_iter_items c.loop-k.k-iterator,
-  c.loop-k.invariant.cut,
-  ap (λ (a : Sorted g.row.K.Denot g.row.V.Denot). map item_of a.entries) c.in-Err-default-BeyondMaxCapacity.ensures.err ∙ c.loop-k.invariant.held,
-)
-
-pub returns-in-Err-default-AllocError-clause-part : goal.returns-in-Err-default-AllocError-clause-part
-returns-in-Err-default-AllocError-clause-part g c = (
-  c.loop-k.yielded,
-  into_iter_items c.loop-k.k-iterator,
-  c.loop-k.invariant.cut,
-  ap (λ (a : Sorted g.row.K.Denot g.row.V.Denot). map item_of a.entries) c.in-Err-default-AllocError.ensures.err ∙ c.loop-k.invariant.held,
-)
-
-pub returns-clause-part : goal.returns-clause-part
-returns-clause-part g c = (c.loop-k.yielded, into_iter_items c.loop-k.k-iterator, c.loop-k.invariant.cut, c.loop-k.invariant.held)
-
-pub returns-clause-ok : goal.returns-clause-ok
-returns-clause-ok g c =
+pub returns : goal.returns
+returns g c =
     let all = cut_all c.args.pairs.items c.loop-k.yielded _ c.loop-k.invariant.cut (sym c.loop-k.invariant.count ∙ c.in-None.ensures.steps.0) in
-    c.loop-k.invariant.held ∙ ap (λ xs. map item_of c.args.self.now.entries ++ xs) all
+    record {
+      ok = c.loop-k.invariant.held ∙ ap (λ xs. map item_of c.args.self.now.entries ++ xs) all;
+      unsorted = search rules;
+      part = (c.loop-k.yielded, into_iter_items c.loop-k.k-iterator, c.loop-k.invariant.cut, c.loop-k.invariant.held);
+      kept = search rules;
+      generation = search rules;
+      full = search rules;
+      memory = search rules;
+    }
 
 pub loop-k-init : goal.loop-k-init
 loop-k-init g c = record { cut = grind (arith, common_steps); count = grind (arith, common_steps); held = sym (append-nil (map item_of c.args.self.now.entries)); keeps = keeps-all c.args.self.now; generation = refl }
 
 pub loop-k-preserved : goal.loop-k-preserved
 loop-k-preserved g c =
-    let put = appended g.K.Ord.cmp c.in-Some.k g.met.K.Ord.total g.P.Inx.BasePtrInx.most c.loop-k.self c.insert.new.self (g.P.BasePtr.numbers c.in-Ok.field-0) c.in-Some.v c.in-Ok.ensures.ok
+    let put = appended g.K.Ord.cmp c.in-Some.k g.met.K.Ord.total g.P.Inx.BasePtrInx.most c.loop-k.self c.insert.new.self (g.P.BasePtr.numbers c.in-Ok.field-0) c.in-Some.v c.in-Ok.ensures.inserts.ok
     (sym c.is_last_greater.ensures ∙ c.if-is_last_greater.false) in
     record {
       cut = cut_more _ _ _ _ _ c.loop-k.invariant.cut c.in-Some.ensures.steps.0;
       count = grind (arith, common_steps);
       held = put ∙ ap (λ xs. xs ++ (c.in-Some.k, c.in-Some.v) ∷ []) c.loop-k.invariant.held ∙ append_assoc (map item_of c.args.self.now.entries) c.loop-k.yielded ((c.in-Some.k, c.in-Some.v) ∷ []);
-      keeps = keeps-more c.args.self.now c.loop-k.self c.insert.new.self (g.P.BasePtr.numbers c.in-Ok.field-0) _ c.loop-k.invariant.keeps c.in-Ok.ensures.ok.unused c.in-Ok.ensures.updates;
-      generation = c.in-Ok.ensures.ok.generation ∙ c.loop-k.invariant.generation;
+      keeps = keeps-more c.args.self.now c.loop-k.self c.insert.new.self (g.P.BasePtr.numbers c.in-Ok.field-0) _ c.loop-k.invariant.keeps c.in-Ok.ensures.inserts.ok.unused c.in-Ok.ensures.inserts.updates;
+      generation = c.in-Ok.ensures.inserts.ok.generation ∙ c.loop-k.invariant.generation;
     }

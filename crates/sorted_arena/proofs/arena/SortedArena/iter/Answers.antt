@@ -10,11 +10,9 @@ from_until-requires g c = rw c.first.ensures.value (whole-stretch c.args.self.no
 pub returns-clause-entries : goal.returns-clause-entries
 returns-clause-entries g c = c.from_until.ensures ∙ rw c.first.ensures.value (whole-stretched c.args.self.now.entries c.len.ensures.sound.distinct)
 
-pub returns-clause-runs : goal.returns-clause-runs
-returns-clause-runs g c = gives_in_order (shown_entry g.P.BasePtr.numbers)
-
-pub returns-clause-runs_back : goal.returns-clause-runs_back
-returns-clause-runs_back g c = gives_in_reverse (shown_entry g.P.BasePtr.numbers)
-
-pub returns-clause-fits : goal.returns-clause-fits
-returns-clause-fits g c = omega (arith, ap length (returns-clause-entries g c), c.len.ensures.value)
+pub returns-clause-chains : goal.returns-clause-chains
+returns-clause-chains g c = record {
+  runs = gives_in_order (shown_entry g.P.BasePtr.numbers);
+  runs_back = gives_in_reverse (shown_entry g.P.BasePtr.numbers);
+  fits = omega (arith, ap length (returns-clause-entries g c), c.len.ensures.value);
+}

@@ -1,4 +1,4 @@
-use Rattle.std.proofs.Common.{◌∙◌, sym, ap}
+use Rattle.std.proofs.Common.{◌∙◌, sym, ap, rules}
 use Rattle.sorted_arena.specs.Sorted.{with_left}
 use Rattle.sorted_arena.proofs.Cutting.{last-named, OnSome-followed}
 use Rattle.sorted_arena.proofs.arena.SortedArena.pop_last.Goals as goal
@@ -7,7 +7,11 @@ pub returns-clause-value : goal.returns-clause-value
 returns-clause-value g c =
     c.remove.ensures.value ∙ (last-named c.args.self.now.entries c.len.ensures.sound.distinct (g.P.BasePtr.numbers c.in_ok-last.last) (sym c.in_ok-last.ensures.value)).0
 
-pub returns-clause-gone : goal.returns-clause-gone
-returns-clause-gone g c =
-    OnSome-followed c.remove.result (λ is. is ∙ ap (with_left g.P.Gen.BasePtrGen.greatest c.args.self.now)
-    (last-named c.args.self.now.entries c.len.ensures.sound.distinct (g.P.BasePtr.numbers c.in_ok-last.last) (sym c.in_ok-last.ensures.value)).1) c.remove.ensures.gone
+pub returns-clause-removes : goal.returns-clause-removes
+returns-clause-removes g c = record {
+  gone = OnSome-followed c.remove.result (λ is. is ∙ ap (with_left g.P.Gen.BasePtrGen.greatest c.args.self.now)
+      (last-named c.args.self.now.entries c.len.ensures.sound.distinct (g.P.BasePtr.numbers c.in_ok-last.last) (sym c.in_ok-last.ensures.value)).1) c.remove.ensures.removes.gone;
+  none = search rules;
+  sound = search rules;
+  count = search rules;
+}

@@ -16,10 +16,7 @@ pub loop-preserved : goal.loop-preserved
 loop-preserved g c =
     taking-more _ _ _ _ _ _ _ _ c.loop.invariant (omega (arith, c.loop-test.true, c.run_between-first.ensures.count)) c.take-next.result.0 c.take-next.new.self _ _ c.take-next.ensures (λ taken later e cut is was. tt)
 
-pub returns-clause-after : goal.returns-clause-after
-returns-clause-after g c = (taking-done _ _ _ _ _ _ _ _ c.loop.invariant (omega (arith, c.run_between-first.ensures.count, c.loop.auto.counter-end, c.loop-test.false))).0
-
-pub returns-clause-count : goal.returns-clause-count
-returns-clause-count g c =
+pub returns-clause-removes : goal.returns-clause-removes
+returns-clause-removes g c =
     let done = taking-done _ _ _ _ _ _ _ _ c.loop.invariant (omega (arith, c.run_between-first.ensures.count, c.loop.auto.counter-end, c.loop-test.false)) in
-    omega (arith, done.1, c.loop.auto.counter-end, c.loop-test.false)
+    record { after = done.0; count = omega (arith, done.1, c.loop.auto.counter-end, c.loop-test.false) }

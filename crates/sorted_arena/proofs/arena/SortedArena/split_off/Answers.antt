@@ -12,13 +12,13 @@ use Rattle.sorted_arena.proofs.arena.SortedArena.split_off.Goals as goal
 
 pub loop-init : goal.loop-init
 loop-init g c =
-    let empty = c.reserve.ensures.entries ∙ c.new-moved.ensures.entries in
+    let empty = c.reserve.ensures.kept.entries ∙ c.new-moved.ensures.entries in
     record {
       taking = taking-none g.P.Gen.BasePtrGen.greatest c.args.self.now _ _ _ _ (range-part g.K.Ord.cmp g.met.K.Ord.total (Included c.args.from.now) Unbounded c.args.self.now.entries c.len.ensures.sound.sorted)
           c.run_between-first.ensures.first (ap (map item_of) empty);
       moved = ap length empty;
       room = omega (arith, c.in-Ok.ensures.room);
-      generation = c.reserve.ensures.generation ∙ c.new-moved.ensures.generation;
+      generation = c.reserve.ensures.kept.generation ∙ c.new-moved.ensures.generation;
     }
 
 pub take-k-requires : goal.take-k-requires

@@ -13,4 +13,4 @@ pub returns : goal.returns
 returns g c at =
     takes-out g.P.Gen.BasePtrGen.greatest c.args.self.now c.len.ensures.sound.distinct (option_map g.P.BasePtr.numbers c.args.next) (g.P.BasePtr.numbers c.unwrap-p.result)
     (ap (option_map g.P.BasePtr.numbers) c.unwrap-p.ensures) at c.remove.new.self c.unwrap-pair.result (sym c.unwrap-pair.ensures ∙ c.remove.ensures.value)
-    (rw c.unwrap-pair.ensures at c.remove.ensures.gone) (option_map g.P.BasePtr.numbers c.next-after.result) c.next-after.ensures.value
+    (rw c.unwrap-pair.ensures at c.remove.ensures.removes.gone) (option_map g.P.BasePtr.numbers c.next-after.result) c.next-after.ensures.value

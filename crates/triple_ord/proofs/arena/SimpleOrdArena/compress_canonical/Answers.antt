@@ -5,10 +5,17 @@ pub returns-clause-items : goal.returns-clause-items
 returns-clause-items g c =
     rw (← c.self.view_is) (ap (λ (c : Chain _). map (λ e. e.item) c.entries) c.compress_canonical.ensures.after ∙ items-numbered _ 1 _)
 
-pub returns-clause-count : goal.returns-clause-count
-returns-clause-count g c = sym (length-map c.compress_canonical.new.self.list.entries (λ e. e.item)) ∙ ap length (returns-clause-items g c)
-    ∙ length-map c.args.self.now.list.entries (λ e. e.item)
-
 pub returns-clause-found : goal.returns-clause-found
 returns-clause-found g c =
     rw (← c.self.view_is) (found-numbered c.compress_canonical.new.self _ _ (ap (λ (c : Chain _). c.entries) c.compress_canonical.ensures.after))
+
+pub returns-clause-renumbers : goal.returns-clause-renumbers
+returns-clause-renumbers g c =
+    let call = c.compress_canonical.ensures in
+    record {
+      ended = (returns-clause-found g c).ended;
+      shape = call.shape;
+      overflow = rw (← c.self.view_is) call.overflow;
+      count = sym (length-map c.compress_canonical.new.self.list.entries (λ e. e.item)) ∙ ap length (returns-clause-items g c)
+          ∙ length-map c.args.self.now.list.entries (λ e. e.item);
+    }

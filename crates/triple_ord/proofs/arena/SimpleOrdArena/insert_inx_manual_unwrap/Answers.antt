@@ -8,30 +8,13 @@ returns-in_default g c =
     c.replace.result c.replace.ensures.before c.replace.ensures.after in
     record { inserts = rw is done.inserts; replaced = search rules; new = search rules; updates = done.updates; count = done.counted; refused = search rules }
 
-pub returns-clause-inserts : goal.returns-clause-inserts
-returns-clause-inserts g c =
-    let side = c.in-Some.side in
-    let is = side-order c.args.direction side (sym c.side_by.ensures ∙ c.in-Some.is) in
+pub returns : goal.returns
+returns g c =
+    let is = side-order c.args.direction c.in-Some.side (sym c.side_by.ensures ∙ c.in-Some.is) in
     let was : c.put_growing.result ≡ Ok c.in_ok-put_growing.field-0 = c.in_ok-put_growing.was in
     let done = beside-inserted g.P.Inx.BasePtrInx.most c.args.self.now c.put_growing.new.self c.len.ensures.sound.distinct c.args.t (g.P.Inx.BasePtrInx.number c.args.p)
-    side c.requires (g.P.BasePtr.numbers c.in_ok-put_growing.field-0) (rw was at c.put_growing.ensures.inserted) (rw was at c.put_growing.ensures.grown) in
-    rw is done.inserts
-
-pub returns-clause-updates : goal.returns-clause-updates
-returns-clause-updates g c =
-    let side = c.in-Some.side in
-    let was : c.put_growing.result ≡ Ok c.in_ok-put_growing.field-0 = c.in_ok-put_growing.was in
-    let done = beside-inserted g.P.Inx.BasePtrInx.most c.args.self.now c.put_growing.new.self c.len.ensures.sound.distinct c.args.t (g.P.Inx.BasePtrInx.number c.args.p)
-    side c.requires (g.P.BasePtr.numbers c.in_ok-put_growing.field-0) (rw was at c.put_growing.ensures.inserted) (rw was at c.put_growing.ensures.grown) in
-    done.updates
-
-pub returns-clause-count : goal.returns-clause-count
-returns-clause-count g c =
-    let side = c.in-Some.side in
-    let was : c.put_growing.result ≡ Ok c.in_ok-put_growing.field-0 = c.in_ok-put_growing.was in
-    let done = beside-inserted g.P.Inx.BasePtrInx.most c.args.self.now c.put_growing.new.self c.len.ensures.sound.distinct c.args.t (g.P.Inx.BasePtrInx.number c.args.p)
-    side c.requires (g.P.BasePtr.numbers c.in_ok-put_growing.field-0) (rw was at c.put_growing.ensures.inserted) (rw was at c.put_growing.ensures.grown) in
-    done.counted
+    c.in-Some.side c.requires (g.P.BasePtr.numbers c.in_ok-put_growing.field-0) (rw was at c.put_growing.ensures.inserted) (rw was at c.put_growing.ensures.grown) in
+    record { inserts = rw is done.inserts; replaced = search rules; new = search rules; updates = done.updates; count = done.counted; refused = search rules }
 
 pub returns-in_err-put_growing-clause-inserts : goal.returns-in_err-put_growing-clause-inserts
 returns-in_err-put_growing-clause-inserts g c =

@@ -22,5 +22,5 @@ returns-clause-rekeys g c =
 pub returns-clause-updates : goal.returns-clause-updates
 returns-clause-updates g c = rekeys-updates _ _ _ _ _ _ c.len.ensures.sound.distinct (sym c.if-not-contains.ensures) (returns-clause-rekeys g c).rekeys
 
-pub returns-clause-count : goal.returns-clause-count
-returns-clause-count g c = rekeys-count _ _ _ _ _ _ c.len.ensures.sound.distinct (sym c.if-not-contains.ensures) (returns-clause-rekeys g c).rekeys
+pub returns-clause-otherwise : goal.returns-clause-otherwise
+returns-clause-otherwise g c = record { stale = tt; back = tt; refused = tt; count = rekeys-count _ _ _ _ _ _ c.len.ensures.sound.distinct (sym c.if-not-contains.ensures) (returns-clause-rekeys g c).rekeys }

@@ -1,6 +1,6 @@
-use Rattle.triple_ord.proofs.Words.{sym, refl, ◌∙◌, ap, option_map}
+use Rattle.triple_ord.proofs.Words.{sym, refl}
 use Rattle.triple_ord.proofs.CallerLemmas.{rekeys-updates, rekeys-count}
-use Rattle.triple_ord.proofs.Rekeying.{can_stay, can_go, rekeyed_by, own_item, same-found}
+use Rattle.triple_ord.proofs.Rekeying.{can_go, rekeyed_by, own_item, same-found}
 use Rattle.triple_ord.proofs.arena.SimpleOrdArena.reposition.Goals as goal
 
 pub go_beside-requires-clause-place : goal.go_beside-requires-clause-place

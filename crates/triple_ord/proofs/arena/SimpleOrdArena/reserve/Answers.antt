@@ -8,22 +8,22 @@ use Rattle.triple_ord.proofs.arena.SimpleOrdArena.reserve.Goals as goal
 pub returns-clause-entries : goal.returns-clause-entries
 returns-clause-entries g c =
     resizing-keeps c.args.self.now c.reallocate_min_capacity.new.self c.max.result (λ a. a.list.entries) (λ m. refl)
-    c.reallocate_min_capacity.result c.reallocate_min_capacity.ensures.ok c.reallocate_min_capacity.ensures.err
+    c.reallocate_min_capacity.result c.reallocate_min_capacity.ensures.ok c.reallocate_min_capacity.ensures.kept.err
 
 pub returns-clause-generation : goal.returns-clause-generation
 returns-clause-generation g c =
     resizing-keeps c.args.self.now c.reallocate_min_capacity.new.self c.max.result (λ a. a.list.generation) (λ m. refl)
-    c.reallocate_min_capacity.result c.reallocate_min_capacity.ensures.ok c.reallocate_min_capacity.ensures.err
+    c.reallocate_min_capacity.result c.reallocate_min_capacity.ensures.ok c.reallocate_min_capacity.ensures.kept.err
 
 pub returns-clause-maximum : goal.returns-clause-maximum
 returns-clause-maximum g c =
     resizing-keeps c.args.self.now c.reallocate_min_capacity.new.self c.max.result (λ a. a.list.maximum) (λ m. refl)
-    c.reallocate_min_capacity.result c.reallocate_min_capacity.ensures.ok c.reallocate_min_capacity.ensures.err
+    c.reallocate_min_capacity.result c.reallocate_min_capacity.ensures.ok c.reallocate_min_capacity.ensures.kept.err
 
 pub returns-clause-shape : goal.returns-clause-shape
 returns-clause-shape g c =
     resizing-keeps c.args.self.now c.reallocate_min_capacity.new.self c.max.result (λ a. a.shape) (λ m. refl)
-    c.reallocate_min_capacity.result c.reallocate_min_capacity.ensures.ok c.reallocate_min_capacity.ensures.err
+    c.reallocate_min_capacity.result c.reallocate_min_capacity.ensures.ok c.reallocate_min_capacity.ensures.kept.err
 
 pub returns-clause-room : goal.returns-clause-room
 returns-clause-room g c =

@@ -1,4 +1,4 @@
-use Rattle.triple_ord.proofs.Words.{sym, ap, ◌∙◌, option_map}
+use Rattle.triple_ord.proofs.Words.{sym, ◌∙◌}
 use Rattle.triple_ord.proofs.Rekeying.{stays_before, stays_after}
 use Rattle.triple_ord.proofs.arena.SimpleOrdArena.stands_beside.Goals as goal
 

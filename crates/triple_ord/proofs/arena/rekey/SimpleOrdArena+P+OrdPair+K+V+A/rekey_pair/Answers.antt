@@ -1,4 +1,4 @@
-use Rattle.triple_ord.proofs.Words.{sym, refl, ap, ◌∙◌}
+use Rattle.triple_ord.proofs.Words.{sym, refl}
 use Rattle.triple_ord.proofs.CallerLemmas.{rekeys-updates, rekeys-count}
 use Rattle.triple_ord.proofs.Rekeying.{can_stay, can_go, rekeyed_by, entry_of}
 use Rattle.triple_ord.proofs.arena.rekey.SimpleOrdArena+P+OrdPair+K+V+A.rekey_pair.Goals as goal
@@ -28,7 +28,7 @@ returns-clause-updates g c =
     let there = sym c.in-Some.ensures in
     rw there (rekeys-updates _ _ _ _ _ _ c.len.ensures.sound.distinct (rw there refl) (rw there at (returns-clause-rekeys g c)))
 
-pub returns-clause-count : goal.returns-clause-count
-returns-clause-count g c =
+pub returns-clause-otherwise : goal.returns-clause-otherwise
+returns-clause-otherwise g c =
     let there = sym c.in-Some.ensures in
-    rekeys-count _ _ _ _ _ _ c.len.ensures.sound.distinct (rw there refl) (rw there at (returns-clause-rekeys g c))
+    record { stale = tt; back = tt; refused = tt; count = rekeys-count _ _ _ _ _ _ c.len.ensures.sound.distinct (rw there refl) (rw there at (returns-clause-rekeys g c)) }
