@@ -6,7 +6,7 @@ mod command;
 
 use answers::{Calendar, obey};
 use command::Fault;
-use command_line::{Request, Session, WRONG_USAGE, serve};
+use command_line::{Session, obey_arguments, serve};
 use std::alloc::Global;
 use std::io::{BufWriter, Write};
 use std::process::ExitCode;
@@ -88,18 +88,9 @@ fn run(rt: &(impl Input + Print + AllocGlobal)) -> io::Result<()> {
 }
 
 fn main(rt: HostRuntime) -> io::Result<ExitCode> {
-    match Request::read(&rt)? {
-        Request::Serve => {
-            run(&rt)?;
-            Ok(ExitCode::SUCCESS)
-        }
-        Request::Help => {
-            print!(rt; "{HELP}")?;
-            Ok(ExitCode::SUCCESS)
-        }
-        Request::Unknown(argument) => {
-            eprintln!(rt; "calendar: unknown argument {argument}; try calendar --help")?;
-            Ok(ExitCode::from(WRONG_USAGE))
-        }
+    if let Some(status) = obey_arguments(&rt, "calendar", HELP)? {
+        return Ok(status);
     }
+    run(&rt)?;
+    Ok(ExitCode::SUCCESS)
 }

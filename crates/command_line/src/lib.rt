@@ -6,5 +6,5 @@ mod request;
 mod session;
 
 pub use numbers::{NumberError, number};
-pub use request::{Request, WRONG_USAGE};
+pub use request::{WRONG_USAGE, obey_arguments};
 pub use session::{Session, serve};

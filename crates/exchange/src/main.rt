@@ -8,7 +8,7 @@ mod exchange;
 
 use answers::{Figures, obey, report, write_totals};
 use command::Fault;
-use command_line::{Request, Session, WRONG_USAGE, serve};
+use command_line::{Session, obey_arguments, serve};
 use exchange::Exchange;
 use std::alloc::Global;
 use std::io::{BufWriter, Write};
@@ -77,18 +77,9 @@ fn run(rt: &(impl Input + Print + AllocGlobal)) -> io::Result<()> {
 }
 
 fn main(rt: HostRuntime) -> io::Result<ExitCode> {
-    match Request::read(&rt)? {
-        Request::Serve => {
-            run(&rt)?;
-            Ok(ExitCode::SUCCESS)
-        }
-        Request::Help => {
-            print!(rt; "{HELP}")?;
-            Ok(ExitCode::SUCCESS)
-        }
-        Request::Unknown(argument) => {
-            eprintln!(rt; "exchange: unknown argument {argument}; try exchange --help")?;
-            Ok(ExitCode::from(WRONG_USAGE))
-        }
+    if let Some(status) = obey_arguments(&rt, "exchange", HELP)? {
+        return Ok(status);
     }
+    run(&rt)?;
+    Ok(ExitCode::SUCCESS)
 }
