@@ -8,3 +8,4 @@ pub mod Putting
 pub mod Moving
 pub mod Rekeying
 pub mod Ended
+pub mod CallerLemmas

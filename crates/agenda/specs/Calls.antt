@@ -4,8 +4,8 @@ use Rattle.agenda.specs.Agenda.{Scheduled, Agenda, job_of, count, with_left}
 use Rattle.agenda.specs.Tickets.{IsStep}
 
 module _ {J : Type 0} where
-  -- A call that takes one job off the agenda, if `found` is one, and returns it with its deadline; the jobs `left` stay. If there is none,
-  -- nothing changes.
+  -- A call that takes a job off the agenda and returns it with its deadline. `found` is that job, and `left` are the others. If there is
+  -- no such job, nothing changes.
   pub record TakesOff (found : Option (ℕ × J)) (left : List (Scheduled J))
       (old : Agenda J) (result : Option (ℕ × J)) (new : Agenda J) : Type 0 where
     pub value : result ≡ found
@@ -14,13 +14,13 @@ module _ {J : Type 0} where
     pub step : IsStep old new
     pub count : OnSome result (count old ≡ count new + 1)
 
-  -- A call that gives the job of the ticket t another deadline, if there is such a job, and tells whether there is. No job comes or leaves.
+  -- A call that gives the job of the ticket t another deadline, and returns whether there is such a job. The number of jobs stays.
   pub record GivesDeadline (old : Agenda J) (t : ℕ × ℕ) (is_given : Bool) (new : Agenda J) : Type 0 where
     pub value : is_given ≡ is_some (job_of old.jobs t)
     pub step : IsStep old new
     pub count : count new ≡ count old
 
-  -- A call for which the agenda may have to grow. No ticket ends, and if the call fails, nothing changes.
+  -- A call that may need room. It ends no ticket, so the generation of the next ticket stays. On `Err` nothing has changed.
   pub record MayGrow {X E : Type 0} (old : Agenda J) (result : Result X E) (new : Agenda J) : Type 0 where
     pub generation : new.generation ≡ old.generation
     pub err : OnErr result (new ≡ old)

@@ -3,9 +3,7 @@ use Rattle.std.proofs.Common.{◌≡◌, inl, inr, ℕ, false, List, [], ◌∷�
 use Rattle.std.proofs.lemmas.Bool.{cases_eq}
 use Rattle.std.proofs.lemmas.Bool.Decides.{nat_tests}
 use Rattle.agenda_store.specs.Plan.{Job, Plan, job_at, without, put_at, cancelled, moved}
-
-abbrev with_jobs : ℕ → List Job → Plan
-with_jobs next jobs = record { jobs = jobs; next = next }
+use Rattle.agenda_store.proofs.Jobs.{with_jobs}
 
 without_none : (id : ℕ) (jobs : List Job) → is_some (job_at id jobs) ≡ false → without id jobs ≡ jobs
 without_none id [] none = refl

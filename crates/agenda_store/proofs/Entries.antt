@@ -1,9 +1,10 @@
 -- The entries of an agenda by their numbers.
-use Rattle.std.proofs.Common.{◌≡◌, ◌≢◌, ◌⊎◌, inl, inr, ℕ, ◌<◌, ◌≤◌, Bool, true, false, cond, eqb, List, [], ◌∷◌, ◌++◌, Option, Some, None, refl, sym, ◌∙◌, ap, subst, arith}
+use Rattle.std.proofs.Common.{◌≡◌, ◌≢◌, inl, inr, ℕ, ◌<◌, ◌≤◌, cond, eqb, List, [], ◌∷◌, ◌++◌, Option, Some, None, refl, sym, ◌∙◌, ap, subst, arith}
 use Rattle.std.proofs.lemmas.Bool.{cases_eq}
 use Rattle.std.proofs.lemmas.Bool.Decides.{nat_tests}
-use Rattle.agenda.specs.Agenda.{Scheduled, is_named_by, job_of, IsDistinct}
+use Rattle.agenda.specs.Agenda.{Scheduled, job_of, IsDistinct}
 use Rattle.agenda.specs.Agenda as list
+use Rattle.agenda.proofs.CallerLemmas.{job_of-first, job_of-behind, without-first, without-behind}
 use Rattle.agenda_store.specs.Planner.{Entry, Each, ticket_of, IsApart}
 
 abbrev pub Entries : Type 0
@@ -61,19 +62,6 @@ pub below_more : (n m : ℕ) (xs : Entries) → n ≤ m → Each (λ job. job.0 
 below_more n m [] le all = tt
 below_more n m (x ∷ xs) le all = let first = all.0 in (omega (arith, first), below_more n m xs le all.1)
 
--- a ticket names the entry that has it
-named : (t : ℕ × ℕ) (x : Scheduled Entry) → x.ticket ≡ t → is_named_by t x ≡ true
-named t x same = grind (arith, nat_tests, ap (λ (p : ℕ × ℕ). p.0) same, ap (λ (p : ℕ × ℕ). p.1) same)
-
-names : (t : ℕ × ℕ) (x : Scheduled Entry) → (is_named_by t x ≡ false) ⊎ (x.ticket ≡ t)
-names t x = elim (cases_eq x.ticket.0 t.0) [
-  | inl first ↦ elim (cases_eq x.ticket.1 t.1) [
-    | inl second ↦ inr (λ i. (first i, second i))
-    | inr other ↦ inl (grind (arith, nat_tests))
-  ]
-  | inr other ↦ inl (grind (arith, nat_tests))
-]
-
 -- The entry of a number stands between others, and its ticket names it.
 pub record IsAt (id : ℕ) (t : ℕ × ℕ) (xs : Entries) : Type 0 where
   pub before : Entries
@@ -95,7 +83,6 @@ entry_at id t (x ∷ xs) distinct is = elim (cases_eq x.job.0 id) [
   | inl same ↦
       let ticket : some_ticket x.ticket ≡ some_ticket t = grind (arith, nat_tests, is) in
       let ticket_is : x.ticket ≡ t = cc in
-      let by = named t x ticket_is in
       record {
         before = [];
         entry = x;
@@ -103,16 +90,14 @@ entry_at id t (x ∷ xs) distinct is = elim (cases_eq x.job.0 id) [
         split = refl;
         id_is = same;
         ticket_is = ticket_is;
-        others = ap (λ (b : Bool). cond b xs (x ∷ list.without xs t)) by;
-        job = ap (λ (b : Bool). cond b (Some (x.deadline, x.job)) (job_of xs t)) by;
+        others = without-first x xs t ticket_is;
+        job = job_of-first x xs t ticket_is;
         none_before = refl;
       }
   | inr other ↦
       let rest = entry_at id t xs distinct.1 (grind (arith, nat_tests, is)) in
-      let by : is_named_by t x ≡ false = elim (names t x) [
-        | inl other_ticket ↦ other_ticket
-        | inr same_ticket ↦ let none = subst (λ (u : ℕ × ℕ). job_of xs u ≡ None) same_ticket distinct.0 in let some = rest.job in absurd (cc)
-      ] in
+      let apart : x.ticket ≢ t = λ same.
+      let none = subst (λ (u : ℕ × ℕ). job_of xs u ≡ None) same distinct.0 in let some = rest.job in cc in
       record {
         before = x ∷ rest.before;
         entry = rest.entry;
@@ -120,8 +105,8 @@ entry_at id t (x ∷ xs) distinct is = elim (cases_eq x.job.0 id) [
         split = ap (λ (l : Entries). x ∷ l) rest.split;
         id_is = rest.id_is;
         ticket_is = rest.ticket_is;
-        others = ap (λ (b : Bool). cond b xs (x ∷ list.without xs t)) by ∙ ap (λ (l : Entries). x ∷ l) rest.others;
-        job = ap (λ (b : Bool). cond b (Some (x.deadline, x.job)) (job_of xs t)) by ∙ rest.job;
+        others = without-behind x xs t apart ∙ ap (λ (l : Entries). x ∷ l) rest.others;
+        job = job_of-behind x xs t apart ∙ rest.job;
         none_before = cons_none id x rest.before other rest.none_before;
       }
 ]

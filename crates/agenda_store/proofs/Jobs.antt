@@ -1,14 +1,18 @@
 -- The entries of an agenda as jobs.
-use Rattle.std.proofs.Common.{◌≡◌, inl, inr, ℕ, ◌<◌, ◌≤◌, [], ◌∷◌, ◌++◌, map, Some, None, refl, arith}
+use Rattle.std.proofs.Common.{◌≡◌, inl, inr, ℕ, ◌<◌, ◌≤◌, List, [], ◌∷◌, ◌++◌, map, Some, None, refl, arith}
 use Rattle.std.specs.List.{All, AllByRecursion}
 use Rattle.std.proofs.lemmas.Bool.{cases_eq}
 use Rattle.std.proofs.lemmas.Bool.Decides.{nat_tests}
 use Rattle.std.proofs.lemmas.List.Elements.{All-head, All-tail, recursion_from_All}
 use Rattle.agenda.specs.Agenda.{Scheduled}
 use Rattle.agenda.specs.Agenda as list
-use Rattle.agenda_store.specs.Plan.{Job, put, job_at, without, IsInOrder, HasDistinctNumbers}
+use Rattle.agenda_store.specs.Plan.{Job, Plan, put, job_at, without, IsInOrder, HasDistinctNumbers}
 use Rattle.agenda_store.specs.Planner.{Entry, Each, ticket_of, job_in, IsApart}
 use Rattle.agenda_store.proofs.Entries.{Entries, none_cons}
+
+-- a plan with these jobs
+abbrev pub with_jobs : ℕ → List Job → Plan
+with_jobs next jobs = record { jobs = jobs; next = next }
 
 put_first : (x : Scheduled Entry) (b : Entries) → All (λ y. x.deadline < y.deadline) b → put (job_in x) (map job_in b) ≡ job_in x ∷ map job_in b
 put_first x [] later = refl

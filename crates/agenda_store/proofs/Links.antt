@@ -6,7 +6,7 @@ use Rattle.std.specs.declared.alloc.Global.{Global}
 use Rattle.agenda.specs.Agenda.{Scheduled, Agenda, job_of, IsDistinct, Schedules, MovesDeadline}
 use Rattle.std.specs.Ordering.{is_eq, nat_cmp}
 use Rattle.agenda.specs.Agenda as list
-use Rattle.agenda_store.specs.Plan.{Job, Plan, put, put_at, job_at, without}
+use Rattle.agenda_store.specs.Plan.{Job, put, put_at, job_at, without}
 use Rattle.agenda_store.specs.Planner.{Entry, Each, ticket_of, ticket_at, job_in, IsApart, IsLinkedBy, IsLinked}
 use Rattle.agenda_store.specs.declared.planner.Planner.{Planner}
 use Rattle.agenda_store.specs.declared.store.TheConstants.{MAX_BYTES}
@@ -26,10 +26,6 @@ Below next entry = entry.0 < next
 -- The job isn't too long.
 abbrev Short : Entry → Type 0
 Short entry = length entry.1.items ≤ MAX_BYTES
-
--- a plan with these jobs
-abbrev pub with_jobs : ℕ → List Job → Plan
-with_jobs next jobs = record { jobs = jobs; next = next }
 
 -- the deadline and the bytes of an entry
 abbrev pub told_entry : ℕ × Entry → ℕ × List ℕ

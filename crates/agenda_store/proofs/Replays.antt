@@ -24,9 +24,9 @@ admitted-push [] change plan all last = (last, tt)
 admitted-push (first ∷ changes) change plan all last = (all.0, admitted-push changes change (changed first plan) all.1 last)
 
 -- one record more
-pub one_more : (records : List (List ℕ)) (bytes : List ℕ) (old new : Plan) → IsReplayed records old → Replays bytes old new
+pub one_more : {records : List (List ℕ)} {bytes : List ℕ} {old new : Plan} → IsReplayed records old → Replays bytes old new
     → IsReplayed (records ++ bytes ∷ []) new
-one_more records bytes old new before last =
+one_more {records} before last =
     let changes = before.changes in
     let spelled = ap (λ (rs : List (List ℕ)). rs ++ spelling last.change ∷ []) before.spelled ∙ sym (map_push spelling changes last.change) in
     record {
@@ -47,12 +47,6 @@ replaying change bytes plan spelled written admitted = record {
   spelled = spelled;
   plan_is = refl;
 }
-
--- The plan of a store after the record.
-pub replayed_more : (records : List (List ℕ)) (bytes : List ℕ) (old new plan : Plan) → IsReplayed records old → Replays bytes old new → plan ≡ new
-    → IsReplayed (records ++ bytes ∷ []) plan
-replayed_more records bytes old new plan before last is =
-    subst (λ (p : Plan). IsReplayed (records ++ bytes ∷ []) p) (sym is) (one_more records bytes old new before last)
 
 -- the records in front of one, that one, and those behind it
 pub parted : (vectors : List (Vec ℕ Global)) (i : ℕ) (item : Vec ℕ Global) → i < length vectors → item ≡ get_or vectors i item

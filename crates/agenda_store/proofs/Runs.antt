@@ -6,7 +6,7 @@ use Rattle.agenda_store.specs.Plan.{Plan}
 use Rattle.agenda_store.specs.Replay.{StandsFor, StandsForEither}
 use Rattle.agenda_store.specs.Requests.{answered, answered_all, StandsAfterSome}
 use Rattle.agenda_store.specs.declared.requests.Request.{Request}
-use Rattle.record_log.proofs.CallerLemmas.{then, weaker}
+use Rattle.record_log.proofs.CallerLemmas.{then}
 
 answered-push : (requests : List Request) (request : Request) (plan : Plan)
     → answered_all (requests ++ request ∷ []) plan ≡ answered request (answered_all requests plan)
@@ -20,18 +20,15 @@ more requests i request plan lt is =
     let longer = take_more requests i request lt ∙ ap (λ r. take i requests ++ r ∷ []) (sym is) in
     ap (λ rs. answered_all rs plan) longer ∙ answered-push (take i requests) request plan
 
-module _ {D : Type 0} (moment : D → ℕ) (left_since : D → ℕ → List ℕ → Type 0) (old mid new : D) where
-  module _ (requests : List Request) (i : ℕ) (request : Request) (plan now : Plan) (lt : i < length requests) where
-    -- one request, and what a crash leaves so far
-    pub goes_on : request ≡ get_or requests i request → now ≡ answered_all (take i requests) plan
-        → LeavesOnly moment left_since old mid (StandsAfterSome requests plan)
-        → LeavesOnly moment left_since mid new (StandsForEither now (answered request now))
-        → LeavesOnly moment left_since old new (StandsAfterSome requests plan)
-    goes_on is now_is first second =
-        let after_is = ap (λ (p : Plan). answered request p) now_is ∙ sym (more requests i request plan lt is) in
-        let next = weaker moment left_since mid new (StandsForEither now (answered request now)) (StandsAfterSome requests plan) second
-        (λ c either. ⊎_elim
-        (λ before. record { count = i; within = omega arith; stands = subst (λ (p : Plan). StandsFor c p) now_is before })
-        (λ after. record { count = i + 1; within = omega arith; stands = subst (λ (p : Plan). StandsFor c p) after_is after })
-        either) in
-        then moment left_since old mid new (StandsAfterSome requests plan) first next
+-- one request, and what a crash leaves so far
+module _ {D : Type 0} {moment : D → ℕ} {left_since : D → ℕ → List ℕ → Type 0} {old mid new : D} where
+  pub goes_on : (requests : List Request) (i : ℕ) (request : Request) (plan now : Plan) → i < length requests → request ≡ get_or requests i request
+      → now ≡ answered_all (take i requests) plan → LeavesOnly moment left_since old mid (StandsAfterSome requests plan)
+      → LeavesOnly moment left_since mid new (StandsForEither now (answered request now))
+      → LeavesOnly moment left_since old new (StandsAfterSome requests plan)
+  goes_on requests i request plan now lt is now_is first second =
+      let after_is = ap (λ (p : Plan). answered request p) now_is ∙ sym (more requests i request plan lt is) in
+      then first second (λ c either. ⊎_elim
+      (λ before. record { count = i; within = omega arith; stands = subst (λ (p : Plan). StandsFor c p) now_is before })
+      (λ after. record { count = i + 1; within = omega arith; stands = subst (λ (p : Plan). StandsFor c p) after_is after })
+      either)

@@ -14,11 +14,8 @@ use Rattle.agenda_store.specs.Replay.{IsReplayed}
 use Rattle.agenda_store.specs.declared.planner.Planner.{Planner}
 use Rattle.agenda_store.specs.declared.store.TheConstants.{MAX_BYTES}
 use Rattle.agenda_store.proofs.Entries.{Entries, each_remove}
-use Rattle.agenda_store.proofs.Jobs.{in_order, distinct, each_job}
+use Rattle.agenda_store.proofs.Jobs.{with_jobs, in_order, distinct, each_job}
 use Rattle.agenda_store.proofs.Replays.{written-push}
-
-abbrev plan_from : ℕ → List Job → Plan
-plan_from next jobs = record { jobs = jobs; next = next }
 
 -- what holds of each holds of one in the middle
 at_middle : (P : Job → Type 0) (done : List Job) (job : Job) (rest : List Job) → AllByRecursion P (done ++ job ∷ rest) → P job
@@ -53,23 +50,23 @@ new_number (first ∷ done) job rest distinct =
 
 module _ (next : ℕ) where
   -- The jobs come back in order, behind those that are there.
-  after_keeping : (done rest : List Job) → IsInOrder (done ++ rest) → after (map keeping rest) (plan_from next done) ≡ plan_from next (done ++ rest)
-  after_keeping done [] order = ap (plan_from next) (sym (append-nil done))
+  after_keeping : (done rest : List Job) → IsInOrder (done ++ rest) → after (map keeping rest) (with_jobs next done) ≡ with_jobs next (done ++ rest)
+  after_keeping done [] order = ap (with_jobs next) (sym (append-nil done))
   after_keeping done (job ∷ rest) order =
       let whole = append_assoc done (job ∷ []) rest in
-      ap (λ jobs. after (map keeping rest) (plan_from next jobs)) (put_last done job rest order)
+      ap (λ jobs. after (map keeping rest) (with_jobs next jobs)) (put_last done job rest order)
       ∙ after_keeping (done ++ job ∷ []) rest (subst IsInOrder (sym whole) order)
-      ∙ ap (plan_from next) whole
+      ∙ ap (with_jobs next) whole
 
   admits_keeping : (done rest : List Job) → IsInOrder (done ++ rest) → HasDistinctNumbers (done ++ rest)
-      → AllByRecursion (λ job. job.id < next) (done ++ rest) → AdmitsAll (plan_from next done) (map keeping rest)
+      → AllByRecursion (λ job. job.id < next) (done ++ rest) → AdmitsAll (with_jobs next done) (map keeping rest)
   admits_keeping done [] order distinct below = tt
   admits_keeping done (job ∷ rest) order distinct below =
       let whole = sym (append_assoc done (job ∷ []) rest) in
       let later = admits_keeping (done ++ job ∷ []) rest (subst IsInOrder whole order) (subst HasDistinctNumbers whole distinct)
       (subst (λ jobs. AllByRecursion (λ job. job.id < next) jobs) whole below) in (
         (at_middle (λ x. x.id < next) done job rest below, new_number done job rest distinct),
-        subst (λ jobs. AdmitsAll (plan_from next jobs) (map keeping rest)) (sym (put_last done job rest order)) later,
+        subst (λ jobs. AdmitsAll (with_jobs next jobs) (map keeping rest)) (sym (put_last done job rest order)) later,
       )
 
 -- The records of a snapshot stand for the plan.

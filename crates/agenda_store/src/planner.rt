@@ -147,6 +147,7 @@ impl Planner {
         ensures value { option_map taken result ≡ option_map told (job_at id (plan_of self.old).jobs) }
         ensures plan { HasPlan self.new (cancelled id (plan_of self.old)) }
     {
+        // For the prover: the tickets are distinct.
         let _ = self.agenda.len();
         let ticket = *self.tickets.get(&id)?;
         let (deadline, (_, bytes)) = self.agenda.cancel(ticket)?;
@@ -160,6 +161,7 @@ impl Planner {
         ensures value { result ≡ is_some (job_at id (plan_of self.old).jobs) }
         ensures plan { HasPlan self.new (moved id deadline (plan_of self.old)) }
     {
+        // For the prover: the tickets are distinct.
         let _ = self.agenda.len();
         match self.tickets.get(&id) {
             Some(ticket) => self.agenda.reschedule(*ticket, deadline),
@@ -172,6 +174,7 @@ impl Planner {
         requires { IsLinked self.now }
         ensures { option_map (λ x. (x.0, x.1.now)) result ≡ option_map told (job_at id (plan_of self.now).jobs) }
     {
+        // For the prover: the tickets are distinct.
         let _ = self.agenda.len();
         let ticket = *self.tickets.get(&id)?;
         let (deadline, entry) = self.agenda.get(ticket)?;

@@ -5,6 +5,9 @@ use Rattle.arena_base.proofs.Words.{length-map, drop_more, append_assoc, map_pus
 use Rattle.arena_base.proofs.Words.{IsLawful, FindSame, item_if, CloneStep, IsClone, IsRefusedClone, StopsAtRefusal, Grants, with_items, taken_over, HasSamePointers, Slot, entry_in, vacant_slots, arena_of, entries_from, entries_rising}
 use Rattle.arena_base.proofs.Steps.{AreLawful, lawful-some, current, Sound, capacity-is, get_or-padded, resized-cons, resized-same, resized-again, entries-padded, relisted, relisted-sound}
 use Rattle.arena_base.proofs.{Words.chained_keeps, Words.ClonesSlots, Words.Inside, Words.Generations, Words.Indexes, Words.Occupied, Words.Vacant, Slots.era, Slots.entries, Slots.greatest_occupied-above, Slots.none-from_generation}
+use Rattle.arena_base.proofs.Words.{◌⊎◌, inl, inr}
+use Rattle.arena_base.specs.Room.{ClonesOrFails}
+use Rattle.arena_base.specs.declared.error.ReallocationError.{ReallocationError, TheVariants.BeyondMaxCapacity, TheVariants.AllocError as NoMemory}
 
 -- the calls of the closure for these entries, from one state to another
 abbrev pub Calls : {P U T F : Type 0} (numbers : P → ℕ × ℕ) (step : F → P → U → T → F → Type 0)
@@ -301,3 +304,9 @@ module _ {P T A U Inx Gen F : Type 0} (numbers : P → ℕ × ℕ) (gen : Genera
       relisted-sound gen inx next listed generation s.maximum all n (entries gen.number copies) is
       (omega (arith, sound.within_limit, length-map s.slots.items (entry_in gen.number)))
       (rw named lawful.generation_lawful) (copies-lawful r p none lawful.entries_lawful)
+
+-- If a clone failed, nothing has changed, or an item was refused memory.
+pub failed-clone : {R : Type 0} {limit capacity needed : ℕ} {r : Result R ReallocationError} {After Same Refused : Type 0}
+    → ClonesOrFails limit capacity needed r After Same Refused → (e : ReallocationError) → r ≡ Err e → Same ⊎ Refused
+failed-clone c BeyondMaxCapacity is = inl (c.beyond_kept is)
+failed-clone c NoMemory is = elim (c.memory is) [ inl kept ↦ inl kept.1 | inr refused ↦ inr refused ]

@@ -1,5 +1,5 @@
 -- The words of std and the definitions that the proofs of this crate use.
-pub use Rattle.std.proofs.Common.{◌==◌, inl, inr, ◌≡◌, ℕ, zero, suc, ◌+◌, ◌<◌, ◌≤◌, true, Option, Some, None, List, [], ◌∷◌, ◌++◌, cond}
+pub use Rattle.std.proofs.Common.{◌==◌, ◌⊎◌, inl, inr, ◌≡◌, ℕ, zero, suc, ◌+◌, ◌<◌, ◌≤◌, true, Option, Some, None, List, [], ◌∷◌, ◌++◌, cond}
 pub use Rattle.std.proofs.Common.{eqb, length, get_or, set, replicate, is_some, count_by, take, ◌-◌, refl, arith, ◌≢◌, drop, map, sym, ap}
 pub use Rattle.std.proofs.Common.{◌∙◌, subst, add-one, reverse, false, unwrap_or, slice_get, max, min, Result, Ok, Err, rules, vec_len}
 pub use Rattle.std.proofs.lemmas.List.{take_at, take-take, get_or-take, get_or_push, length-set, length-append, get_or-set_same}

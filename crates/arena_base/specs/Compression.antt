@@ -1,6 +1,7 @@
 -- A compression: the items move to the indexes from 1 on, in index order.
 use Rattle.std.specs.Prelude.{◌≡◌, ℕ, ◌+◌, Bool, false, if◌then◌else◌, Option, Some, None, List, [], ◌∷◌, ◌++◌, length, map}
 use Rattle.std.specs.List.{FoldsTo}
+use Rattle.arena_base.specs.{declared.invalidation.InvalidationOption.InvalidationOption, Invalidation.is_overflow}
 use Rattle.arena_base.specs.{Generation.first_generation, Generation.next_generation, Generation.overflows_after, Arena.Arena, Arena.HoldsSame, Arena.resized, Arena.vacant_indexes, Walk.entries_rising}
 
 -- the generation after a compression: the first if it is reset, else the next
@@ -10,6 +11,12 @@ compressed_generation greatest reset g = if reset then first_generation greatest
 -- whether the generations overflow in a compression; never if they are reset
 abbrev pub compression_overflows : Option ℕ → Bool → ℕ → Bool
 compression_overflows greatest reset g = if reset then false else overflows_after greatest g
+
+-- A call raised the generation, or reset it to the first if `reset` is true. `After` holds with the new generation, and the result says
+-- whether the generations overflow.
+pub record Restarts {R : Type 0} (greatest : Option ℕ) (reset : Bool) (before : ℕ) (result : InvalidationOption R) (After : ℕ → Type 0) : Type 0 where
+  pub after : After (compressed_generation greatest reset before)
+  pub overflow : is_overflow result ≡ compression_overflows greatest reset before
 
 -- a with these items at the indexes from 1 on, all with generation g, which becomes the arena's; its free list is ascending
 abbrev pub compressed : {T : Type 0} → Arena T → ℕ → List T → Arena T

@@ -35,6 +35,17 @@ pub record IsRemoval {R X : Type 0} (greatest : Option ℕ) (before : ℕ) (resu
   pub removed : OnSome (valid_value result) After
   pub invalid : IfNone (valid_value result) Same
 
+-- A removal of an entry that is there returned what it was. The result says whether the generations overflow, and `After` holds.
+pub record IsSureRemoval {R X : Type 0} (greatest : Option ℕ) (before : ℕ) (result : InvalidationOption R) (told : X) (found : Option X) (After : Type 0) : Type 0 where
+  pub value : found ≡ Some told
+  pub overflow : is_overflow result ≡ overflows_after greatest before
+  pub removed : After
+
+-- A call raised the generation. The result says whether the generations overflow, and `After` holds.
+pub record Raises {R : Type 0} (greatest : Option ℕ) (before : ℕ) (result : InvalidationOption R) (After : Type 0) : Type 0 where
+  pub after : After
+  pub overflow : is_overflow result ≡ overflows_after greatest before
+
 -- A renewal of an entry at index i returned a new pointer if the entry was found. The pointer has the same index and the raised
 -- generation. The result says whether the generations overflow, and `After` holds. If no entry was found, `Same` holds.
 pub record IsRenewal {P : Type 0} (numbers : P → ℕ × ℕ) (greatest : Option ℕ) (before : ℕ) (result : InvalidationResult P) (i : ℕ) (found : Bool) (After Same : Type 0) : Type 0 where

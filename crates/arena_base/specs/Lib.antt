@@ -5,6 +5,7 @@ pub mod Drain
 pub mod Generation
 pub mod Invalidation
 pub mod Pointer
+pub mod Room
 pub mod Slot
 pub mod SlotMoves
 pub mod Walk

@@ -1,7 +1,7 @@
 //! `Arena`: entries in the slots of one vector, with a stack of the vacant slots.
 ghost use Rattle.std.specs.Prelude.{◌≡◌, ◌==◌, ◌+◌, ◌<◌, ◌≤◌, ◌↔◌};
-ghost use Rattle.arena_base.specs.Generation.{IsLawfulGeneration, overflows_after};
-ghost use Rattle.arena_base.specs.Invalidation.{is_overflow};
+ghost use Rattle.arena_base.specs.Generation.{IsLawfulGeneration};
+ghost use Rattle.arena_base.specs.Invalidation.{Raises};
 ghost use Rattle.arena_base.specs.Arena.{arena_len, arena_capacity, arena_limit, raised, IsSound};
 
 mod clone;
@@ -130,8 +130,8 @@ impl<P: BasePtr, T, A: Allocator> Arena<P, T, A> {
 
     /// Raises the generation. Entries keep theirs. After the greatest comes the first again, which is an overflow.
     pub fn inc_generation(&mut self) -> InvalidationOption<()>
-        ensures after { self.new ≡ raised P.Gen.greatest self.old }
-        ensures overflow { is_overflow result ≡ overflows_after P.Gen.greatest self.old.generation }
+        ensures { Raises P.Gen.greatest self.old.generation result
+            (self.new ≡ raised P.Gen.greatest self.old) }
     {
         let (next, overflow) = self.generation.generational_inc();
         self.generation = next;

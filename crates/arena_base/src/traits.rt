@@ -1,12 +1,12 @@
 //! `ArenaTrait`: every arena as a finite map from pointers to items, with at most one pointer for an index.
-ghost use Rattle.std.specs.Prelude.{◌≡◌, ◌==◌, ◌<◌, ◌≤◌, ◌↔◌, ℕ, Some, max, is_some, IsNone, IsOk, IsErr, IfOk, OnOk, OnErr, IfSome};
+ghost use Rattle.std.specs.Prelude.{◌≡◌, ◌==◌, ◌≤◌, ◌↔◌, ℕ, Some, max, is_some, IsNone, OnOk, IfSome};
 ghost use Rattle.std.specs.Option.{option_copied, option_copied_mut, option_map};
 ghost use Rattle.std.specs.Borrow.{sem, LendsIf};
 ghost use Rattle.arena_base.specs.Arena.{Arena as Content, HoldsSame, slot, item_of, arena_len, arena_capacity, arena_limit, new_arena, with_capacity, with_item, removed, renewed, cleared, greatest_occupied, IsLawful, IsFirstEntry, IsLastEntry};
 ghost use Rattle.arena_base.specs.Clone.{HasSamePointers, IsClone, IsShown};
-ghost use Rattle.arena_base.specs.Compression.{compressed, compressed_generation, compression_overflows, items_rising, IsCompression};
-ghost use Rattle.arena_base.specs.Generation.{overflows_after};
-ghost use Rattle.arena_base.specs.Invalidation.{valid_value, is_overflow, IsRemoval, IsRenewal};
+ghost use Rattle.arena_base.specs.Compression.{compressed, items_rising, IsCompression, Restarts};
+ghost use Rattle.arena_base.specs.Invalidation.{valid_value, IsRemoval, IsRenewal, Raises};
+ghost use Rattle.arena_base.specs.Room.{Allocates, Reallocates, LimitsCapacity};
 
 use crate::error::{MaxCapacityReductionError, ReallocationError};
 use crate::invalidation::{InvalidationOption, InvalidationResult};
@@ -30,10 +30,8 @@ pub trait ArenaTrait<P: BasePtr, T>: ItemsMut<P, T> {
     fn with_min_capacity(alloc: Self::Alloc, n: usize) -> Result<Self, AllocError>
     where
         Self: Sized,
-        ensures ok { IfOk result
-            (λ a. HoldsSame (content a) (with_capacity (new_arena P.Gen.greatest) n)) }
-        ensures beyond { P.Inx.most < n → IsErr result }
-        ensures none { n ≡ 0 → IsOk result };
+        ensures { Allocates P.Inx.most n result
+            (λ a. HoldsSame (content a) (with_capacity (new_arena P.Gen.greatest) n)) };
 
     /// Returns how many entries the arena holds without growing.
     fn capacity(&self) -> usize
@@ -62,14 +60,11 @@ pub trait ArenaTrait<P: BasePtr, T>: ItemsMut<P, T> {
     /// - `BeyondMaxCapacity`: `n` is beyond the maximum or the greatest index of an entry.
     /// - `AllocError`: growing failed.
     fn reallocate_min_capacity(&mut self, n: usize) -> Result<(), ReallocationError>
-        ensures ok { OnOk result (HoldsSame (content self.new)
-            (with_capacity (content self.old)
-            (max n (greatest_occupied (content self.old).slots)))) }
-        ensures beyond { (result ≡ Err ReallocationError.BeyondMaxCapacity)
-            ↔ (arena_limit P.Inx.most (content self.old) < n) }
-        ensures memory { result ≡ Err ReallocationError.AllocError
-            → arena_capacity (content self.old) < n }
-        ensures err { OnErr result (HoldsSame (content self.new) (content self.old)) };
+        ensures { Reallocates (arena_limit P.Inx.most (content self.old))
+            (arena_capacity (content self.old)) n result
+            (HoldsSame (content self.new) (with_capacity (content self.old)
+            (max n (greatest_occupied (content self.old).slots))))
+            (HoldsSame (content self.new) (content self.old)) };
 
     /// Returns whether `p` names an entry.
     fn contains(&self, p: P) -> bool
@@ -140,9 +135,8 @@ pub trait ArenaTrait<P: BasePtr, T>: ItemsMut<P, T> {
     fn clear(&mut self) -> InvalidationOption<()>
     where
         T: Drop,
-        ensures after { HoldsSame (content self.new) (cleared P.Gen.greatest (content self.old)) }
-        ensures overflow { is_overflow result
-            ≡ overflows_after P.Gen.greatest (content self.old).generation };
+        ensures { Raises P.Gen.greatest (content self.old).generation result
+            (HoldsSame (content self.new) (cleared P.Gen.greatest (content self.old))) };
 
     /// Moves all entries to the indexes from 1 on, in index order, and gives them one generation, which becomes the arena's: the first if
     /// `reset` is true, else the next.
@@ -155,19 +149,14 @@ pub trait ArenaTrait<P: BasePtr, T>: ItemsMut<P, T> {
         f: F,
     ) -> InvalidationOption<()>
         requires { F.IsAlwaysCallable f }
-        ensures after { IsCompression P.numbers F.step
-            (compressed_generation P.Gen.greatest reset (content self.old).generation) f
-            (content self.old) (content self.new) }
-        ensures overflow { is_overflow result
-            ≡ compression_overflows P.Gen.greatest reset (content self.old).generation };
+        ensures { Restarts P.Gen.greatest reset (content self.old).generation result
+            (λ g. IsCompression P.numbers F.step g f (content self.old) (content self.new)) };
 
     /// Moves all entries to the indexes from 1 on, as `compress_with` does. Each keeps its item.
     fn compress(&mut self, reset: bool) -> InvalidationOption<()>
-        ensures after { HoldsSame (content self.new) (compressed (content self.old)
-            (compressed_generation P.Gen.greatest reset (content self.old).generation)
-            (items_rising (content self.old))) }
-        ensures overflow { is_overflow result
-            ≡ compression_overflows P.Gen.greatest reset (content self.old).generation }
+        ensures { Restarts P.Gen.greatest reset (content self.old).generation result
+            (λ g. HoldsSame (content self.new)
+            (compressed (content self.old) g (items_rising (content self.old)))) }
     {
         self.compress_with(reset, |_old, item, _new| item)
     }
@@ -188,11 +177,9 @@ pub trait SetMaxCapacity<P: BasePtr, T>: ArenaTrait<P, T> {
     ///
     /// The arena is unchanged: its capacity is already greater than `n`.
     fn set_max_capacity(&mut self, n: usize) -> Result<(), MaxCapacityReductionError>
-        ensures ok { OnOk result
-            (HoldsSame (Self.content self.new)
-            (record (Self.content self.old) { maximum = Some n })) }
-        ensures refused { IsErr result ↔ (n < arena_capacity (Self.content self.old)) }
-        ensures err { OnErr result (HoldsSame (Self.content self.new) (Self.content self.old)) };
+        ensures { LimitsCapacity (arena_capacity (Self.content self.old)) n result
+            (HoldsSame (Self.content self.new) (record (Self.content self.old) { maximum = Some n }))
+            (HoldsSame (Self.content self.new) (Self.content self.old)) };
 }
 
 /// Arenas that can become a clone of another arena.
@@ -216,15 +203,12 @@ pub trait ArenaCloneFromWith<P: BasePtr, T>: ArenaTrait<P, T> {
     where
         T: Drop,
         requires { F.IsAlwaysCallable map }
-        ensures ok { OnOk result ((last : F) × IsClone P.numbers (IsShown F.step) map
-            (S.content source.now) (Self.content self.old) (Self.content self.new) last) }
+        ensures clones { Reallocates (arena_limit P.Inx.most (Self.content self.old))
+            (arena_capacity (Self.content self.old))
+            (greatest_occupied (S.content source.now).slots) result
+            ((last : F) × IsClone P.numbers (IsShown F.step) map
+            (S.content source.now) (Self.content self.old) (Self.content self.new) last)
+            (HoldsSame (Self.content self.new) (Self.content self.old)) }
         ensures pointers { OnOk result
-            (HasSamePointers (Self.content self.new) (S.content source.now)) }
-        ensures beyond { (result ≡ Err ReallocationError.BeyondMaxCapacity)
-            ↔ (arena_limit P.Inx.most (Self.content self.old)
-            < greatest_occupied (S.content source.now).slots) }
-        ensures memory { result ≡ Err ReallocationError.AllocError
-            → arena_capacity (Self.content self.old)
-            < greatest_occupied (S.content source.now).slots }
-        ensures err { OnErr result (HoldsSame (Self.content self.new) (Self.content self.old)) };
+            (HasSamePointers (Self.content self.new) (S.content source.now)) };
 }

@@ -199,18 +199,9 @@ module _ {T U : Type 0} (a0 : Arena (Link U)) (first last : Option ℕ) (laid : 
       (fresh ∙ vacant-held {T = T} b.slots [] (held-laid b.slots None None [] none) ∙ ap (vacant_indexes {T = T} []) capacity) (ap (λ (x : Arena (Link T)). x.generation) is) (ap (λ (x : Arena (Link T)). x.maximum) is) in
       done.chain
 
--- the receiver after a refusal: unchanged, or without entries
+-- the receiver of a clone that failed: unchanged, or without entries
 module _ {T U : Type 0} (a0 : Arena (Link U)) (a b : Arena (Link T)) (first last : Option ℕ) (laid : IsChainIn a first last)
-    (r : Result (Unit {0}) ReallocationError) (e : ReallocationError) (is : r ≡ Err e) {K : Type 0} (beyond : r ≡ Err BeyondMaxCapacity → (b ≡ a) × K)
-    {A B : Type 0} (stops : B → b ≡ arena_taken_over a0 a []) (memory : r ≡ Err NoMemory → (A × (b ≡ a) × K) ⊎ B) where
-  left : (b ≡ a) ⊎ (b ≡ arena_taken_over a0 a [])
-  left = kept-or-not r e is beyond memory
-    where
-      kept-or-not : (r : Result (Unit {0}) ReallocationError) (e : ReallocationError) → r ≡ Err e → (r ≡ Err BeyondMaxCapacity → (b ≡ a) × K)
-          → (r ≡ Err NoMemory → (A × (b ≡ a) × K) ⊎ B) → (b ≡ a) ⊎ (b ≡ arena_taken_over a0 a [])
-      kept-or-not r BeyondMaxCapacity is beyond memory = inl (beyond is).0
-      kept-or-not r NoMemory is beyond memory = elim (memory is) [ inl kept ↦ inl kept.1 | inr gone ↦ inr (stops gone) ]
-
+    (left : (b ≡ a) ⊎ (b ≡ arena_taken_over a0 a [])) where
   no-ends : arena_len a ≡ 0 → (first ≡ None) × (last ≡ None)
   no-ends none = grind (arith, common_steps)
 
@@ -226,12 +217,10 @@ module _ {T U : Type 0} (a0 : Arena (Link U)) (a b : Arena (Link T)) (first last
   pub kept-chain : b ≡ a → (arena_len b == 0) ≡ true → chain_of b None ≡ chain_of a first
   kept-chain kept empty = grind (arith, common_steps, no-ends)
 
--- what a refused clone keeps of the state of what makes its items, if its calls keep it
-module _ {M K X Y Z : Type 0} (see : M → K) (m n : M) (stops : Z → see n ≡ see m) where
-  pub left-refused : (r : Result (Unit {0}) ReallocationError) (e : ReallocationError) → r ≡ Err e → (r ≡ Err BeyondMaxCapacity → X × (n ≡ m))
-      → (r ≡ Err NoMemory → (Y × X × (n ≡ m)) ⊎ Z) → see n ≡ see m
-  left-refused r BeyondMaxCapacity is beyond memory = ap see (beyond is).1
-  left-refused r NoMemory is beyond memory = elim (memory is) [ inl kept ↦ ap see kept.2 | inr refused ↦ stops refused ]
+-- what a clone that failed keeps of the state of what makes its items, if its calls keep it
+pub left-refused : {M K X Z : Type 0} (see : M → K) (m n : M) → (Z → see n ≡ see m) → (X × (n ≡ m)) ⊎ Z → see n ≡ see m
+left-refused see m n stops (inl kept) = ap see kept.1
+left-refused see m n stops (inr refused) = stops refused
 
 -- A clone in states of one kind is one in states of another.
 module _ {P T U M F X E : Type 0} (numbers : P → ℕ × ℕ) (below : M → P → Link U → T → M → Type 0) (above : F → P → Link U → T → F → Type 0) (state : M → F)

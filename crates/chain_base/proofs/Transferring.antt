@@ -1,10 +1,10 @@
 -- The steps of a transfer.
 use Rattle.std.proofs.Common.{◌≡◌, ℕ, zero, suc, ◌+◌, ◌-◌, ◌<◌, ◌≤◌, max, List, [], ◌∷◌, ◌++◌, map, length, length-append, append_assoc, Option, Some, None, OnSome, OnOk, IsOk, IsErr, Result, Ok, Err, is_some, true, slice_get, refl, sym, ap, ◌∙◌, arith, option_map}
-use Rattle.std.proofs.{lemmas.List.append-nil, lemmas.List.length-map, lemmas.List.map-id, lemmas.List.map_push, lemmas.Grind.common_steps, lemmas.Option.same_Some, lemmas.Fn.FoldsTo-push}
+use Rattle.std.proofs.{lemmas.List.append-nil, lemmas.List.length-map, lemmas.List.map-id, lemmas.List.map_push, lemmas.Grind.common_steps, lemmas.Option.same_Some, lemmas.Result.on_ok_weaker, lemmas.Fn.FoldsTo-push}
 use Rattle.std.specs.List.{FoldsTo}
 use Rattle.arena_base.specs.{declared.invalidation.InvalidationOption.InvalidationOption, Generation.overflows_after, Invalidation.allowed_value, Invalidation.is_overflow}
 use Rattle.chain_base.specs.Chain.{Entry, Chain, times, entry_at, first_pointer, link_at, insert_after, vacant_among, removed, with_capacity, greatest_index, inserted, IsSound}
-use Rattle.chain_base.specs.{Transfer.filled_with, Transfer.last_index_of, Transfer.place_behind, Transfer.TakesOut, Transfer.HasTaken, Link.Link}
+use Rattle.chain_base.specs.{Transfer.filled_with, Transfer.last_index_of, Transfer.place_behind, Transfer.TakesFirst, Transfer.HasTaken, Link.Link}
 use Rattle.chain_base.specs.{Compression.numbered, Compression.Transferring, Compression.TransferStep, Compression.IsTransfer, Insert.placed, Insert.CanPlace}
 use Rattle.chain_base.proofs.{Canonical.numbered-push, Canonical.times-numbered, Canonical.vacant-same, Room.greatest-within, Lists.same_index}
 
@@ -16,8 +16,8 @@ module _ {T : Type 0} where
   -- a capacity grows
   module _ {X E : Type 0} (most : ℕ) (greatest : Option ℕ) (c new : Chain T) (n : ℕ) (r : Result X E) (sound : IsSound most greatest c)
       (less : c.capacity < n) where
-    pub capacity-raised : OnOk r (new ≡ with_capacity c (max n (greatest_index c.entries))) → OnOk r (new.capacity ≡ max c.capacity n)
-    capacity-raised is = grind (arith, common_steps, greatest-within)
+    pub capacity-raised : OnOk r (new ≡ with_capacity c (max n (greatest_index c.entries))) → OnOk r ((new.capacity ≡ max c.capacity n) × (new.maximum ≡ c.maximum))
+    capacity-raised is = on_ok_weaker r (λ same. (grind (arith, common_steps, greatest-within), ap (λ (c : Chain T). c.maximum) same)) is
 
   -- the item in a link, with a generation or its number
   module _ {G : Type 0} (number : G → ℕ) where
@@ -30,9 +30,9 @@ module _ {T : Type 0} where
       (head : Some (numbers from) ≡ first_pointer old.entries)
       (value : Some (allowed_value taken) ≡ option_map (λ e. e.1.item) (link_at old.entries (numbers from).0))
       (overflow : is_overflow taken ≡ overflows_after greatest old.generation) (gone : new ≡ removed greatest old (numbers from).0) where
-    pub takes-out : (es : List (Entry T)) → old.entries ≡ es → TakesOut numbers greatest old new from taken
-    takes-out [] is = absurd (let none : Some (numbers from) ≡ None = rw is at head in cc)
-    takes-out (e ∷ rest) is =
+    pub takes-first : (es : List (Entry T)) → old.entries ≡ es → TakesFirst numbers greatest old new from taken
+    takes-first [] is = absurd (let none : Some (numbers from) ≡ None = rw is at head in cc)
+    takes-first (e ∷ rest) is =
         let pair : ◌≡◌ {A = ℕ × ℕ} (numbers from) (e.index, e.generation) = same_Some (numbers from) (e.index, e.generation) (rw is at head) in
         let at : (numbers from).0 ≡ e.index = ap (λ (p : ℕ × ℕ). p.0) pair in
         record {
@@ -128,7 +128,7 @@ module _ {P Q T U M : Type 0} (numbers_from : Q → ℕ × ℕ) (numbers_to : P 
   taken-none empty = record { gone = []; items = []; split = refl; calls = refl; count = refl; put = empty; capacity = refl; maximum = refl }
 
   module _ (rest after : Chain U) (now then_now : Chain T) (n n' : M) (from : Q) (taken : InvalidationOption U) (to : P) (item : T)
-      (h : Taken rest now n) (t : TakesOut numbers_from greatest rest after from taken) (at : (numbers_to to).0 ≡ length h.items + 1)
+      (h : Taken rest now n) (t : TakesFirst numbers_from greatest rest after from taken) (at : (numbers_to to).0 ≡ length h.items + 1)
       (of : (numbers_to to).1 ≡ c.generation) where
     abbrev pub taken-more : step n from taken to item n' → then_now ≡ filled_with c (h.items ++ item ∷ []) → Taken after then_now n'
     taken-more called put = record {

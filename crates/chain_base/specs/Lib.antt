@@ -18,6 +18,7 @@ pub use Rattle.arena_base.specs.Compression as ArenaCompression
 pub use Rattle.arena_base.specs.Generation
 pub use Rattle.arena_base.specs.Invalidation
 pub use Rattle.arena_base.specs.Pointer
+pub use Rattle.arena_base.specs.Room
 pub use Rattle.arena_base.specs.Walk as ArenaWalk
 pub use Rattle.arena_base.specs.declared.error.InsertionError
 pub use Rattle.arena_base.specs.declared.error.ReallocationError

@@ -22,7 +22,7 @@ place_behind None = Disconnected
 place_behind (Some i) = NextToInx i
 
 -- the first entry was removed
-pub record TakesOut {Q U : Type 0} (numbers : Q → ℕ × ℕ) (greatest : Option ℕ) (old new : Chain U) (from : Q) (taken : InvalidationOption U) : Type 0 where
+pub record TakesFirst {Q U : Type 0} (numbers : Q → ℕ × ℕ) (greatest : Option ℕ) (old new : Chain U) (from : Q) (taken : InvalidationOption U) : Type 0 where
   pub entry : Entry U
   pub rest : List (Entry U)
   pub split : old.entries ≡ entry ∷ rest

@@ -1,7 +1,7 @@
 //! `ChainArena`: an arena whose entries are linked into one list.
 ghost use Rattle.std.specs.Prelude.{◌≡◌, ◌==◌, length};
-ghost use Rattle.arena_base.specs.Generation.{IsLawfulGeneration, overflows_after};
-ghost use Rattle.arena_base.specs.Invalidation.{is_overflow};
+ghost use Rattle.arena_base.specs.Generation.{IsLawfulGeneration};
+ghost use Rattle.arena_base.specs.Invalidation.{Raises};
 ghost use Rattle.chain_base.specs.Chain.{raised, IsSound, IsArenaOf};
 
 mod canonical;
@@ -114,8 +114,8 @@ impl<P: BasePtr, T, A: Allocator> ChainArena<P, T, A> {
 
     /// Raises the generation. Entries keep theirs. After the greatest comes the first again, which is an overflow.
     pub fn inc_generation(&mut self) -> InvalidationOption<()>
-        ensures after { self.new ≡ raised P.Gen.greatest self.old }
-        ensures overflow { is_overflow result ≡ overflows_after P.Gen.greatest self.old.generation }
+        ensures { Raises P.Gen.greatest self.old.generation result
+            (self.new ≡ raised P.Gen.greatest self.old) }
     {
         self.arena.inc_generation()
     }

@@ -138,12 +138,11 @@ module _ {P T I G K : Type 0} (r : Reading P T I G K) (total : IsTotalOrder r.cm
     along : (asked : List (Command P T I G K)) → AllByRecursion (KeepsApart r) asked → (told : List (Reply P T A I G)) (s t : State T) (f g : F)
         → Runs r calls s f asked told t g → IsApart s → IsApart t
     along [] keep [] s t f g run apart = rw run.0 apart
-    along [] keep (q ∷ told) s t f g run apart = absurd run
-    along (c ∷ asked) keep [] s t f g run apart = absurd run
     along (c ∷ asked) keep (q ∷ told) s t f g run apart =
         let step = run.2 in
         let next = apart-change r total s.tree.list run.0.tree.list keep.0 apart.1 ((outcome r s run.0.tree calls f c q run.1 step.does).change apart.0) in
         along asked keep.1 told run.0 t run.1 g run.3 (step.lawful.distinct, next)
+    along asked keep told s t f g run apart = absurd run
 
 pub ascending_keys : (P T I G A K : Type 0) {F : Type 0} (calls : Calls T F) → AscendingKeysLaw P T I G A K calls
 ascending_keys P T I G A K calls r old new f g asked told total none keep run =

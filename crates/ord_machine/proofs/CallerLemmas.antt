@@ -70,8 +70,7 @@ module _ {P T I G A F H K : Type 0} (r : Reading P T I G K) (calls : Calls T F) 
   pub Runs-like : (old : State T) (f : F) (asked : List (Command P T I G K)) (told : List (Reply P T A I G)) (new : State T) (g : F)
       → AreLike old f asked told new g
   Runs-like old f [] [] new g run = (run.0, ap at run.1)
-  Runs-like old f [] (q ∷ replies) new g run = absurd run
-  Runs-like old f (c ∷ commands) [] new g run = absurd run
   Runs-like old f (c ∷ commands) (q ∷ replies) new g run =
       let step = run.2 in
       (run.0, at run.1, record { does = does-like old f run.1 c q run.0.tree step.does; marks = step.marks; lawful = step.lawful; sound = step.sound }, Runs-like run.0 run.1 commands replies new g run.3)
+  Runs-like old f commands replies new g run = absurd run

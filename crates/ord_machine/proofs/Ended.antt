@@ -1,5 +1,5 @@
 -- Pointers that ended stay ended: how generations change along a run.
-use Rattle.std.proofs.Common.{◌≡◌, ℕ, zero, suc, ◌+◌, ◌<◌, ◌≤◌, ◌⊎◌, inl, inr, false, List, [], ◌∷◌, Option, Some, None, IsSome, is_some, refl, sym, ap, ◌∙◌, arith}
+use Rattle.std.proofs.Common.{◌≡◌, ◌≢◌, ℕ, zero, suc, ◌+◌, ◌<◌, ◌≤◌, ◌⊎◌, inl, inr, false, List, [], ◌∷◌, Option, Some, None, IsSome, is_some, refl, sym, ap, ◌∙◌, arith}
 use Rattle.std.proofs.lemmas.Bool.Decides.{eqb_tells}
 use Rattle.std.specs.{Option.ForSome, Option.option_map, List.AllByRecursion}
 use Rattle.triple_ord.specs.Generation.{next_generation}
@@ -10,11 +10,14 @@ use Rattle.ord_machine.specs.Pointers.{resets, raises, raises_among, Part, Ended
 use Rattle.ord_machine.specs.{Machine.Reading, Machine.Calls, Machine.State, Machine.Runs, declared.command.Command.Command, declared.reply.Reply.Reply}
 use Rattle.ord_machine.proofs.Outcomes.{cases_pointer, found-there, there-found, elsewhere, unused, risen, Change, stays, comes, writes, rekeys, leaves, renews, relays, empties, outcome}
 
--- How generations change from one list to the next. The arena's rises by n. An entry that wasn't there with its pointer has a generation
--- between the old one and the new one. If an entry's pointer ended, the arena's generation rose.
+-- An entry was there with this index and generation, or the generation is between the old one and the new one.
+abbrev WasOrIsNew : {T : Type 0} → Chain T → Chain T → ℕ → ℕ → Type 0
+WasOrIsNew {T} old new i g = ((x : T) × (entry_at old.entries i ≡ Some (g, x))) ⊎ ((old.generation ≤ g) × (g ≤ new.generation))
+
+-- How generations change from one list to the next: the arena's rises by n, and if an entry's pointer ended, it rose.
 pub record Goes {T : Type 0} (old : Chain T) (n : ℕ) (new : Chain T) : Type 0 where
   pub raised : new.generation ≡ old.generation + n
-  pub entries : (i : ℕ) (e : ℕ × T) → entry_at new.entries i ≡ Some e → ((x : T) × (entry_at old.entries i ≡ Some (e.0, x))) ⊎ ((old.generation ≤ e.0) × (e.0 ≤ new.generation))
+  pub entries : (i : ℕ) (e : ℕ × T) → entry_at new.entries i ≡ Some e → WasOrIsNew old new i e.0
   pub ended : (p : ℕ × ℕ) → IsSome (item_of old.entries p) → item_of new.entries p ≡ None → 0 < n
 
 -- no entry's generation is above the arena's
@@ -84,6 +87,24 @@ same-first {T} g x e same = let both : (g, x) ≡ e = cc in ap (λ (p : ℕ × T
 
 -- how generations change in one step
 module _ {P T I G K : Type 0} (r : Reading P T I G K) (old new : Chain T) (n : ℕ) (distinct : IsDistinct old.entries) (raised : new.generation ≡ old.generation + n) where
+  -- only the entry at this index changes
+  goes-at : (i : ℕ) → ((j : ℕ) → j ≢ i → entry_at new.entries j ≡ entry_at old.entries j)
+      → ((e : ℕ × T) → entry_at new.entries i ≡ Some e → WasOrIsNew old new i e.0)
+      → ((p : ℕ × ℕ) → IsSome (item_of old.entries p) → p.0 ≡ i → item_of new.entries p ≡ None → 0 < n) → Goes old n new
+  goes-at i others here ended = record {
+    raised = raised;
+    entries = λ j e found. elim (eqb_tells j i) [
+      | inl h ↦ rw h.1 (here e (ap (entry_at new.entries) (sym h.1) ∙ found))
+      | inr h ↦ inl (e.1, sym (others j h.1) ∙ found)
+    ];
+    ended = λ p there none. elim (eqb_tells p.0 i) [
+      | inl h ↦ ended p there h.1 none
+      | inr h ↦ absurd (
+          let mine = found-there old.entries p there in
+          let some = there-found new.entries p mine.0 (others p.0 h.1 ∙ mine.1) in cc)
+    ];
+  }
+
   goes-change : {Of : ℕ × ℕ → Type 0} {Keeps : Type 0} → Change r old new n Of Keeps → Goes old n new
   goes-change (stays same) = record {
     raised = raised;
@@ -93,37 +114,17 @@ module _ {P T I G K : Type 0} (r : Reading P T I G K) (old new : Chain T) (n : �
   goes-change (comes gap i item entered aim place by) =
       let now : entry_at new.entries i ≡ Some (old.generation, item) =
       ap (λ es. entry_at es i) entered.list ∙ entry_at-between gap.front _ gap.back entered.free in
-      record {
-        raised = raised;
-        entries = λ j e found. elim (eqb_tells j i) [
-          | inl h ↦ let late = same-first old.generation item e (sym now ∙ ap (entry_at new.entries) (sym h.1) ∙ found) in inr (omega (arith, late), omega (arith, late, raised))
-          | inr h ↦ inl (e.1, sym (elsewhere old new gap i item entered j h.1) ∙ found)
-        ];
-        ended = λ p there none. absurd (
-            let mine = found-there old.entries p there in
-            let other = elsewhere old new gap i item entered p.0 (unused old new gap i item entered p there) in
-            let some = there-found new.entries p mine.0 (other ∙ mine.1) in cc);
-      }
+      goes-at i (elsewhere old new gap i item entered)
+      (λ e found. let late = same-first old.generation item e (sym now ∙ found) in inr (omega (arith, late), omega (arith, late, raised)))
+      (λ p there same none. absurd (unused old new gap i item entered p there same))
   goes-change (writes i was item at is spares alike) =
       let now : entry_at new.entries i ≡ Some (was.0, item) = rw (is, entry_at-with_item_among old.entries i item, at) refl in
-      record {
-        raised = raised;
-        entries = λ j e found. elim (eqb_tells j i) [
-          | inl h ↦ inl (was.1, ap (entry_at old.entries) h.1 ∙ at ∙ ap (λ g. Some (g, was.1)) (same-first was.0 item e (sym now ∙ ap (entry_at new.entries) (sym h.1) ∙ found)))
-          | inr h ↦ inl (e.1, sym (entry_at-with_item_among_other old.entries i j item h.1) ∙ sym (rw is refl) ∙ found)
-        ];
-        ended = λ p there none. absurd (kept p (found-there old.entries p there) none);
-      }
-    where
-      kept : (p : ℕ × ℕ) → (x : T) × (entry_at old.entries p.0 ≡ Some (p.1, x)) → item_of new.entries p ≡ None → ⊥
-      kept p there none = elim (eqb_tells p.0 i) [
-        | inl h ↦ let now : entry_at new.entries p.0 ≡ Some (p.1, item) =
-            rw (is, h.1, entry_at-with_item_among old.entries i item, ← h.1, there.1) refl in
-            let some = there-found new.entries p item now in cc
-        | inr h ↦
-            let now : entry_at new.entries p.0 ≡ Some (p.1, there.0) = rw (is, entry_at-with_item_among_other old.entries i p.0 item h.1) there.1 in
-            let some = there-found new.entries p there.0 now in cc
-      ]
+      goes-at i (λ j other. ap (λ es. entry_at es j) is ∙ entry_at-with_item_among_other old.entries i j item other)
+      (λ e found. inl (was.1, at ∙ ap (λ g. Some (g, was.1)) (same-first was.0 item e (sym now ∙ found))))
+      (λ p there same none. absurd (
+      let mine = found-there old.entries p there in
+      let still : entry_at new.entries p.0 ≡ Some (p.1, item) = rw (is, same, entry_at-with_item_among old.entries i item, ← same, mine.1) refl in
+      let some = there-found new.entries p item still in cc))
   goes-change (rekeys q item found now others spares never) = record {
     raised = raised;
     entries = λ i e is. elim (cases_pointer (i, e.0) q) [
@@ -139,27 +140,19 @@ module _ {P T I G K : Type 0} (r : Reading P T I G K) (old new : Chain T) (n : �
       | inr other ↦ let gone = sym (others p other) ∙ none in cc
     ]);
   }
-  goes-change (leaves i is some spares) = record {
-    raised = raised;
-    entries = λ j e found. elim (eqb_tells j i) [
-      | inl h ↦ absurd (let none : entry_at new.entries j ≡ None = rw (is, h.1) (entry_at-without old.entries i distinct) in cc)
-      | inr h ↦ inl (e.1, sym (entry_at-without_other old.entries i j h.1) ∙ ap (λ es. entry_at es j) (sym is) ∙ found)
-    ];
-    ended = λ p there none. some;
-  }
-  goes-change (renews i is some spares) = record {
-    raised = raised;
-    entries = λ j e found. elim (eqb_tells j i) [
-      | inl h ↦ inr (late e (entry_at old.entries i) (sym (entry_at-with_generation old.entries i new.generation)
-          ∙ ap (λ es. entry_at es i) (sym is) ∙ ap (entry_at new.entries) (sym h.1) ∙ found))
-      | inr h ↦ inl (e.1, sym (entry_at-with_generation_other old.entries i j new.generation h.1) ∙ ap (λ es. entry_at es j) (sym is) ∙ found)
-    ];
-    ended = λ p there none. some;
-  }
+  goes-change (leaves i is some spares) =
+      goes-at i (λ j other. ap (λ es. entry_at es j) is ∙ entry_at-without_other old.entries i j other)
+      (λ e found. absurd (let none : entry_at new.entries i ≡ None = rw is (entry_at-without old.entries i distinct) in cc))
+      (λ p there same none. some)
+  goes-change (renews i is some spares) =
+      goes-at i (λ j other. ap (λ es. entry_at es j) is ∙ entry_at-with_generation_other old.entries i j new.generation other)
+      (λ e found. late e (entry_at old.entries i)
+      (sym (entry_at-with_generation old.entries i new.generation) ∙ ap (λ es. entry_at es i) (sym is) ∙ found))
+      (λ p there same none. some)
     where
-      late : (e : ℕ × T) (o : Option (ℕ × T)) → option_map (λ f. (new.generation, f.1)) o ≡ Some e → (old.generation ≤ e.0) × (e.0 ≤ new.generation)
+      late : (e : ℕ × T) (o : Option (ℕ × T)) → option_map (λ f. (new.generation, f.1)) o ≡ Some e → WasOrIsNew old new i e.0
       late e None found = absurd (cc)
-      late e (Some f) found = let same = same-first new.generation f.1 e found in (omega (arith, same, raised), omega (arith, same))
+      late e (Some f) found = let same = same-first new.generation f.1 e found in inr (omega (arith, same, raised), omega (arith, same))
   goes-change (relays all same some others) = record {
     raised = raised;
     entries = λ i e is. inr (omega (arith, all i e is, raised), omega (arith, all i e is));
@@ -191,8 +184,6 @@ module _ {P T I G K : Type 0} (r : Reading P T I G K) (top : ℕ) (counted : r.g
     along : (asked : List (Command P T I G K)) → NeverResets asked → (told : List (Reply P T A I G)) (s t : State T) (f g : F)
         → Runs r calls s f asked told t g → Leads s (raises_among asked told) t
     along [] back [] s t f g run lawful holds room = rw run.0 (record { lawful = lawful; raised = omega arith; holds = holds })
-    along [] back (q ∷ told) s t f g run lawful holds room = absurd run
-    along (c ∷ asked) back [] s t f g run lawful holds room = absurd run
     along (c ∷ asked) back (q ∷ told) s t f g run lawful holds room =
         let step = run.2 in
         let leads = outcome r s run.0.tree calls f c q run.1 step.does in
@@ -200,6 +191,7 @@ module _ {P T I G K : Type 0} (r : Reading P T I G K) (top : ℕ) (counted : r.g
         let first = goes-change r s.tree.list run.0.tree.list (raises c q) lawful.distinct raised (leads.change lawful.distinct) in
         let rest = along asked back.1 told run.0 t run.1 g run.3 step.lawful (goes s.tree.list run.0.tree.list (raises c q) first holds) (omega (arith, room, first.raised)) in
         record { lawful = rest.lawful; raised = omega (arith, rest.raised, first.raised); holds = rest.holds }
+    along asked back told s t f g run lawful holds room = absurd run
 
     along-part : (s : State T) (f : F) (n : ℕ) (t : State T) (g : F) → Part A r calls s f n t g → Leads s n t
     along-part s f n t g part lawful holds room =

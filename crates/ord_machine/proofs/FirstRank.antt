@@ -47,9 +47,7 @@ module _ {T : Type 0} where
 
   -- between two empty parts there is only the entry
   alone : (front back : List (Entry T)) (e : Entry T) → (front ≡ []) × (back ≡ []) → front ++ e ∷ back ≡ e ∷ []
-  alone [] [] e none = refl
-  alone [] (f ∷ back) e none = absurd (omega (arith, ap length none.1))
-  alone (f ∷ front) back e none = absurd (omega (arith, ap length none.0))
+  alone front back e none = rw (none.0, none.1) refl
 
 module _ {T K : Type 0} (key : T → K) (cmp : K → K → Ordering) (most : ℕ) where
   -- the result of inserting a new entry into an empty tree

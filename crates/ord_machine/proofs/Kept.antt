@@ -26,13 +26,12 @@ module _ {P T I G K : Type 0} (r : Reading P T I G K) (old new : Chain T) (p : �
 -- a whole run
 pub kept_pointer : (P T I G A K : Type 0) {F : Type 0} (calls : Calls T F) → KeptPointerLaw P T I G A K calls
 kept_pointer P T I G A K calls r old new f g [] [] p lawful others run there = ap (λ (s : State T). item_of s.tree.list.entries p) run.0
-kept_pointer P T I G A K calls r old new f g [] (q ∷ told) p lawful others run there = absurd run
-kept_pointer P T I G A K calls r old new f g (c ∷ asked) [] p lawful others run there = absurd run
 kept_pointer P T I G A K calls r old new f g (c ∷ asked) (q ∷ told) p lawful others run there =
     let mid = run.0 in
     let leads = (outcome r old mid.tree calls f c q run.1 run.2.does).change lawful.distinct in
     let kept = keeps-change r old.tree.list mid.tree.list p there others.0 leads in
     kept_pointer P T I G A K calls r mid new run.1 g asked told p run.2.lawful others.1 run.3 (ap is_some kept ∙ there) ∙ kept
+kept_pointer P T I G A K calls r old new f g asked told p lawful others run there = absurd run
 
 -- a run that begins by rekeying the pointer's own entry
 pub rekeyed_pointer : (P T I G A K : Type 0) {F : Type 0} (calls : Calls T F) → RekeyedPointerLaw P T I G A K calls

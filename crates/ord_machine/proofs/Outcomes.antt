@@ -4,7 +4,7 @@ use Rattle.std.proofs.{lemmas.Bool.Decides.eqb_tells, lemmas.List.length-map, le
 use Rattle.std.specs.declared.cmp.Ordering.{Ordering, TheVariants.Less, TheVariants.Equal, TheVariants.Greater}
 use Rattle.std.specs.Cmp.{IsTotalOrder}
 use Rattle.triple_ord.specs.InvalidationResult.TheVariants.{Success, GenerationOverflow, InvalidPtr}
-use Rattle.triple_ord.specs.Generation.{next_generation}
+use Rattle.triple_ord.specs.{Generation.next_generation, PlainArena.item_if}
 use Rattle.triple_ord.specs.Chain.{Entry, Chain, renewed, removed, times, IsDistinct, entry_at, item_of, without, with_item_among, with_generation}
 use Rattle.triple_ord.specs.{ChainCompression.at_compressed_index, ChainCompression.numbered, Insert.IsInsertion}
 use Rattle.triple_ord.proofs.ChainLemmas.{after-insertion, entry_at-absent, entry_at-between_other, generation-relocated, generation-numbered}
@@ -18,6 +18,7 @@ use Rattle.triple_ord.specs.declared.growth.Growth.{Growth}
 use Rattle.triple_ord.specs.declared.growth.Growth.TheVariants.{Within, Reallocating}
 use Rattle.triple_ord.specs.{declared.insert_kind.OrdInsertKind.OrdInsertKind, declared.entry_kind.OrdEntryKind.OrdEntryKind, declared.error.OrdInsertionError.OrdInsertionError}
 use Rattle.triple_ord.proofs.{CallerLemmas.entries-with_room_by, CallerLemmas.numbers-with_room_by, CallerLemmas.rekeys-updates, CallerLemmas.entry_at-after}
+use Rattle.triple_ord.proofs.CallerLemmas.{item_if-found, item_if-own}
 use Rattle.triple_ord.proofs.CallerLemmas.{kept_order, rekeyed_order, in_order-without, in_order-one, in_order-more, IsInOrder-rest}
 use Rattle.triple_ord.specs.{Rekey.Rekeys, Order.IsInOrder, OrderLaws.GoesBy, Insertion.InsertsBy}
 use Rattle.ord_machine.specs.declared.reply.Reply.TheVariants.{Inserted, Refused, Item, Removed, Renewed, Changed, Entries, Done, ReductionRefused}
@@ -29,20 +30,10 @@ use Rattle.ord_machine.specs.declared.command.Command.TheVariants as commands
 module _ {T : Type 0} where
   -- an item found by a pointer is at its index, with its generation
   pub found-there : (es : List (Entry T)) (p : ℕ × ℕ) → IsSome (item_of es p) → (x : T) × (entry_at es p.0 ≡ Some (p.1, x))
-  found-there es p there = go (entry_at es p.0) refl
-    where
-      go : (o : Option (ℕ × T)) → entry_at es p.0 ≡ o → (x : T) × (entry_at es p.0 ≡ Some (p.1, x))
-      go None is = absurd (let none : item_of es p ≡ None = rw is refl in cc)
-      go (Some e) is = elim (eqb_tells e.0 p.1) [
-        | inl h ↦ (e.1, is ∙ ap (λ g. Some (g, e.1)) h.1)
-        | inr h ↦ absurd (let none : item_of es p ≡ None = rw (is, h.0) refl in cc)
-      ]
+  found-there es p there = item_if-found p.1 (entry_at es p.0) there
 
   pub there-found : (es : List (Entry T)) (p : ℕ × ℕ) (x : T) → entry_at es p.0 ≡ Some (p.1, x) → item_of es p ≡ Some x
-  there-found es p x is = elim (eqb_tells p.1 p.1) [
-    | inl h ↦ rw (is, h.0) refl
-    | inr h ↦ absurd (h.1 refl)
-  ]
+  there-found es p x is = ap (item_if p.1) is ∙ item_if-own p.1 (Some x)
 
   -- two different pointers that find something have different indexes
   other_index : (es : List (Entry T)) (p q : ℕ × ℕ) → q ≢ p → IsSome (item_of es q) → IsSome (item_of es p) → p.0 ≢ q.0
@@ -291,12 +282,35 @@ module _ {P T I G K : Type 0} (r : Reading P T I G K) (s : State T) (new : Tree 
         record { affects = inr bare; raised = λ _. raised; change = λ _. empties none some of_none; ordered = λ _ _ _ _. in_order_as none (in_order-none r.key r.cmp) }
 
     -- the list keeps its entries, and the tree its shape
-    alone-raised : {n : ℕ} → new.shape ≡ s.tree.shape → new.list.entries ≡ es → new.list.generation ≡ risen r.greatest n s.tree.list.generation
-        → Outcome r s.tree new keeps back n Of Keeps InOrder
-    alone-raised same is raised = record { affects = inl same; raised = λ _. raised; change = λ _. stays is; ordered = λ _ _ _. in_order_as is }
+    alone-raised : {n : ℕ} (c : Chain T) → new ≡ record s.tree { list = c } → c.entries ≡ es
+        → c.generation ≡ risen r.greatest n s.tree.list.generation → Outcome r s.tree new keeps back n Of Keeps InOrder
+    alone-raised c is same raised =
+        let entries = ap (λ t. t.list.entries) is ∙ same in
+        record {
+          affects = inl (ap (λ t. t.shape) is);
+          raised = λ _. ap (λ t. t.list.generation) is ∙ raised;
+          change = λ _. stays entries;
+          ordered = λ _ _ _. in_order_as entries;
+        }
 
     kept : new ≡ s.tree → Outcome r s.tree new keeps back 0 Of Keeps InOrder
-    kept same = alone-raised (ap (λ t. t.shape) same) (ap (λ t. t.list.entries) same) (ap (λ t. t.list.generation) same)
+    kept same = alone-raised s.tree.list same refl refl
+
+    -- the entries are laid out again, in the same order
+    laid-out : (list : Chain T) → IsRebuilt new.shape → new.list ≡ list
+        → (back ≡ false → list.generation ≡ next_generation r.greatest s.tree.list.generation)
+        → ((i : ℕ) (e : ℕ × T) → entry_at list.entries i ≡ Some e → e.0 ≡ list.generation) → HasKeysOf r s.tree.list list → IsOfNone Of
+        → Outcome r s.tree new rebuilds back 1 Of Keeps InOrder
+    laid-out list rebuilt is raised all same of_none =
+        let keys = ap (λ (c : Chain T). map (λ e. r.key e.item) c.entries) is ∙ same in
+        let era = ap (λ (c : Chain T). c.generation) is in
+        record {
+          affects = rebuilt;
+          raised = λ onward. era ∙ raised onward;
+          change = λ _.
+              relays (λ i e found. all i e (ap (λ (c : Chain T). entry_at c.entries i) (sym is) ∙ found) ∙ sym era) keys (omega arith) of_none;
+          ordered = λ _ _ _. in_order_alike keys;
+        }
 
   -- an insertion by a key
   insertion_in_order : {InOrder : Type 0} (growth : Growth) (aim : Aim K) (item : T) → GoesInOrder r InOrder item aim
@@ -385,34 +399,21 @@ module _ {P T I G K : Type 0} (r : Reading P T I G K) (s : State T) (new : Tree 
   outcome calls f commands.Clear (Changed result) g does =
       gone (ap (λ t. t.shape) does.0.0) (ap (λ t. t.list.entries) does.0.0) (ap (λ t. t.list.generation) does.0.0) (omega arith) (λ p of. of)
   outcome calls f commands.Clear reply g does = absurd does.0
-  outcome calls f commands.IncGeneration (Changed result) g does =
-      alone-raised (ap (λ t. t.shape) does.0.0) (ap (λ t. t.list.entries) does.0.0) (ap (λ t. t.list.generation) does.0.0)
+  outcome calls f commands.IncGeneration (Changed result) g does = alone-raised _ does.0.0 refl refl
   outcome calls f commands.IncGeneration reply g does = absurd does.0
-  outcome calls f (commands.Compress reset) (Changed result) g does = record {
-    affects = does.0.1;
-    raised = λ onward. rw onward at (ap (λ c. c.generation) does.0.0);
-    change = λ _. relays (λ i e found. generation-relocated es _ es i e (ap (λ (c : Chain T). entry_at c.entries i) (sym does.0.0) ∙ found)
-        ∙ sym (ap (λ c. c.generation) does.0.0))
-        (ap (λ (c : Chain T). map (λ e. r.key e.item) c.entries) does.0.0 ∙ keys-relocated r.key es es _) (omega arith) (λ p of. of);
-    ordered = λ _ _ _. in_order_alike (ap (λ (c : Chain T). map (λ e. r.key e.item) c.entries) does.0.0 ∙ keys-relocated r.key es es _);
-  }
+  outcome calls f (commands.Compress reset) (Changed result) g does =
+      laid-out _ does.0.1 does.0.0 (λ onward. rw onward refl) (λ i e found. generation-relocated es _ es i e found)
+      (keys-relocated r.key es es _) (λ p of. of)
   outcome calls f (commands.Compress reset) reply g does = absurd does.0
-  outcome calls f (commands.Canonical reset) (Changed result) g does = record {
-    affects = does.0.1;
-    raised = λ onward. rw onward at (ap (λ c. c.generation) does.0.0);
-    change = λ _. relays (λ i e found. generation-numbered _ 1 (map (λ e. e.item) es) i e (ap (λ (c : Chain T). entry_at c.entries i) (sym does.0.0) ∙ found)
-        ∙ sym (ap (λ c. c.generation) does.0.0))
-        (ap (λ (c : Chain T). map (λ e. r.key e.item) c.entries) does.0.0 ∙ keys-numbered r.key es _ 1) (omega arith) (λ p of. of);
-    ordered = λ _ _ _. in_order_alike (ap (λ (c : Chain T). map (λ e. r.key e.item) c.entries) does.0.0 ∙ keys-numbered r.key es _ 1);
-  }
+  outcome calls f (commands.Canonical reset) (Changed result) g does =
+      laid-out _ does.0.1 does.0.0 (λ onward. rw onward refl) (λ i e found. generation-numbered _ 1 (map (λ e. e.item) es) i e found)
+      (keys-numbered r.key es _ 1) (λ p of. of)
   outcome calls f (commands.Canonical reset) reply g does = absurd does.0
-  outcome calls f (commands.Reserve n) Done g does =
-      alone-raised (ap (λ t. t.shape) does.0.1) (ap (λ t. t.list.entries) does.0.1) (ap (λ t. t.list.generation) does.0.1)
+  outcome calls f (commands.Reserve n) Done g does = alone-raised _ does.0.1 refl refl
   outcome calls f (commands.Reserve n) (Refused BeyondMaxCapacity) g does = kept does.0.1
   outcome calls f (commands.Reserve n) (Refused AllocError) g does = kept does.0.2
   outcome calls f (commands.Reserve n) reply g does = absurd does.0
-  outcome calls f (commands.SetMax n) Done g does =
-      alone-raised (ap (λ t. t.shape) does.0.1) (ap (λ t. t.list.entries) does.0.1) (ap (λ t. t.list.generation) does.0.1)
+  outcome calls f (commands.SetMax n) Done g does = alone-raised _ does.0.1 refl refl
   outcome calls f (commands.SetMax n) ReductionRefused g does = kept does.0.1
   outcome calls f (commands.SetMax n) reply g does = absurd does.0
   outcome calls f (commands.DrainOrdered num) (Entries pairs) g does =

@@ -1,5 +1,5 @@
 -- The account of rank changes along a run.
-use Rattle.std.proofs.Common.{◌≡◌, ℕ, ◌+◌, ◌≤◌, inl, inr, Option, Some, List, [], ◌∷◌, length, refl, sym, ap, subst, ◌∙◌, arith}
+use Rattle.std.proofs.Common.{◌≡◌, ℕ, ◌+◌, ◌≤◌, ◌⊎◌, inl, inr, Option, Some, List, [], ◌∷◌, length, refl, sym, ap, subst, ◌∙◌, arith}
 use Rattle.std.proofs.lemmas.List.{length-map}
 use Rattle.std.specs.List.{AllByRecursion}
 use Rattle.triple_ord.specs.Chain.{IsSound}
@@ -26,19 +26,17 @@ single_sound most greatest t lawful sound i k l a b =
     sym (rank_in-standing t.shape i k once a) ∙ rank_in-standing t.shape i l once b
 
 -- if the shape stays, no rank changes
-unchanged : (m : ℕ) (s : Shape) → IsSingle s → ChangesRanksWithin m s s
-unchanged m s single = ([], omega arith, λ i k l a b. inr (single i k l a b))
+changed_or_same : (m : ℕ) (old new : Shape) → IsSingle old → ChangesRanksWithin m old new ⊎ (new ≡ old) → ChangesRanksWithin m old new
+changed_or_same m old new single (inl within) = within
+changed_or_same m old new single (inr same) = rw same ([], omega arith, λ i k l a b. inr (single i k l a b))
 
 -- a step changes ranks within its allowance
 within_allowance : (effect : Effect) (old new : Shape) → (effect ≡ rebuilds → ⊥) → IsSingle old → Affects effect old new → ChangesRanksWithin (allowance effect) old new
-within_allowance adds old new built single affects =
-    elim affects.1 [ inl within ↦ within | inr same ↦ subst (λ (s : Shape). ChangesRanksWithin 4 old s) (sym same) (unchanged 4 old single) ]
-within_allowance removes old new built single affects =
-    elim affects [ inl within ↦ within | inr same ↦ subst (λ (s : Shape). ChangesRanksWithin 9 old s) (sym same) (unchanged 9 old single) ]
-within_allowance moves old new built single affects =
-    elim affects [ inl within ↦ within | inr same ↦ subst (λ (s : Shape). ChangesRanksWithin 14 old s) (sym same) (unchanged 14 old single) ]
+within_allowance adds old new built single affects = changed_or_same 4 old new single affects.1
+within_allowance removes old new built single affects = changed_or_same 9 old new single affects
+within_allowance moves old new built single affects = changed_or_same 14 old new single affects
 within_allowance rebuilds old new built single affects = absurd (built refl)
-within_allowance keeps old new built single (inl same) = subst (λ (s : Shape). ChangesRanksWithin 0 old s) (sym same) (unchanged 0 old single)
+within_allowance keeps old new built single (inl same) = changed_or_same 0 old new single (inr same)
 within_allowance keeps old new built single (inr none) = subst (λ (s : Shape). ChangesRanksWithin 0 old s) (sym none) ([], omega arith, λ i k l a b. elim b [ ])
 
 module _ {P T I G A : Type 0} where
@@ -59,14 +57,13 @@ module _ {P T I G A F K : Type 0} (r : Reading P T I G K) (calls : Calls T F) (n
       → Runs r calls old f asked told new g
       → (count : ℕ) × (count + potential new.tree.shape ≤ potential old.tree.shape + allowance_of asked told) × CountsRankChanges r calls old f asked told new g count
   account [] [] old f single stays run = (0, omega (arith, ap (λ (s : State T). potential s.tree.shape) run.0), (run.0, run.1, refl))
-  account [] (reply ∷ told) old f single stays run = absurd run
-  account (command ∷ asked) [] old f single stays run = absurd run
   account (command ∷ asked) (reply ∷ told) old f single stays run =
       let mid = run.0 in
       let step = run.2 in
       let paid = within_allowance (effect_of command reply) old.tree.shape mid.tree.shape (not_rebuilt command reply stays.0) single (outcome r old mid.tree calls f command reply run.1 step.does).affects in
       let rest = account asked told mid run.1 (single_sound r.most r.greatest mid.tree step.lawful step.sound) stays.1 run.3 in
       (length paid.0 + rest.0, omega (arith, paid.1, rest.1), (mid, run.1, paid.0, rest.0, step, paid.2, refl, rest.2))
+  account asked told old f single stays run = absurd run
 
 pub rank_changes : (P T I G A K : Type 0) {F : Type 0} (calls : Calls T F) → RankChangesLaw P T I G A K calls
 rank_changes P T I G A K calls r old new f g asked told lawful sound stays run =

@@ -31,6 +31,5 @@ HasRank-part (node lesser j m greater) l r i k (inr (inr part)) = inr (inr (HasR
 module _ {T : Type 0} (shape : Shape) (e : Entry T) (k : ℕ) (has : HasRank shape e.index k) where
   pub HaveRanks-more : (before : List (Entry T)) (ranks : List ℕ) → HaveRanks shape before ranks → HaveRanks shape (before ++ e ∷ []) (ranks ++ k ∷ [])
   HaveRanks-more [] [] ranked = (has, tt)
-  HaveRanks-more [] (r ∷ ranks) ranked = absurd ranked
-  HaveRanks-more (b ∷ before) [] ranked = absurd ranked
   HaveRanks-more (b ∷ before) (r ∷ ranks) ranked = (ranked.0, HaveRanks-more before ranks ranked.1)
+  HaveRanks-more before ranks ranked = absurd ranked

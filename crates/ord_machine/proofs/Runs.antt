@@ -1,18 +1,11 @@
 -- A run, step by step.
 use Rattle.std.proofs.Common.{◌≡◌, List, [], ◌∷◌, ◌++◌, refl, subst}
-use Rattle.triple_ord.specs.Chain.{IsSound}
-use Rattle.triple_ord.specs.Tree.{Tree, IsSoundTree}
-use Rattle.ord_machine.specs.Machine.{Calls, Reading, Marks, State, AreTrue, Does, marks_after, Step, Runs, RunsBetween}
+use Rattle.triple_ord.specs.Tree.{Tree}
+use Rattle.ord_machine.specs.Machine.{Calls, Reading, Marks, State, AreTrue, marks_after, Step, StepsBetween, Runs, RunsBetween}
 use Rattle.ord_machine.specs.{declared.command.Command.Command, declared.reply.Reply.Reply}
 use Rattle.ord_machine.proofs.Marking.{AreTrue-does}
 
 module _ {P T I G A F K : Type 0} (r : Reading P T I G K) (calls : Calls T F) where
-  -- a step between trees, with any marks that are true of the first
-  pub record StepsBetween (old : Tree T) (f : F) (command : Command P T I G K) (reply : Reply P T A I G) (new : Tree T) (g : F) : Type 0 where
-    pub does : (marks : Marks) → AreTrue marks old.shape → Does r calls (record { tree = old; marks = marks }) f command reply new g
-    pub lawful : IsSound r.most r.greatest new.list
-    pub sound : IsSoundTree new
-
   -- a run of no commands
   pub RunsBetween-none : (t : Tree T) (f : F) (replies : List (Reply P T A I G)) → replies ≡ [] → RunsBetween r calls t f [] replies t f
   RunsBetween-none t f [] none = λ marks holds. (marks, holds, (refl, refl))
@@ -29,9 +22,8 @@ module _ {P T I G A F K : Type 0} (r : Reading P T I G K) (calls : Calls T F) (c
   Runs-more : (old : State T) (f : F) (asked : List (Command P T I G K)) (told : List (Reply P T A I G)) → GoesOn old f asked told
   Runs-more old f [] [] run =
       (new, g, subst (λ (s : State T). Step r calls s f command reply new g) run.0 (subst (λ (h : F). Step r calls mid h command reply new g) run.1 step), (refl, refl))
-  Runs-more old f [] (q ∷ told) run = absurd run
-  Runs-more old f (c ∷ asked) [] run = absurd run
   Runs-more old f (c ∷ asked) (q ∷ told) run = (run.0, run.1, run.2, Runs-more run.0 run.1 asked told run.3)
+  Runs-more old f asked told run = absurd run
 
 -- and so does a run between trees
 module _ {P T I G A F K : Type 0} (r : Reading P T I G K) (calls : Calls T F) (command : Command P T I G K)

@@ -357,7 +357,12 @@ module _ {P T I G A : Type 0} where
   abbrev pub marks_after : {K : Type 0} → Command P T I G K → Reply P T A I G → Tree T → Marks → Marks
   marks_after command reply new marks = settled new (marked_by (effect_of command reply) marks)
 
--- A call that may call a closure, which becomes g: whatever marks are true of the tree, this holds in that state. The closure stays callable.
+-- Clones of an item equal it, and the closure can be called for every pointer and item, repeatedly.
+pub record CanRun {T F : Type 0} (is_clone : T → T → Type 0) (is_callable : F → Type 0) (f : F) : Type 0 where
+  pub clones : (x y : T) → is_clone x y → y ≡ x
+  pub callable : is_callable f
+
+-- After a call that may call a closure, this holds with any marks that are true of the tree. The closure g can be called again.
 pub record MayCall {T F : Type 0} (is_callable : F → Type 0) (holds : State T → Type 0) (tree : Tree T) (g : F) : Type 0 where
   pub does : (marks : Marks) → AreTrue marks tree.shape → holds (record { tree = tree; marks = marks })
   pub callable : is_callable g
@@ -391,6 +396,13 @@ module _ {P T I G A F : Type 0} where
     pub marks : new.marks ≡ marks_after command reply new.tree old.marks
     pub lawful : IsSound r.most r.greatest new.tree.list
     pub sound : IsSoundTree new.tree
+
+  -- The machine may go from one tree to the other, whatever marks are true of the first.
+  pub record StepsBetween {K : Type 0} (r : Reading P T I G K) (calls : Calls T F) (old : Tree T) (f : F)
+      (command : Command P T I G K) (reply : Reply P T A I G) (new : Tree T) (g : F) : Type 0 where
+    pub does : (marks : Marks) → AreTrue marks old.shape → Does r calls (record { tree = old; marks = marks }) f command reply new g
+    pub lawful : IsSound r.most r.greatest new.list
+    pub sound : IsSoundTree new
 
   -- The machine may give these replies to these commands, in order.
   abbrev pub Runs : {K : Type 0} → Reading P T I G K → Calls T F → State T → F → List (Command P T I G K) → List (Reply P T A I G) → State T → F → Type 0

@@ -1,9 +1,7 @@
 //! Running commands on an ordered arena.
 ghost use Rattle.std.specs.Prelude.{◌≡◌, ◌<◌, IfOk, OnErr, length};
-ghost use Rattle.triple_ord.specs.Chain.{IsSound};
-ghost use Rattle.triple_ord.specs.Tree.{IsSoundTree};
 ghost use Rattle.triple_ord.specs.ClosureSearch.{Asks};
-ghost use Rattle.ord_machine.specs.Machine.{calls_by, reading_by, Does, MayCall, RunsBetween};
+ghost use Rattle.ord_machine.specs.Machine.{calls_by, reading_by, CanRun, StepsBetween, RunsBetween};
 
 use crate::command::Command;
 use crate::reply::Reply;
@@ -34,8 +32,7 @@ pub fn run<
 ) -> Result<Vec<Reply<P, T, A>, A>, AllocError>
 where
     T::Key: Drop,
-    requires clones { (x y : T) → T.is_clone x y → y ≡ x }
-    requires callable { F.IsAlwaysCallable closure.old }
+    requires { CanRun T.is_clone F.IsAlwaysCallable closure.old }
     ensures run { IfOk result (λ replies. RunsBetween
         (reading_by T.key_of T.Key.cmp P.Inx.most P.Gen.greatest
         P.numbers P.Inx.number P.Gen.number) (calls_by (Asks P.numbers F.step) T.is_infallible)
@@ -67,14 +64,11 @@ fn step<
 ) -> Reply<P, T, A>
 where
     T::Key: Drop,
-    requires clones { (x y : T) → T.is_clone x y → y ≡ x }
-    requires callable { F.IsAlwaysCallable closure.old }
-    ensures runs { MayCall F.IsAlwaysCallable
-        (λ s. Does (reading_by T.key_of T.Key.cmp P.Inx.most P.Gen.greatest
+    requires { CanRun T.is_clone F.IsAlwaysCallable closure.old }
+    ensures step { StepsBetween (reading_by T.key_of T.Key.cmp P.Inx.most P.Gen.greatest
         P.numbers P.Inx.number P.Gen.number) (calls_by (Asks P.numbers F.step) T.is_infallible)
-        s closure.old command result arena.new closure.new) arena.old closure.new }
-    ensures lawful { IsSound P.Inx.most P.Gen.greatest arena.new.list }
-    ensures sound { IsSoundTree arena.new }
+        arena.old closure.old command result arena.new closure.new }
+    ensures callable { F.IsAlwaysCallable closure.new }
 {
     let reply = reply_to(alloc, arena, command, closure);
     // For the prover: the list and the shape are sound.

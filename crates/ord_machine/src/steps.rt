@@ -8,7 +8,7 @@ ghost use Rattle.triple_ord.specs.Insertion.{with_kind};
 ghost use Rattle.triple_ord.specs.declared.growth.Growth.TheVariants.{Within, Reallocating};
 ghost use Rattle.triple_ord.specs.Place.{at_key, aim_of};
 ghost use Rattle.triple_ord.specs.Ranks.{HasRank};
-ghost use Rattle.ord_machine.specs.Machine.{calls_by, reading_by, Marks, AreTrue, Does, MayCall, Inserts, insertion_reply, Sets, MovesToKey, Removes, RemovesAt, Renews, Changes, Rebuilds, Reserves, SetsMaximum, Finds, FindsFrom, FindsNear, FindsNearFrom, AnswersWith, AnswersSimilarWith, Visits, Gets, IsEnd, HasNeighbours, Lists, entry_of, Ranked, HaveRanks, Drains, removed_each, Checks, Counts};
+ghost use Rattle.ord_machine.specs.Machine.{calls_by, reading_by, Marks, AreTrue, CanRun, Does, MayCall, Inserts, insertion_reply, Sets, MovesToKey, Removes, RemovesAt, Renews, Changes, Rebuilds, Reserves, SetsMaximum, Finds, FindsFrom, FindsNear, FindsNearFrom, AnswersWith, AnswersSimilarWith, Visits, Gets, IsEnd, HasNeighbours, Lists, entry_of, Ranked, HaveRanks, Drains, removed_each, Checks, Counts};
 
 use crate::command::Command;
 use crate::reply::Reply;
@@ -34,8 +34,7 @@ pub fn reply_to<
 ) -> Reply<P, T, A>
 where
     T::Key: Drop,
-    requires clones { (x y : T) → T.is_clone x y → y ≡ x }
-    requires callable { F.IsAlwaysCallable closure.old }
+    requires { CanRun T.is_clone F.IsAlwaysCallable closure.old }
     ensures { MayCall F.IsAlwaysCallable
         (λ s. Does (reading_by T.key_of T.Key.cmp P.Inx.most P.Gen.greatest
         P.numbers P.Inx.number P.Gen.number) (calls_by (Asks P.numbers F.step) T.is_infallible)

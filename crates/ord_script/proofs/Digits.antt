@@ -1,27 +1,19 @@
 -- Digits read from the left.
-use Rattle.std.proofs.Common.{◌≡◌, ℕ, ◌+◌, ◌<◌, Bool, true, false, ◌&&◌, List, [], ◌∷◌, length, take, get_or, suc, zero, refl, arith}
-use Rattle.std.specs.{Str.all_ascii_digits, Char.is_ascii_digit}
+use Rattle.std.proofs.Common.{◌≡◌, ℕ, ◌+◌, ◌<◌, true, false, ◌&&◌, List, [], ◌∷◌, length, take, get_or, refl, sym, ◌∙◌, ap}
+use Rattle.std.proofs.lemmas.List.Folds.{list_all_at, list_all_more}
+use Rattle.std.specs.{List.list_all, Str.all_ascii_digits, Char.is_ascii_digit}
 
--- a byte that isn't a digit
-pub all_ascii_digits_bad : (word : List ℕ) (i : ℕ) → i < length word → is_ascii_digit (get_or word i 0) ≡ false → all_ascii_digits word ≡ false
-all_ascii_digits_bad [] i within bad = absurd (omega (arith, within))
-all_ascii_digits_bad (c ∷ word) zero within bad = rw bad refl
-all_ascii_digits_bad (c ∷ word) (suc i) within bad = rw (all_ascii_digits_bad word i (omega (arith, within)) bad) (both (is_ascii_digit c))
-  where
-    both : (b : Bool) → b && false ≡ false
-    both true = refl
-    both false = refl
+as_list_all : (word : List ℕ) → all_ascii_digits word ≡ list_all is_ascii_digit word
+as_list_all [] = refl
+as_list_all (c ∷ word) = ap (λ all. is_ascii_digit c && all) (as_list_all word)
 
-both_parts : (a b : Bool) → a && b ≡ true → (a ≡ true) × (b ≡ true)
-both_parts true b h = (refl, h)
-both_parts false b h = cc
+-- a byte that isn't a digit, and one more digit
+module _ (word : List ℕ) (i : ℕ) (within : i < length word) where
+  pub all_ascii_digits_bad : is_ascii_digit (get_or word i 0) ≡ false → all_ascii_digits word ≡ false
+  all_ascii_digits_bad bad = as_list_all word ∙ list_all_at is_ascii_digit word i 0 within bad
 
--- one more digit
-pub all_ascii_digits_more : (word : List ℕ) (i : ℕ) → i < length word → all_ascii_digits (take i word) ≡ true
-    → is_ascii_digit (get_or word i 0) ≡ true → all_ascii_digits (take (i + 1) word) ≡ true
-all_ascii_digits_more [] i within so_far good = absurd (omega (arith, within))
-all_ascii_digits_more (c ∷ word) zero within so_far good = rw good refl
-all_ascii_digits_more (c ∷ word) (suc i) within so_far good =
-    let next : suc i + 1 ≡ suc (i + 1) = omega arith in
-    let parts = both_parts (is_ascii_digit c) (all_ascii_digits (take i word)) so_far in
-    rw next (rw (parts.0, all_ascii_digits_more word i (omega (arith, within)) parts.1 good) refl)
+  pub all_ascii_digits_more : all_ascii_digits (take i word) ≡ true → is_ascii_digit (get_or word i 0) ≡ true
+      → all_ascii_digits (take (i + 1) word) ≡ true
+  all_ascii_digits_more so_far good =
+      let digits = sym (as_list_all (take i word)) ∙ so_far in
+      as_list_all (take (i + 1) word) ∙ list_all_more is_ascii_digit word i 0 within ∙ rw (digits, good) refl

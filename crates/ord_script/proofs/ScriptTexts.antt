@@ -1,7 +1,7 @@
 -- The lines of some commands, cut into lines and words again.
 use Rattle.std.proofs.Common.{◌≡◌, ℕ, ◌+◌, ◌-◌, ◌^◌, ◌<◌, ◌==◌, Bool, true, false, nat_lt, ◌&&◌, pos, negsuc, List, [], ◌∷◌, ◌++◌, length, get_or, map, All, Some, None, Ok, decimal, suc, refl, ◌∙◌, ap, arith, append_assoc, length-append}
 use Rattle.std.proofs.lemmas.List.Elements.{All-from_recursion, recursion_from_All, All-nil, All-cons, All-head, All-tail, All-append, All-map, All-weaker, All-get_or}
-use Rattle.std.proofs.{lemmas.List.Splits.slice_split_none, lemmas.List.Splits.slice_split_at, lemmas.Bool.ltb-true, lemmas.Bool.ne_eqb}
+use Rattle.std.proofs.{lemmas.List.Splits.slice_split_none, lemmas.List.Splits.slice_split_at, lemmas.Bool.ltb-true, lemmas.Bool.ne_eqb, lemmas.Bool.and_parts}
 use Rattle.std.proofs.{lemmas.List.Recursion.and_at, lemmas.Fmt.decimal_nonempty, lemmas.Int.ints}
 use Rattle.std.specs.Str.Lines.{lines, lines_of_parts, strip_carriage_return}
 use Rattle.std.specs.List.{AllByRecursion, list_all, slice_split, join_with_byte}
@@ -49,13 +49,9 @@ word_test : (word : Word) → nat_lt 0 (length (word_text word)) && list_all (na
 word_test words.Insert = refl
 word_test word = refl
 
-both_true : (a b : Bool) → a && b ≡ true → (a ≡ true) × (b ≡ true)
-both_true true b h = (refl, h)
-both_true false b h = cc
-
 word_whole : (word : Word) → IsWhole (word_text word)
 word_whole word =
-    let test = both_true _ _ (word_test word) in
+    let test = and_parts _ _ (word_test word) in
     record {
       some = ltb-true 0 (length (word_text word)) test.0;
       dark = λ k d within. ltb-true 32 (get_or (word_text word) k d) (and_at (list_all (nat_lt 32)) (nat_lt 32) refl (λ x xs. refl) (word_text word) k d within test.1);

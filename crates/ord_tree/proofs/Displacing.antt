@@ -1,12 +1,12 @@
 -- Removing a node: its predecessor takes its place, and the fallen branch is renamed with it.
-use Rattle.std.proofs.Common.{◌≡◌, ◌≢◌, ℕ, ◌+◌, Option, None, List, [], ◌∷◌, ◌++◌, map, arith, refl, sym, ◌∙◌, ap, subst, inl, inr, ⊎_elim, length-append}
+use Rattle.std.proofs.Common.{◌≡◌, ◌≢◌, ℕ, Option, None, List, [], ◌∷◌, map, arith, refl, sym, ◌∙◌, ap, inl, inr, ⊎_elim}
 use Rattle.std.proofs.{lemmas.Grind.common_steps, lemmas.List.map-append, lemmas.Bool.cases_eq, lemmas.Bool.eq-eqb, lemmas.Bool.ne_eqb}
-use Rattle.ord_tree.specs.Slots.{Slots, Holds, Way, top, up, plug, above, HoldsWay, times, Among, MovesBacks}
+use Rattle.ord_tree.specs.Slots.{Slots, Holds, Way, top, up, plug, above, HoldsWay, times}
 use Rattle.ord_tree.specs.{declared.tree_links.Side.TheVariants.Lesser, declared.tree_links.Side.TheVariants.Greater, TreeLinks.child_at}
 use Rattle.ord_tree.specs.{Shape.Shape, Shape.missing, Shape.node, Shape.fork, Shape.rank_of, Shape.walk, Detach.stand_in, Detach.renamed}
 use Rattle.ord_tree.specs.{Balance.IsBalanced, Balance.IsBalancedWay, declared.tree_links.Side.Side}
 use Rattle.ord_tree.specs.{Potential.potential, Account.potential_way, Account.rank_here, Account.rank_in, Account.rank_way, Account.NamesChanges, Account.ranks_without}
-use Rattle.ord_tree.proofs.{Forks.HoldsFork-holds, Doubles.Among-behind, Standing.stand_in-same, Standing.stand_in-other, RankChanges.rank_here-other}
+use Rattle.ord_tree.proofs.{Forks.HoldsFork-holds, Standing.stand_in-same, Standing.stand_in-other, RankChanges.rank_here-other}
 
 -- the path with v in place of z
 abbrev pub renamed_way : ℕ → ℕ → Way → Way
@@ -49,20 +49,7 @@ plug_held at root top s h = (root, refl, h)
 plug_held at root (up side i k far rest) s h =
     let below = plug_held at root rest (fork side s i k far) h in
     let f = HoldsFork-holds at (above rest) below.0 side s far i k below.2 in
-    let P : Option ℕ → Type 0 = λ link. HoldsWay at root rest link in
-    (child_at side f.0, (f.0, f.2, f.3, f.4, refl, f.6, subst P f.1 below.1), f.5)
-
--- two consecutive changes
-pub MovesBacks-then : (m n : ℕ) (first mid last : Slots) → MovesBacks m first mid → MovesBacks n mid last → MovesBacks (m + n) first last
-MovesBacks-then m n first mid last a b = (
-  a.0 ++ b.0,
-  omega (arith, length-append a.0 b.0, a.1, b.1),
-  λ j. ⊎_elim (λ in_a. inl (Among-front a.0 b.0 j in_a)) (λ same. ⊎_elim (λ in_b. inl (Among-behind a.0 b.0 j in_b)) (λ also. inr (same ∙ also)) (b.2 j)) (a.2 j),
-)
-  where
-    Among-front : (xs ys : List ℕ) (j : ℕ) → Among j xs → Among j (xs ++ ys)
-    Among-front [] ys j h = elim h [ ]
-    Among-front (x ∷ xs) ys j h = ⊎_elim (λ e. inl e) (λ rest. inr (Among-front xs ys j rest)) h
+    (child_at side f.0, (f.0, f.2, f.3, f.4, refl, f.6, rw f.1 at below.1), f.5)
 
 -- with v in place of z, the potential and the ranks of all others stay
 pub potential-renamed : (z v : ℕ) (s : Shape) → potential (renamed z v s) ≡ potential s

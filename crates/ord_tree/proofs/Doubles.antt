@@ -1,13 +1,18 @@
 -- Single and double rotations: their sites, what they keep, and how many parents they move.
-use Rattle.std.proofs.Common.{◌≡◌, ℕ, ◌<◌, ◌≤◌, Option, Some, None, List, [], ◌∷◌, ◌++◌, length, arith, refl, sym, ◌∙◌, ap, subst, inl, inr, ⊎_elim, is_some, true, length-append}
+use Rattle.std.proofs.Common.{◌≡◌, ◌≢◌, ℕ, ◌+◌, ◌<◌, ◌≤◌, Option, Some, None, List, [], ◌∷◌, ◌++◌, length, arith, refl, sym, ◌∙◌, ap, inl, inr, ⊎_elim, is_some, true, length-append}
 use Rattle.std.specs.Option.{option_to_list}
-use Rattle.ord_tree.specs.Slots.{Slots, Holds, up, plug, above, HoldsWay, times_in, IsApart, Among, rank_at, MovesBacks}
+use Rattle.ord_tree.specs.Slots.{Slots, Holds, Way, up, plug, above, HoldsWay, times_in, IsOnce, IsApart, Among, rank_at, MovesBacks}
 use Rattle.ord_tree.specs.{Shape.Shape, Shape.missing, Shape.node, Shape.fork, Shape.rank_of, Shape.root_of, Shape.walk, Promote.IsRepaired}
 use Rattle.ord_tree.specs.declared.tree_links.Side.TheVariants.{Lesser, Greater}
 use Rattle.ord_tree.specs.{Balance.IsOver, Balance.IsBalanced, Balance.IsBalancedWay, TreeLinks.other_side, TreeLinks.child_at}
 use Rattle.ord_tree.specs.{declared.tree_links.TreeLinks.TreeLinks, declared.tree_links.Side.Side, Rotate.Site, Rotate.IsRotated}
-use Rattle.ord_tree.proofs.Forks.{fork-other, rank-fork, walk-rotated, walk-fork_near, walk-plug, HoldsFork, HoldsFork-holds, Holds-fork, link-root, Holds-plug, IsBalanced-fork, fork_balanced, IsBalanced-plug, times_in-fork}
-use Rattle.ord_tree.proofs.Rotations.{ForkAt-holds, fork_at_low}
+use Rattle.ord_tree.proofs.Forks.{fork-other, rank-fork, walk-rotated, walk-fork_near, walk-plug, HoldsFork, HoldsFork-holds, Holds-fork, link-root, IsBalanced-fork, fork_balanced, times_in-fork, IsApart-once}
+use Rattle.ord_tree.specs.{Potential.node_potential, Potential.potential}
+use Rattle.ord_tree.specs.Account.{potential_way, rank_here, rank_in, rank_way, NamesChanges, IsSpelledWithin}
+use Rattle.ord_tree.proofs.{Potentials.node_potential-cases, Potentials.potential-fork}
+use Rattle.ord_tree.proofs.RankChanges.{rank_here-other, rank_in-fork, NamesChanges-joined, names_but}
+use Rattle.ord_tree.proofs.Plugs.{IsPlugged, IsBuilt-fork, IsSpelledWithin-fork}
+use Rattle.ord_tree.proofs.{Rotations.ForkAt-holds, Rotations.fork_at_low, Views.Among-behind}
 
 pub root-fork : (side : Side) (near far : Shape) (i k : ℕ) → root_of (fork side near i k far) ≡ Some i
 root-fork Lesser near far i k = refl
@@ -25,6 +30,37 @@ fork_of side missing i e = absurd cc
 fork_of Lesser (node l j k r) i e = let same : j ≡ i = cc in record { near = l; rank = k; far = r; is = ap (λ j. node l j k r) same }
 fork_of Greater (node l j k r) i e = let same : j ≡ i = cc in record { near = r; rank = k; far = l; is = ap (λ j. node l j k r) same }
 
+-- a fork at the end of a path, over this list
+pub record IsJoint (at : Slots) (root : Option ℕ) (side : Side) (way : Way) (s : Shape) (z high : ℕ) (far : Shape) (order : List ℕ) : Type 0 where
+  pub held_way : HoldsWay at root way (Some z)
+  pub held : Holds at (above way) (Some z) (fork side s z high far)
+  pub listed : walk (plug way (fork side s z high far)) ≡ order
+  pub once : IsOnce order
+
+-- it is a site, if its near side is a node
+module _ {at : Slots} {root : Option ℕ} {side : Side} {way : Way} {s far : Shape} {z y high : ℕ} {order : List ℕ} (joint : IsJoint at root side way s z high far order) (child : root_of s ≡ Some y) where
+  abbrev pub forked : Forked side s y
+  forked = fork_of side s y child
+
+  pub forked_rank : forked.rank ≡ rank_of s
+  forked_rank = sym (rank-fork side forked.near forked.far y forked.rank) ∙ ap rank_of (sym forked.is)
+
+  pub forked_listed : walk (plug way (fork side (fork side forked.near y forked.rank forked.far) z high far)) ≡ order
+  forked_listed = ap (λ t. walk (plug way (fork side t z high far))) (sym forked.is) ∙ joint.listed
+
+  abbrev pub site_of : Site at root side z y
+  site_of = record {
+    way = way;
+    outer = forked.near;
+    inner = forked.far;
+    far = far;
+    low = forked.rank;
+    high = high;
+    held_way = joint.held_way;
+    held = rw (← forked.is) joint.held;
+    apart = IsApart-once way (fork side (fork side forked.near y forked.rank forked.far) z high far) order forked_listed joint.once;
+  }
+
 -- the rank at a link is the rank of the shape there
 pub rank_at-held : (at : Slots) (over link : Option ℕ) (s : Shape) → Holds at over link s → rank_at at link ≡ rank_of s
 rank_at-held at over link missing h = rw h refl
@@ -36,14 +72,20 @@ root-some missing h = absurd (omega (arith, h))
 root-some (node l i k r) h = refl
 
 -- the moved indexes as a list
-pub Among-root : (s : Shape) (j : ℕ) (rest : List ℕ) → root_of s ≡ Some j → Among j (option_to_list (root_of s) ++ rest)
+Among-root : (s : Shape) (j : ℕ) (rest : List ℕ) → root_of s ≡ Some j → Among j (option_to_list (root_of s) ++ rest)
 Among-root s j rest e = rw e (inl refl)
 
-pub Among-behind : (xs ys : List ℕ) (j : ℕ) → Among j ys → Among j (xs ++ ys)
-Among-behind [] ys j h = h
-Among-behind (x ∷ xs) ys j h = inr (Among-behind xs ys j h)
+-- the potential of the three nodes of a double rotation
+double_saves : (slack m o a b f : ℕ) → o + 1 ≡ m → f + 1 ≡ m → IsOver slack m a b → node_potential m o b + node_potential m a f ≤ 1 + node_potential m a b
+double_saves slack m o a b f e d over =
+    omega (
+      arith,
+      node_potential-cases m o b (omega arith) (omega arith) (omega (arith, over.greater)) (omega (arith, over.greater)),
+      node_potential-cases m a f (omega (arith, over.lesser)) (omega (arith, over.lesser)) (omega arith) (omega arith),
+      node_potential-cases m a b (omega (arith, over.lesser)) (omega (arith, over.lesser)) (omega (arith, over.greater)) (omega (arith, over.greater)),
+    )
 
-pub length-root : (o : Option ℕ) → length (option_to_list o) ≤ 1
+length-root : (o : Option ℕ) → length (option_to_list o) ≤ 1
 length-root None = omega arith
 length-root (Some i) = omega arith
 
@@ -78,24 +120,36 @@ module _ {old : Slots} {old_root : Option ℕ} {side : Side} {z y : ℕ} (site :
     )
 
     -- after it the tree there is balanced again, if the new ranks fit
-    module _ {slack : ℕ} {order : List ℕ} (over_z : IsOver slack rank_z (rank_of site.inner) (rank_of site.far)) (over_y : IsOver slack rank_y (rank_of site.outer) rank_z)
-        (outer : IsBalanced slack site.outer) (inner : IsBalanced slack site.inner) (far : IsBalanced slack site.far) (way : IsBalancedWay slack site.way rank_y) where
-      pub IsRepaired-rotated : walk (plug site.way site_shape) ≡ order → IsRepaired old new root order slack
-      IsRepaired-rotated listed =
-          let below = fork side site.inner z rank_z site.far in
-          let whole = fork side site.outer y rank_y below in
-          let P : ℕ → Type 0 = λ rank. IsOver slack rank_y (rank_of site.outer) rank in
-          let Q : ℕ → Type 0 = λ rank. IsBalancedWay slack site.way rank in
-          record {
-            built = record {
-              shape = plug site.way whole;
-              held = Holds-plug new root site.way whole (Some y) r.held_way r.held;
-              listed = sym (walk-plug site.way site_shape whole (walk-rotated side site.outer site.inner site.far y z site.low site.high rank_y rank_z)) ∙ listed;
-              balanced = IsBalanced-plug slack site.way whole (subst Q (sym (rank-fork side site.outer below y rank_y)) way)
-                  (IsBalanced-fork slack side site.outer below y rank_y (subst P (sym (rank-fork side site.inner site.far z rank_z)) over_y) outer (IsBalanced-fork slack side site.inner site.far z rank_z over_z inner far));
-            };
-            backs = backs_single;
-          }
+    module _ {slack : ℕ} {order : List ℕ} (is_high : rank_y ≡ site.high) (over_z : IsOver slack rank_z (rank_of site.inner) (rank_of site.far))
+        (over_y : IsOver slack rank_y (rank_of site.outer) rank_z) (outer : IsBalanced slack site.outer) (inner : IsBalanced slack site.inner)
+        (far : IsBalanced slack site.far) (way : IsBalancedWay slack site.way site.high) (listed : walk (plug site.way site_shape) ≡ order)
+        {was : ℕ → ℕ} (stays : (j : ℕ) → j ≢ z → j ≢ y → was j ≡ rank_way site.way j + rank_in site.outer j + rank_in site.inner j + rank_in site.far j) where
+      abbrev below : Shape
+      below = fork side site.inner z rank_z site.far
+
+      plugged_once : IsPlugged new root site.way (fork side site.outer y rank_y below) order
+      plugged_once = record {
+        link = Some y;
+        held_way = r.held_way;
+        held = r.held;
+        listed = sym (walk-plug site.way site_shape (fork side site.outer y rank_y below) (walk-rotated side site.outer site.inner site.far y z site.low site.high rank_y rank_z)) ∙ listed;
+      }
+
+      -- and the credit is enough, if it pays for the new potential and two changes
+      pub rotated_once : {credit : ℕ} → 2 + potential_way site.way site.high + node_potential rank_y (rank_of site.outer) rank_z
+          + node_potential rank_z (rank_of site.inner) (rank_of site.far) + potential site.outer + potential site.inner + potential site.far ≤ credit
+          → IsRepaired old new root order slack × IsSpelledWithin was new root order credit
+      rotated_once paid =
+          let rank_below = rank-fork side site.inner site.far z rank_z in (
+            record {
+              built = IsBuilt-fork side site.outer below y rank_y plugged_once slack (rw is_high way) (rw rank_below over_y) outer
+                  (IsBalanced-fork slack side site.inner site.far z rank_z over_z inner far);
+              backs = backs_single;
+            },
+            IsSpelledWithin-fork side site.outer below y rank_y plugged_once (z ∷ y ∷ [])
+                (names_but (z ∷ y ∷ []) was _ (λ j not_z not_y. omega (arith, stays j not_z not_y, rank_in-fork j side site.inner site.far z rank_z, rank_here-other j y rank_y not_y, rank_here-other j z rank_z not_z)))
+                (omega (arith, paid, ap (potential_way site.way) is_high, potential-fork side site.inner site.far z rank_z, ap (node_potential rank_y (rank_of site.outer)) rank_below)),
+          )
 
   module _ (x : ℕ) (root_is : root_of site.inner ≡ Some x) where
     -- the shape between y and z, seen from the other side
@@ -104,17 +158,14 @@ module _ {old : Slots} {old_root : Option ℕ} {side : Side} {z y : ℕ} (site :
 
     pub middle_rank : (ny nx : TreeLinks ℕ) → old y ≡ Some ny → old x ≡ Some nx → nx.rank ≡ middle.rank
     middle_rank ny nx e d =
-        let P : Shape → Type 0 = λ s. Holds old (Some y) (child_at (other_side side) ny) s in
-        (ForkAt-holds old (Some y) (child_at (other_side side) ny) (other_side side) middle.near x middle.rank middle.far nx d (subst P middle.is (fork_at_low old old_root side z y site ny e).far_held)).rank
+        (ForkAt-holds old (Some y) (child_at (other_side side) ny) (other_side side) middle.near x middle.rank middle.far nx d (rw middle.is at (fork_at_low old old_root side z y site ny e).far_held)).rank
 
     -- the ranks and the balance of the shape between y and z
     pub middle_rank_is : rank_of site.inner ≡ middle.rank
     middle_rank_is = ap rank_of middle.is ∙ rank-fork (other_side side) middle.near middle.far x middle.rank
 
     pub middle_over : (slack : ℕ) → IsBalanced slack site.inner → IsOver slack middle.rank (rank_of middle.near) (rank_of middle.far) × IsBalanced slack middle.near × IsBalanced slack middle.far
-    middle_over slack h =
-        let P : Shape → Type 0 = λ s. IsBalanced slack s in
-        fork_balanced slack (other_side side) middle.near middle.far x middle.rank (subst P middle.is h)
+    middle_over slack h = fork_balanced slack (other_side side) middle.near middle.far x middle.rank (rw middle.is at h)
 
     -- y over its children, seen from the other side
     shape_below : fork side site.outer y site.low site.inner ≡ fork (other_side side) (fork (other_side side) middle.near x middle.rank middle.far) y site.low site.outer
@@ -130,10 +181,7 @@ module _ {old : Slots} {old_root : Option ℕ} {side : Side} {z y : ℕ} (site :
     way_below = (fork_high.0, fork_high.2, fork_high.3, fork_high.4, link_y, fork_high.6, site.held_way)
 
     pub held_below : Holds old (Some z) (Some y) (fork (other_side side) (fork (other_side side) middle.near x middle.rank middle.far) y site.low site.outer)
-    held_below =
-        let P : Option ℕ → Type 0 = λ link. Holds old (Some z) link (fork side site.outer y site.low site.inner) in
-        let Q : Shape → Type 0 = λ s. Holds old (Some z) (Some y) s in
-        subst Q shape_below (subst P link_y fork_high.5)
+    held_below = rw (link_y, shape_below) at fork_high.5
 
     pub apart_below : IsApart (up side z site.high site.far site.way) (fork (other_side side) (fork (other_side side) middle.near x middle.rank middle.far) y site.low site.outer)
     apart_below j =
@@ -164,10 +212,8 @@ module _ {old : Slots} {old_root : Option ℕ} {side : Side} {z y : ℕ} (site :
       pub held_above : Holds mid (above site.way) (Some z) (fork side (fork side lifted x rank_high middle.near) z site.high site.far)
       held_above =
           let w = r.held_way in
-          let P : Option ℕ → Type 0 = λ link. Holds mid (Some z) link (fork side lifted x rank_high middle.near) in
-          let Q : Shape → Type 0 = λ s. Holds mid (Some z) (Some x) s in
           Holds-fork mid (above site.way) (Some z) side (fork side lifted x rank_high middle.near) site.far z site.high
-          (w.0, refl, w.1, w.2, w.3, subst P (sym w.4) (subst Q shape_above r.held), w.5)
+          (w.0, refl, w.1, w.2, w.3, rw (w.4, ← shape_above) r.held, w.5)
 
       pub apart_above : IsApart site.way (fork side (fork side lifted x rank_high middle.near) z site.high site.far)
       apart_above j =
@@ -227,25 +273,52 @@ module _ {old : Slots} {old_root : Option ℕ} {side : Side} {z y : ℕ} (site :
         )
 
         -- after a double rotation the tree there is balanced again, if the new ranks fit
-        module _ {slack : ℕ} {order : List ℕ} (over_y : IsOver slack rank_low (rank_of site.outer) (rank_of middle.far))
-            (over_z : IsOver slack rank_low (rank_of middle.near) (rank_of site.far)) (over_x : IsOver slack rank_high rank_low rank_low)
-            (outer : IsBalanced slack site.outer) (inner : IsBalanced slack site.inner) (far : IsBalanced slack site.far) (way : IsBalancedWay slack site.way rank_high) where
-          pub IsRepaired-rotated_twice : walk (plug site.way site_shape) ≡ order → IsRepaired old new root order slack
-          IsRepaired-rotated_twice listed =
-              let whole = fork side lifted x rank_high upper in
+        module _ {slack : ℕ} {order : List ℕ} (is_low : rank_low ≡ middle.rank) (is_high : rank_high ≡ site.high) (outer_one : rank_of site.outer + 1 ≡ rank_low)
+            (far_one : rank_of site.far + 1 ≡ rank_low) (over_x : IsOver slack rank_high rank_low rank_low) (outer : IsBalanced slack site.outer)
+            (inner : IsBalanced slack site.inner) (far : IsBalanced slack site.far) (way : IsBalancedWay slack site.way site.high)
+            (listed : walk (plug site.way site_shape) ≡ order) {was : ℕ → ℕ} (more : List ℕ) (names : NamesChanges more was
+            (λ j. rank_way site.way j + rank_in site.outer j + rank_here j y rank_low + rank_in site.inner j + rank_here j z site.high + rank_in site.far j)) where
+          plugged_twice : IsPlugged new root site.way (fork side lifted x rank_high upper) order
+          plugged_twice = record { link = Some x; held_way = t.held_way; held = t.held; listed = walk_double ∙ listed }
+
+          -- and the credit is enough, if it pays for the new potential and the changes
+          pub rotated_twice : {credit : ℕ} → length more + 3 + potential_way site.way site.high + node_potential rank_high rank_low rank_low
+              + potential site.outer + potential site.inner + potential site.far ≤ credit
+              → IsRepaired old new root order slack × IsSpelledWithin was new root order credit
+          rotated_twice paid =
               let balanced = middle_over slack inner in
-              let P : ℕ → Type 0 = λ rank. IsOver slack rank_high rank (rank_of upper) in
-              let R : ℕ → Type 0 = λ rank. IsOver slack rank_high rank_low rank in
-              let Q : ℕ → Type 0 = λ rank. IsBalancedWay slack site.way rank in
-              record {
-                built = record {
-                  shape = plug site.way whole;
-                  held = Holds-plug new root site.way whole (Some x) t.held_way t.held;
-                  listed = walk_double ∙ listed;
-                  balanced = IsBalanced-plug slack site.way whole (subst Q (sym (rank-fork side lifted upper x rank_high)) way)
-                      (IsBalanced-fork slack side lifted upper x rank_high
-                      (subst P (sym (rank-fork side site.outer middle.far y rank_low)) (subst R (sym (rank-fork side middle.near site.far z rank_low)) over_x))
-                      (IsBalanced-fork slack side site.outer middle.far y rank_low over_y outer balanced.2) (IsBalanced-fork slack side middle.near site.far z rank_low over_z balanced.1 far));
-                };
-                backs = backs_double;
-              }
+              let rank_lifted = rank-fork side site.outer middle.far y rank_low in
+              let rank_upper = rank-fork side middle.near site.far z rank_low in (
+                record {
+                  built = IsBuilt-fork side lifted upper x rank_high plugged_twice slack (rw is_high way) (rw (rank_lifted, rank_upper) over_x)
+                      (IsBalanced-fork slack side site.outer middle.far y rank_low (omega (arith, balanced.0)) outer balanced.2)
+                      (IsBalanced-fork slack side middle.near site.far z rank_low (omega (arith, balanced.0)) balanced.1 far);
+                  backs = backs_double;
+                },
+                IsSpelledWithin-fork side lifted upper x rank_high plugged_twice (more ++ z ∷ x ∷ [])
+                    (NamesChanges-joined more (z ∷ x ∷ []) was _ _ names (names_but (z ∷ x ∷ []) _ _ (λ j not_z not_x. omega (
+                      arith,
+                      rank_in-fork j side site.outer middle.far y rank_low,
+                      rank_in-fork j side middle.near site.far z rank_low,
+                      ap (λ s. rank_in s j) middle.is,
+                      rank_in-fork j (other_side side) middle.near middle.far x middle.rank,
+                      rank_here-other j x rank_high not_x,
+                      rank_here-other j x middle.rank not_x,
+                      rank_here-other j z rank_low not_z,
+                      rank_here-other j z site.high not_z,
+                    ))))
+                    (omega (
+                      arith,
+                      paid,
+                      length-append more (z ∷ x ∷ []),
+                      ap (potential_way site.way) is_high,
+                      potential-fork side site.outer middle.far y rank_low,
+                      potential-fork side middle.near site.far z rank_low,
+                      ap potential middle.is,
+                      potential-fork (other_side side) middle.near middle.far x middle.rank,
+                      ap (λ k. node_potential k (rank_of middle.near) (rank_of middle.far)) is_low,
+                      ap (node_potential rank_high (rank_of lifted)) rank_upper,
+                      ap (λ k. node_potential rank_high k rank_low) rank_lifted,
+                      double_saves slack rank_low (rank_of site.outer) (rank_of middle.near) (rank_of middle.far) (rank_of site.far) outer_one far_one (omega (arith, balanced.0)),
+                    )),
+              )

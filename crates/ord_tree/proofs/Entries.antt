@@ -1,16 +1,10 @@
 -- Entries of a chain of nodes: what a write of a node changes and keeps.
-use Rattle.std.proofs.Common.{arith, ◌≡◌, ◌≢◌, ℕ, Option, Some, List, [], ◌∷◌, map, refl, sym, ◌∙◌, ap, is_some, option_map}
+use Rattle.std.proofs.Common.{arith, ◌≡◌, ◌≢◌, ℕ, Some, List, [], ◌∷◌, map, refl, sym, ◌∙◌, ap, is_some, option_map}
 use Rattle.std.proofs.{lemmas.Grind.common_steps, lemmas.Option.same_Some}
 use Rattle.chain_base.specs.Chain.{Entry, Chain, entry_at, with_item_among, with_item as chain_with_item}
 use Rattle.chain_base.proofs.CallerLemmas.{entry_at-with_item_among, entry_at-with_item_among_other}
-use Rattle.ord_tree.specs.declared.tree_links.Side.TheVariants.{Lesser, Greater}
 use Rattle.ord_tree.specs.{declared.node.SimpleOrdArenaNode.SimpleOrdArenaNode as Node, declared.tree_links.TreeLinks.TreeLinks}
-use Rattle.ord_tree.specs.{Node.bare_entry, Node.bare, Node.links_in, Node.slots_of, Slots.Writes, declared.tree_links.Side.Side, TreeLinks.with_child_at}
-
--- writing a side keeps the parent
-pub back-with_child : {I : Type 0} (side : Side) (child : Option I) (l : TreeLinks I) → (with_child_at side child l).back ≡ l.back
-back-with_child Lesser child l = refl
-back-with_child Greater child l = refl
+use Rattle.ord_tree.specs.{Node.bare_entry, Node.bare, Node.links_in, Node.slots_of, Slots.Writes}
 
 module _ {P T I G : Type 0} where
   module _ (i : ℕ) (e : ℕ × Node P T I G) (x : Node P T I G) (t : x.t ≡ e.1.t) where

@@ -1,5 +1,5 @@
 -- Forks seen from a side, paths, and what nodes store: facts shared by both mirror images.
-use Rattle.std.proofs.Common.{◌≡◌, ◌≢◌, ℕ, ◌+◌, ◌<◌, Option, Some, None, List, [], ◌∷◌, ◌++◌, arith, refl, sym, ◌∙◌, ap, subst, append_assoc}
+use Rattle.std.proofs.Common.{◌≡◌, ◌≢◌, ℕ, ◌+◌, ◌<◌, ◌≤◌, Option, Some, None, List, [], ◌∷◌, ◌++◌, arith, refl, sym, ◌∙◌, ap, append_assoc}
 use Rattle.std.proofs.lemmas.Bool.{eq-eqb, ne_eqb}
 use Rattle.ord_tree.specs.Slots.{Slots, Holds, Way, top, up, plug, above, HoldsWay, here, times, times_in, times_way, IsOnce, IsApart}
 use Rattle.ord_tree.specs.Shape.{Shape, missing, node, fork, rank_of, root_of, size_of, walk}
@@ -28,11 +28,7 @@ pub child-with_other : (side : Side) (child : Option ℕ) (n : TreeLinks ℕ) �
 child-with_other Lesser child n = refl
 child-with_other Greater child n = refl
 
-pub other_child-with_other : (side : Side) (child : Option ℕ) (n : TreeLinks ℕ) → child_at (other_side side) (with_child_at (other_side side) child n) ≡ child
-other_child-with_other Lesser child n = refl
-other_child-with_other Greater child n = refl
-
-pub back-with_child : (side : Side) (child : Option ℕ) (n : TreeLinks ℕ) → (with_child_at side child n).back ≡ n.back
+pub back-with_child : {I : Type 0} (side : Side) (child : Option I) (n : TreeLinks I) → (with_child_at side child n).back ≡ n.back
 back-with_child Lesser child n = refl
 back-with_child Greater child n = refl
 
@@ -86,13 +82,28 @@ pub link-root : (at : Slots) (over link : Option ℕ) (s : Shape) → Holds at o
 link-root at over link missing h = h
 link-root at over link (node l i k r) h = h.1
 
+pub rootless : (s : Shape) → root_of s ≡ None → s ≡ missing
+rootless missing e = refl
+rootless (node l i k r) e = absurd cc
+
+-- what the node at a link stores
+pub root_holds : (at : Slots) (over : Option ℕ) (y : ℕ) (s : Shape) (ny : TreeLinks ℕ) → Holds at over (Some y) s → at y ≡ Some ny → (ny.back ≡ over) × (ny.rank ≡ rank_of s)
+root_holds at over y missing ny h e = absurd cc
+root_holds at over y (node l i k r) ny h e =
+    let same : i ≡ y = cc in
+    let n_is : h.0 ≡ ny = cc in
+    rw (← n_is) (h.3, h.4)
+
+pub size-plug : (way : Way) (s : Shape) → size_of s ≤ size_of (plug way s)
+size-plug top s = omega arith
+size-plug (up side i k far rest) s = omega (arith, size-plug rest (fork side s i k far), size-fork side s far i k)
+
 -- a path and the shape at its end form a tree
 pub Holds-plug : (at : Slots) (root : Option ℕ) (way : Way) (s : Shape) (link : Option ℕ) → HoldsWay at root way link → Holds at (above way) link s → Holds at None root (plug way s)
-Holds-plug at root top s link w h = let P : Option ℕ → Type 0 = λ l. Holds at None l s in subst P (sym w) h
+Holds-plug at root top s link w h = rw w h
 Holds-plug at root (up side i k far rest) s link w h =
-    let P : Option ℕ → Type 0 = λ l. Holds at (Some i) l s in
     Holds-plug at root rest (fork side s i k far) (Some i) w.6
-    (Holds-fork at (above rest) (Some i) side s far i k (w.0, refl, w.1, w.2, w.3, subst P (sym w.4) h, w.5))
+    (Holds-fork at (above rest) (Some i) side s far i k (w.0, refl, w.1, w.2, w.3, rw w.4 h, w.5))
 
 -- balance
 pub IsOver-turned : {slack k l r : ℕ} → IsOver slack k l r → IsOver slack k r l
@@ -112,7 +123,7 @@ module _ (slack : ℕ) where
   pub IsBalanced-plug : (way : Way) (s : Shape) → IsBalancedWay slack way (rank_of s) → IsBalanced slack s → IsBalanced slack (plug way s)
   IsBalanced-plug top s w h = h
   IsBalanced-plug (up side i k far rest) s w h =
-      IsBalanced-plug rest (fork side s i k far) (let P : ℕ → Type 0 = λ j. IsBalancedWay slack rest j in subst P (sym (rank-fork side s far i k)) w.2)
+      IsBalanced-plug rest (fork side s i k far) (rw (rank-fork side s far i k) w.2)
       (IsBalanced-fork side s far i k w.0 h w.1)
 
 pub here-same : (i : ℕ) → here i i ≡ 1

@@ -1,7 +1,8 @@
 -- What nodes form is unchanged unless a write touches it, and how a write of one link changes it.
 use Rattle.std.proofs.Common.{◌≡◌, ◌≢◌, ℕ, ◌+◌, ◌<◌, ◌≤◌, Option, Some, None, arith, refl, sym, ◌∙◌, ap, subst, is_some, true}
 use Rattle.std.proofs.lemmas.Grind.{common_steps}
-use Rattle.ord_tree.specs.Slots.{Slots, Holds, Way, top, up, above, HoldsWay, here, times_in, times_way, back_at}
+use Rattle.chain_base.specs.Chain.{Chain}
+use Rattle.ord_tree.specs.Slots.{Slots, Holds, Way, top, up, above, HoldsWay, here, times_in, times_way, back_at, IsApart, ReplacesChild}
 use Rattle.ord_tree.specs.declared.tree_links.Side.TheVariants.{Lesser, Greater}
 use Rattle.ord_tree.specs.{TreeLinks.other_side, TreeLinks.child_at, TreeLinks.with_child_at, declared.tree_links.TreeLinks.TreeLinks}
 use Rattle.ord_tree.specs.{Shape.Shape, Shape.missing, Shape.node, Shape.fork, Shape.root_of, declared.tree_links.Side.Side}
@@ -15,17 +16,48 @@ root-in (node l j k r) i e = let same : j ≡ i = cc in rw same (omega (arith, h
 Some-apart : (i j : ℕ) → j ≢ i → ◌≡◌ {A = Option ℕ} (Some i) (Some j) → ⊥
 Some-apart i j ne e = ne cc
 
--- the last step of a path
-pub record LastStep (way : Way) (z : ℕ) : Type 0 where
-  pub side : Side
+-- the last step of a path leads to z from this side
+pub record IsLast (way : Way) (side : Side) (z : ℕ) : Type 0 where
   pub rank : ℕ
   pub far : Shape
   pub rest : Way
   pub is : way ≡ up side z rank far rest
 
-pub last_step : (way : Way) (z : ℕ) → above way ≡ Some z → LastStep way z
+pub last_step : (way : Way) (z : ℕ) → above way ≡ Some z → (side : Side) × IsLast way side z
 last_step top z e = absurd cc
-last_step (up side i k far rest) z e = let same : i ≡ z = cc in record { side = side; rank = k; far = far; rest = rest; is = ap (λ i. up side i k far rest) same }
+last_step (up side i k far rest) z e = let same : i ≡ z = cc in (side, record { rank = k; far = far; rest = rest; is = ap (λ i. up side i k far rest) same })
+
+-- the node there, and the shape below it with the shape at the path's end
+pub record IsUnder (at : Slots) (root link : Option ℕ) {way : Way} (s : Shape) {side : Side} {z : ℕ} (last : IsLast way side z) : Type 0 where
+  pub links : TreeLinks ℕ
+  pub at_z : at z ≡ Some links
+  pub rank : links.rank ≡ last.rank
+  pub child : child_at side links ≡ link
+  pub held_far : Holds at (Some z) (child_at (other_side side) links) last.far
+  pub held_rest : HoldsWay at root last.rest (Some z)
+  pub held_fork : Holds at (above last.rest) (Some z) (fork side s z last.rank last.far)
+
+module _ {at : Slots} {root link : Option ℕ} {way : Way} {s : Shape} (held_way : HoldsWay at root way link) (held : Holds at (above way) link s) {side : Side} {z : ℕ} (last : IsLast way side z) where
+  pub under : IsUnder at root link s last
+  under =
+      let w = rw last.is at held_way in
+      record {
+        links = w.0;
+        at_z = w.1;
+        rank = w.3;
+        child = w.4;
+        held_far = w.5;
+        held_rest = w.6;
+        held_fork = Holds-fork at (above last.rest) (Some z) side s last.far z last.rank (w.0, refl, w.1, w.2, w.3, rw w.4 (rw last.is at held), w.5);
+      }
+
+-- an index is on one side of z alone
+pub not_far : {at : Slots} {root link : Option ℕ} {way : Way} {s : Shape} {side : Side} {z : ℕ} {last : IsLast way side z} (u : IsUnder at root link s last) (y : ℕ)
+    → root_of s ≡ Some y → IsApart way s → child_at (other_side side) u.links ≢ Some y
+not_far {at} {way = way} {s} {side} {z} {last} u y is apart f =
+    let in_s = root-in s y is in
+    let in_far = root-in last.far y (sym (link-root at (Some z) (child_at (other_side side) u.links) last.far u.held_far) ∙ f) in
+    omega (arith, apart y, ap (times_way y) last.is)
 
 pub no_step : (way : Way) → above way ≡ None → way ≡ top
 no_step top e = refl
@@ -78,18 +110,9 @@ module _ (old new : Slots) where
           below r h.0.greater (omega (arith, here-same i)) (λ j in_r. omega arith) h.6,
         )
 
--- the parent's link to y, or the root's, is replaced by another; nothing else is written, and no parent moves
-pub record IsReplaced (old new : Slots) (parent root root' : Option ℕ) (y : ℕ) (link : Option ℕ) : Type 0 where
-  pub at_top : parent ≡ None → root' ≡ link
-  pub below : (p : ℕ) → parent ≡ Some p → root' ≡ root
-  pub here : (p : ℕ) (n : TreeLinks ℕ) (side : Side) → parent ≡ Some p → old p ≡ Some n
-      → child_at side n ≡ Some y → child_at (other_side side) n ≢ Some y → new p ≡ Some (with_child_at side link n)
-  pub elsewhere : (j : ℕ) → parent ≢ Some j → new j ≡ old j
-  pub backs : (j : ℕ) → back_at old j ≡ back_at new j
-
-module _ {old new : Slots} {root root' link : Option ℕ} {y : ℕ} where
-  -- the same at the end of a path
-  pub HoldsWay-replaced : (way : Way) → IsReplaced old new (above way) root root' y link → ((j : ℕ) → times_way j way + here j y ≤ 1)
+-- the parent's link to y, or the root's, is replaced by another, at the end of a path
+module _ {T : Type 0} {was is : Chain T} {old new : Slots} {root root' link : Option ℕ} {y : ℕ} where
+  pub HoldsWay-replaced : (way : Way) → ReplacesChild (above way) y link root root' old new was is → ((j : ℕ) → times_way j way + here j y ≤ 1)
       → HoldsWay old root way (Some y) → HoldsWay new root' way link
   HoldsWay-replaced top by once h = by.at_top refl
   HoldsWay-replaced (up side i k far rest) by once h =
@@ -107,7 +130,7 @@ module _ {old new : Slots} {root root' link : Option ℕ} {y : ℕ} where
         rank-with_child side link h.0 ∙ h.3,
         child-with_child side link h.0,
         rw (other_child-with_child side link h.0) (elsewhere (child_at (other_side side) h.0) h.5),
-        (let P : Option ℕ → Type 0 = λ r. HoldsWay new r rest (Some i) in subst P (sym root_is) rest_held),
+        subst (λ (r : Option ℕ). HoldsWay new r rest (Some i)) (sym root_is) rest_held,
       )
 
 child-ranked : (side : Side) (rank : ℕ) (n : TreeLinks ℕ) → child_at side (record n { rank = rank }) ≡ child_at side n
@@ -125,16 +148,14 @@ module _ {old new : Slots} {i rank : ℕ} (by : IsReranked old new i rank) where
     pub Holds-reranked : times_in i near + times_in i far ≡ 0 → Holds old over link (fork side near i k far) → Holds new over link (fork side near i rank far)
     Holds-reranked none h =
         let f = HoldsFork-holds old over link side near far i k h in
-        let P : Option ℕ → Type 0 = λ child. Holds new (Some i) child near in
-        let Q : Option ℕ → Type 0 = λ child. Holds new (Some i) child far in
         Holds-fork new over link side near far i rank (
           record (f.0) { rank = rank },
           f.1,
           by.here f.0 f.2,
           f.3,
           refl,
-          subst P (sym (child-ranked side rank f.0)) (Holds-frame old new near (Some i) (child_at side f.0) (λ j in_near. by.elsewhere j (apart-from i j (λ j. times_in j near) (omega (arith, none)) in_near)) f.5),
-          subst Q (sym (child-ranked (other_side side) rank f.0)) (Holds-frame old new far (Some i) (child_at (other_side side) f.0) (λ j in_far. by.elsewhere j (apart-from i j (λ j. times_in j far) (omega (arith, none)) in_far)) f.6),
+          rw (child-ranked side rank f.0) (Holds-frame old new near (Some i) (child_at side f.0) (λ j in_near. by.elsewhere j (apart-from i j (λ j. times_in j near) (omega (arith, none)) in_near)) f.5),
+          rw (child-ranked (other_side side) rank f.0) (Holds-frame old new far (Some i) (child_at (other_side side) f.0) (λ j in_far. by.elsewhere j (apart-from i j (λ j. times_in j far) (omega (arith, none)) in_far)) f.6),
         )
 
   -- it moves no parent

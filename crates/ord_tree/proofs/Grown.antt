@@ -5,13 +5,13 @@ use Rattle.chain_base.specs.Chain.{Entry, Chain, entry_at, times as entry_times,
 use Rattle.chain_base.specs.{declared.chain.insert.LinkInsertKind.LinkInsertKind, Insert.placed, Insert.CanPlace, Insert.IsInsertion}
 use Rattle.ord_tree.specs.{LeafBranch.kind_at, LeafBranch.IsLeafBranch, LeafBranch.IsLeafBranchAt, Balance.IsBalanced}
 use Rattle.ord_tree.specs.{Node.bare_entry, Node.bare, Node.links_in, Node.slots_of, Node.indexes, declared.tree_links.Branch.Branch, declared.tree_links.Side.Side}
-use Rattle.ord_tree.specs.{declared.node.SimpleOrdArenaNode.SimpleOrdArenaNode as Node, Shape.Shape, Shape.missing, Shape.node, Shape.walk}
+use Rattle.ord_tree.specs.{declared.node.SimpleOrdArenaNode.SimpleOrdArenaNode as Node, Shape.Shape, Shape.missing, Shape.node}
 use Rattle.ord_tree.specs.{Slots.Holds, Slots.times, Slots.IsOnce, Slots.shape_under, Tree.put_on, Tree.put_at, Tree.CanPutAt, Tree.IsGrown}
 use Rattle.ord_tree.specs.{Leaf.beside, Leaf.leaf_links, Leaf.IsNewLeaf, Layout.shape_in, Layout.IsLaidOut, Promote.IsRepaired}
-use Rattle.ord_tree.specs.{Ranks.IsRanked, Potential.potential, Potential.ChangesRanksWithin, Account.IsSpelledWithin, Account.rank_in}
+use Rattle.ord_tree.specs.{Ranks.IsTight, Potential.potential, Account.IsSpelledWithin, Account.rank_in}
 use Rattle.ord_tree.proofs.{RankChanges.ChangesRanksWithin-spelled, Potentials.node_potential-full}
 use Rattle.chain_base.proofs.ArenaLemmas.{limit_of-below}
-use Rattle.ord_tree.proofs.Trees.{links_at, times-bare, indexes-bare, vacant_among-bare, shape_in-held, is_some-bare}
+use Rattle.ord_tree.proofs.Trees.{links_at, times-bare, indexes-bare, vacant_among-bare, shape_in-held, IsLaidOut-held, is_some-bare}
 use Rattle.ord_tree.proofs.Slack.{IsRanked-balanced, IsBalanced-ranked, IsTight-balanced, IsBalanced-tight}
 use Rattle.ord_tree.proofs.{LeafBranches.times-indexes, LeafBranches.IsOnce-distinct, LeafBranches.within-occupied, Views.MovesAtMost-backs}
 use Rattle.ord_tree.proofs.{Puts.put-same, Puts.put-other, Puts.put-indexes, Puts.put-bare, Spots.times-beside-ge, Spots.length-beside_in}
@@ -58,16 +58,18 @@ module _ {P T I G : Type 0} where
 
     -- the insertion as seen by the list
     pub IsInsertion-bare : IsInsertion old new place item i g → IsInsertion (bare old) (bare last) put item.t i g
-    IsInsertion-bare h =
-        let Fresh : Chain T → Type 0 = λ c. IsFresh (bare old) → IsFresh c in
-        record {
-          next = h.next;
-          vacant = record { above = h.vacant.above; within = h.vacant.within; free = times-bare old.entries i ∙ h.vacant.free };
-          least = λ fresh k low high. is_some-bare old.entries k ∙ h.least (IsFresh-bare old fresh) k low high;
-          generation = h.generation;
-          after = kept ∙ ap bare h.after ∙ bare_inserted old.vacant;
-          fresh = subst Fresh (sym kept) (λ fresh. bare_fresh new (h.fresh (IsFresh-bare old fresh)));
-        }
+    IsInsertion-bare h = record {
+      next = h.next;
+      vacant = record { above = h.vacant.above; within = h.vacant.within; free = times-bare old.entries i ∙ h.vacant.free };
+      least = λ fresh k low high. is_some-bare old.entries k ∙ h.least (IsFresh-bare old fresh) k low high;
+      generation = h.generation;
+      after = kept ∙ ap bare h.after ∙ bare_inserted old.vacant;
+      fresh = λ fresh. subst (λ (c : Chain T). IsFresh c) (sym kept) (bare_fresh new (h.fresh (IsFresh-bare old fresh)));
+    }
+
+-- the tree that lies in a chain, grown from this shape
+abbrev pub IsGrownTo : {P T I G : Type 0} → Shape → Chain (Node P T I G) → Option ℕ → Type 0
+IsGrownTo old new root = IsLaidOut new root (shape_in new root) × IsGrown old (shape_in new root)
 
 -- the tree with the new entry beside another
 module _ {P T I G : Type 0} (number : I → ℕ) (c d : Chain (Node P T I G)) (root : Option ℕ) (at : I × Side) (new_entry : Entry (Node P T I G))
@@ -145,33 +147,25 @@ module _ {P T I G : Type 0} (number : I → ℕ) (c d : Chain (Node P T I G)) (r
     shape_is : (slack : ℕ) (balanced : IsBalanced slack before) → shape_in new root' ≡ (repaired slack balanced).built.shape
     shape_is slack balanced = let b = (repaired slack balanced).built in shape_in-held new root' b.shape b.held (b.listed ∙ listed_new)
 
-    balanced_new : (slack : ℕ) → IsBalanced slack before → IsBalanced slack (shape_in new root')
-    balanced_new slack balanced = let P : Shape → Type 0 = λ s. IsBalanced slack s in subst P (sym (shape_is slack balanced)) (repaired slack balanced).built.balanced
+    done : IsRepaired (slots_of d) (slots_of new) root' (beside branch.side (number branch.parent) x order) 1
+    done = repaired 1 (IsBalanced-ranked before laid.ranked)
 
-    held_new : Holds (slots_of new) None root' (shape_in new root')
-    held_new = let b = IsBalanced-ranked before laid.ranked in let P : Shape → Type 0 = λ s. Holds (slots_of new) None root' s in subst P (sym (shape_is 1 b)) (repaired 1 b).built.held
+    laid_new : IsLaidOut new root' (shape_in new root')
+    laid_new =
+        IsLaidOut-held new root' (record { held = done.built.held; listed = done.built.listed ∙ listed_new; ranked = IsRanked-balanced 1 done.built.shape done.built.balanced })
 
-    pub IsLaidOut-planted : IsLaidOut new root' (shape_in new root')
-    IsLaidOut-planted =
-        let b = IsBalanced-ranked before laid.ranked in
-        record { held = held_new; listed = ap walk (shape_is 1 b) ∙ (repaired 1 b).built.listed ∙ listed_new; ranked = IsRanked-balanced 1 (shape_in new root') (balanced_new 1 b) }
-
-    rank_changes_new : IsSpelledWithin (rank_in before) (slots_of new) root' (beside branch.side (number branch.parent) x order) (potential before + 4) → ChangesRanksWithin 4 before (shape_in new root')
-    rank_changes_new paid =
-        let P : Shape → Type 0 = λ s. ChangesRanksWithin 4 before s in
-        subst P (sym (shape_in-held new root' paid.shape paid.held (paid.listed ∙ listed_new)))
-        (ChangesRanksWithin-spelled 4 before paid (λ j inside. refl) (λ j. omega (arith, once j, times-walk j before, ap (times j) laid.listed))
-        (λ j. omega (arith, times-walk j paid.shape, ap (times j) paid.listed, ap (times j) (bud.put x ∙ sym order_is), IsOnce-distinct d.entries sound.distinct j)) laid.ranked)
-
-    pub IsGrown-planted : IsSpelledWithin (rank_in before) (slots_of new) root' (beside branch.side (number branch.parent) x order) (potential before + 4) → IsGrown before (shape_in new root')
-    IsGrown-planted paid =
-        let b = IsBalanced-ranked before laid.ranked in
-        record {
-          ranked = IsRanked-balanced 1 (shape_in new root') (balanced_new 1 b);
-          tight = λ tight. IsTight-balanced (shape_in new root') (balanced_new 0 (IsBalanced-tight before laid.ranked tight));
-          moved = MovesAtMost-backs 5 (slots_of d) (slots_of new) root root' before (shape_in new root') held_d held_new (repaired 1 b).backs;
-          rank_changes = rank_changes_new paid;
-        }
+    pub planted : IsSpelledWithin (rank_in before) (slots_of new) root' (beside branch.side (number branch.parent) x order) (potential before + 4) → IsGrownTo before new root'
+    planted paid = (
+      laid_new,
+      record {
+        ranked = laid_new.ranked;
+        tight = λ tight. let b = IsBalanced-tight before laid.ranked tight in
+            subst (λ (s : Shape). IsTight s) (sym (shape_is 0 b)) (IsTight-balanced (repaired 0 b).built.shape (repaired 0 b).built.balanced);
+        moved = MovesAtMost-backs 5 (slots_of d) (slots_of new) root root' before (shape_in new root') held_d laid_new.held done.backs;
+        rank_changes = ChangesRanksWithin-spelled 4 before (shape_in new root') laid.listed once laid.ranked laid_new.held
+            (λ j. omega (arith, ap (times j) (bud.put x ∙ sym order_is), IsOnce-distinct d.entries sound.distinct j)) (λ j inside. refl) paid;
+      },
+    )
 
 -- the tree of one entry
 module _ {P T I G : Type 0} (c d : Chain (Node P T I G)) (root : Option ℕ) (x g : ℕ) (leaf : Node P T I G)
@@ -181,28 +175,26 @@ module _ {P T I G : Type 0} (c d : Chain (Node P T I G)) (root : Option ℕ) (x 
       ap (λ (es : List (Entry (Node P T I G))). links_at es x) entries
       ∙ rw (eq-eqb x x refl) (ap Some leaf_is)
 
-  held_alone : Holds (slots_of d) None (Some x) (node missing x 1 missing)
-  held_alone = (leaf_links None, refl, slots_alone, refl, refl, refl, refl)
-
-  shape_alone : shape_in d (Some x) ≡ node missing x 1 missing
-  shape_alone = shape_in-held d (Some x) (node missing x 1 missing) held_alone (ap (λ (es : List (Entry (Node P T I G))). indexes es) (sym entries))
+  laid_alone : IsLaidOut d (Some x) (node missing x 1 missing)
+  laid_alone = record {
+    held = (leaf_links None, refl, slots_alone, refl, refl, refl, refl);
+    listed = ap (λ (es : List (Entry (Node P T I G))). indexes es) (sym entries);
+    ranked = (record { lesser = omega arith; greater = omega arith; leaf = λ _ _. refl }, tt, tt);
+  }
 
   shape_none : shape_in c root ≡ missing
   shape_none = ap (λ (es : List (Entry (Node P T I G))). shape_under (length es) (slots_of c) root) empty
 
-  ranked_alone : IsRanked (node missing x 1 missing)
-  ranked_alone = (record { lesser = omega arith; greater = omega arith; leaf = λ _ _. refl }, tt, tt)
-
-  pub IsLaidOut-alone : IsLaidOut d (Some x) (shape_in d (Some x))
-  IsLaidOut-alone =
-      let L : Shape → Type 0 = λ s. IsLaidOut d (Some x) s in
-      subst L (sym shape_alone) (record { held = held_alone; listed = ap (λ (es : List (Entry (Node P T I G))). indexes es) (sym entries); ranked = ranked_alone })
-
-  pub IsGrown-alone : IsGrown (shape_in c root) (shape_in d (Some x))
-  IsGrown-alone =
-      let A : Shape → Type 0 = λ s. IsGrown s (shape_in d (Some x)) in
-      let B : Shape → Type 0 = λ s. IsGrown missing s in
-      subst A (sym shape_none) (subst B (sym shape_alone) (record { ranked = ranked_alone; tight = λ _. (inl refl, tt, tt); moved = ([], omega arith, λ i p q old new. elim old [ ]); rank_changes = ([], omega (arith, node_potential-full 1 0 0), λ i k l old new. elim old [ ]) }))
+  pub alone : IsGrownTo (shape_in c root) d (Some x)
+  alone = rw (shape_none, shape_in-held d (Some x) (node missing x 1 missing) laid_alone.held laid_alone.listed) (
+    laid_alone,
+    record {
+      ranked = laid_alone.ranked;
+      tight = λ _. (inl refl, tt, tt);
+      moved = ([], omega arith, λ i p q old new. elim old [ ]);
+      rank_changes = ([], omega (arith, node_potential-full 1 0 0), λ i k l old new. elim old [ ]);
+    },
+  )
 
 -- the facts that the steps of an insertion pass on; `branch` is where the new entry x is attached
 module _ {P T I G : Type 0} (number : I → ℕ) (branch : Option (Branch I)) where
@@ -231,10 +223,6 @@ module _ {P T I G : Type 0} (number : I → ℕ) (branch : Option (Branch I)) wh
     pub entries : d.entries ≡ put_at number at c.entries e
     pub links : links_in e.item ≡ leaf_links (option_map (λ (p : Branch I). number p.parent) branch)
 
--- the tree that lies in a chain, grown from this shape
-abbrev pub IsGrownTo : {P T I G : Type 0} → Shape → Chain (Node P T I G) → Option ℕ → Type 0
-IsGrownTo old new root = IsLaidOut new root (shape_in new root) × IsGrown old (shape_in new root)
-
 -- a complete insertion
 module _ {P T I G : Type 0} (number : I → ℕ) (c d : Chain (Node P T I G)) (root : Option ℕ) (x : I) (g : ℕ) (leaf : Node P T I G)
     (laid : IsLaidOut c root (shape_in c root)) (free : entry_times (number x) c.entries ≡ 0)
@@ -254,22 +242,17 @@ module _ {P T I G : Type 0} (number : I → ℕ) (c d : Chain (Node P T I G)) (r
         → HasGrown number on d root x new root' → HasAccount number on d root x new root' → IsGrownTo (shape_in c root) new (option_map number root')
     unfolding new_leaf
     has_grown None None put same paid =
-        let alone = put.entries ∙ ap (λ (es : List (Entry (Node P T I G))). new_entry ∷ es) put.can in
-        let R : Option ℕ → Type 0 = λ r. IsGrownTo (shape_in c root) new r in
-        let N : Chain (Node P T I G) → Type 0 = λ n. IsGrownTo (shape_in c root) n (Some (number x)) in
-        subst R (sym (ap (option_map number) same.1))
-        (subst N (sym same.0) (IsLaidOut-alone c d root (number x) g leaf put.can alone put.links, IsGrown-alone c d root (number x) g leaf put.can alone put.links))
+        let entry = put.entries ∙ ap (λ (es : List (Entry (Node P T I G))). new_entry ∷ es) put.can in
+        rw (same.0, same.1) (alone c d root (number x) g leaf put.can entry put.links)
     has_grown (Some at) None put same paid =
         absurd (elim (put.found root (shape_in c root) laid (distinct number c d root at new_entry laid put.can free put.entries most greatest sound fits)) [ ])
     has_grown None (Some branch) put repaired paid = absurd (let none = put.found root (shape_in c root) laid (λ i. let e = ap (entry_times i) put.can in omega arith) in cc)
     has_grown (Some at) (Some branch) put repaired paid =
         let here = put.found root (shape_in c root) laid (distinct number c d root at new_entry laid put.can free put.entries most greatest sound fits) in
         let leaves = new_leaf number c d root at new_entry laid put.can free put.entries most greatest sound fits branch here put.links in
-        let again = λ (slack : ℕ) (balanced : IsBalanced slack (shape_in c root)). repaired (indexes c.entries) slack (leaves slack balanced) in (
-          IsLaidOut-planted number c d root at new_entry laid put.can free put.entries most greatest sound fits new (option_map number root') branch here kept again,
-          IsGrown-planted number c d root at new_entry laid put.can free put.entries most greatest sound fits new (option_map number root') branch here kept again
-              (paid (indexes c.entries) 1 (leaves 1 (IsBalanced-ranked (shape_in c root) laid.ranked))),
-        )
+        let again = λ (slack : ℕ) (balanced : IsBalanced slack (shape_in c root)). repaired (indexes c.entries) slack (leaves slack balanced) in
+        planted number c d root at new_entry laid put.can free put.entries most greatest sound fits new (option_map number root') branch here kept again
+        (paid (indexes c.entries) 1 (leaves 1 (IsBalanced-ranked (shape_in c root) laid.ranked)))
 
 -- small steps of the insertion call
 bare_empty : {P T I G : Type 0} (es : List (Entry (Node P T I G))) → map bare_entry es ≡ [] → es ≡ []
@@ -327,7 +310,5 @@ module _ {P T I G : Type 0} (number : I → ℕ) (c : Chain (Node P T I G)) (roo
 
     pub call_listed : IsInsertion (bare c) (bare new) (put_at number at (map bare_entry c.entries)) t index era
     call_listed =
-        let L : T → Type 0 = λ t. IsInsertion (bare c) (bare new) (put_at number at (map bare_entry c.entries)) t index era in
-        subst L (ap (λ (n : Node P T I G). n.t) leaf_is)
-        (IsInsertion-bare c d new (placed number kind c.entries) (put_at number at (map bare_entry c.entries)) leaf index era
+        rw (ap (λ (n : Node P T I G). n.t) leaf_is) at (IsInsertion-bare c d new (placed number kind c.entries) (put_at number at (map bare_entry c.entries)) leaf index era
         (λ e. ap (λ (es : List (Entry (Node P T I G))). map bare_entry es) (put_is e) ∙ put_at-bare number c.entries e at) kept insertion)

@@ -1,6 +1,6 @@
 -- Rebuilt shapes exist, obey the rank rules, and are as high as their size has digits.
-use Rattle.std.proofs.Common.{◌≡◌, ℕ, zero, suc, ◌+◌, ◌-◌, ◌*◌, ◌/◌, ◌^◌, ◌<◌, ◌≤◌, List, [], ◌∷◌, ◌++◌, length, arith, refl, sym, ◌∙◌, ap, inl, inr, ⊎_elim, ◌⊎◌, length-append, below_more}
-use Rattle.std.proofs.{Math.Nat.two-pow-succ, Math.Nat.one-le-pow, lemmas.Bool.Decides.nat_tests, Math.Numerals.add-one}
+use Rattle.std.proofs.Common.{◌≡◌, ℕ, zero, suc, ◌+◌, ◌-◌, ◌*◌, ◌/◌, ◌^◌, ◌<◌, ◌≤◌, List, [], ◌∷◌, ◌++◌, length, take, drop, get_or, arith, refl, sym, ◌∙◌, ap, inl, inr, ⊎_elim, ◌⊎◌, length-append, below_more}
+use Rattle.std.proofs.{Math.Seq.split_at, lemmas.List.length-take-le, Math.Nat.two-pow-succ, Math.Nat.one-le-pow, lemmas.Bool.Decides.nat_tests, Math.Numerals.add-one}
 use Rattle.std.proofs.lemmas.Bool.{cases_lt}
 use Rattle.ord_tree.specs.Shape.{Shape, missing, node, rank_of, size_of, walk, height}
 use Rattle.ord_tree.specs.Laws.{RebuiltRanksLaw, RebuiltHeightLaw, RebuiltExistsLaw, DigitsExistLaw}
@@ -29,24 +29,11 @@ height-rebuilt s (suc d) h e =
     (cases_lt (size_of s) (2 ^ d))
 
 -- the rank over a run is one of three, depending on its length
-half_rank-small : (n q : ℕ) → n < 3 → half_rank n q ≡ n
-half_rank-small n q h = grind (arith, nat_tests)
-
-half_rank-middle : (n q : ℕ) → 3 ≤ n → n < 5 → half_rank n q ≡ 3
-half_rank-middle n q h e = grind (arith, nat_tests)
-
-half_rank-large : (n q : ℕ) → 5 ≤ n → half_rank n q ≡ q
-half_rank-large n q h = grind (arith, nat_tests)
-
 abbrev RankCases : ℕ → ℕ → ℕ → Type 0
 RankCases n q k = ((n < 3) × (k ≡ n)) ⊎ ((3 ≤ n) × (n < 5) × (k ≡ 3)) ⊎ ((5 ≤ n) × (k ≡ q))
 
 rank_cases : (n q : ℕ) → RankCases n q (half_rank n q)
-rank_cases n q =
-    ⊎_elim (λ (small : n < 3). inl (small, half_rank-small n q small))
-    (λ (more : 3 ≤ n). inr (⊎_elim (λ (low : n < 5). inl (more, low, half_rank-middle n q more low))
-    (λ (high : 5 ≤ n). inr (high, half_rank-large n q high)) (cases_lt n 5)))
-    (cases_lt n 3)
+rank_cases n q = grind (arith, nat_tests)
 
 -- powers of two, as far as a rank over small sides needs them
 abbrev PowerCases : ℕ → ℕ → Type 0
@@ -136,27 +123,21 @@ pub size_of-walk : (s : Shape) → size_of s ≡ length (walk s)
 size_of-walk missing = refl
 size_of-walk (node l i k r) = rw (length-append (walk l) (i ∷ walk r)) (omega (arith, size_of-walk l, size_of-walk r))
 
--- a list is split at a position
-split_at : (xs : List ℕ) (m : ℕ) → m < length xs → (front : List ℕ) × (x : ℕ) × (back : List ℕ) × (xs ≡ front ++ x ∷ back) × (length front ≡ m)
-split_at [] m b = absurd (omega (arith, b))
-split_at (x ∷ xs) zero b = ([], x, xs, refl, refl)
-split_at (x ∷ xs) (suc m) b =
-    let h = split_at xs m (omega (arith, b)) in
-    (x ∷ h.0, h.1, h.2, ap (λ ys. x ∷ ys) h.3, ap suc h.4)
-
 -- with enough fuel, a list is halved into a shape
 halved : (fuel q : ℕ) (xs : List ℕ) → length xs ≤ fuel → (s : Shape) × (walk s ≡ xs) × IsHalf q s
 halved fuel q [] b = (missing, refl, tt)
 halved zero q (x ∷ xs) b = absurd (omega (arith, b))
 halved (suc fuel) q (x ∷ xs) b =
-    let n = length (x ∷ xs) in
-    let h = split_at (x ∷ xs) (n / 2) (omega arith) in
-    let whole : n ≡ length h.0 + suc (length h.2) = ap length h.3 ∙ length-append h.0 (h.1 ∷ h.2) in
-    let l = halved fuel (q - 1) h.0 (omega (arith, b, h.4)) in
-    let r = halved fuel (q - 1) h.2 (omega (arith, b, whole)) in
-    let few : size_of l.0 ≡ length h.0 = size_of-walk l.0 ∙ ap length l.1 in
-    let rest : size_of r.0 ≡ length h.2 = size_of-walk r.0 ∙ ap length r.1 in
-    (node l.0 h.1 (half_rank (size_of l.0 + 1 + size_of r.0) q) r.0, rw (l.1, r.1) (sym h.3), (omega (arith, few, rest, whole, h.4), refl, l.2, r.2))
+    let all = x ∷ xs in
+    let m = length all / 2 in
+    let whole : all ≡ take m all ++ get_or all m 0 ∷ drop (suc m) all = split_at all m 0 (omega arith) in
+    let front : length (take m all) ≡ m = length-take-le m all (omega arith) in
+    let sizes : length all ≡ length (take m all) + suc (length (drop (suc m) all)) = ap length whole ∙ length-append (take m all) (get_or all m 0 ∷ drop (suc m) all) in
+    let l = halved fuel (q - 1) (take m all) (omega (arith, b)) in
+    let r = halved fuel (q - 1) (drop (suc m) all) (omega (arith, b)) in
+    let few : size_of l.0 ≡ length (take m all) = size_of-walk l.0 ∙ ap length l.1 in
+    let rest : size_of r.0 ≡ length (drop (suc m) all) = size_of-walk r.0 ∙ ap length r.1 in
+    (node l.0 (get_or all m 0) (half_rank (size_of l.0 + 1 + size_of r.0) q) r.0, rw (l.1, r.1) (sym whole), (omega (arith, few, rest, sizes, front), refl, l.2, r.2))
 
 pub rebuilt_exists : RebuiltExistsLaw
 rebuilt_exists order =

@@ -4,12 +4,12 @@ use Rattle.std.proofs.lemmas.Grind.{common_steps}
 use Rattle.chain_base.specs.Chain.{Entry, entry_at, times as entry_times, link_between, IsDistinct}
 use Rattle.chain_base.specs.Link.{Link}
 use Rattle.chain_base.proofs.CallerLemmas.{entry-occurs}
-use Rattle.ord_tree.specs.{declared.tree_links.Side.TheVariants.Lesser, declared.tree_links.Side.TheVariants.Greater, Node.indexes}
+use Rattle.ord_tree.specs.{Node.indexes}
 use Rattle.ord_tree.specs.{Leaf.previous, Leaf.following, Leaf.neighbour_in, Leaf.beside, declared.tree_links.Branch.Branch}
 use Rattle.ord_tree.specs.{Slots.Slots, Slots.Holds, Slots.times, Slots.IsOnce, TreeLinks.other_side, TreeLinks.child_at}
 use Rattle.ord_tree.specs.{declared.tree_links.TreeLinks.TreeLinks, declared.tree_links.Side.Side, Shape.Shape, Shape.walk}
 use Rattle.ord_tree.specs.LeafBranch.{IsLeafBranch}
-use Rattle.ord_tree.proofs.Neighbours.{before_in, after_in, previous-neighbour, following-neighbour, between, first-within, second-within}
+use Rattle.ord_tree.proofs.Neighbours.{neighbour_of, neighbour_is}
 
 module _ {T : Type 0} where
   -- indexes and entries
@@ -45,24 +45,10 @@ pub record NextLeafBranch (side : Side) (i : ℕ) (slots : Slots) (order : List 
 module _ (slots : Slots) (root : Option ℕ) (s : Shape) (order : List ℕ) (held : Holds slots None root s) (listed : walk s ≡ order) (once : IsOnce order)
     (i : ℕ) (within : 0 < times i order) (n : TreeLinks ℕ) (e : slots i ≡ Some n) where
   pub next_bud : (side : Side) (j : ℕ) → child_at side n ≡ Some j → NextLeafBranch side i slots order
-  next_bud Lesser j some =
-      let b = before_in slots root s order held listed i within n e j some in
-      record {
-        index = b.index;
-        is = previous-neighbour order b.front b.back b.index i once b.is;
-        within = first-within order b.front b.back b.index i once b.is;
-        bare = b.bare;
-        put = between order b.front b.back b.index i once b.is;
-      }
-  next_bud Greater j some =
-      let b = after_in slots root s order held listed i within n e j some in
-      record {
-        index = b.index;
-        is = following-neighbour order b.front b.back i b.index once b.is;
-        within = second-within order b.front b.back i b.index once b.is;
-        bare = b.bare;
-        put = λ x. sym (between order b.front b.back i b.index once b.is x);
-      }
+  next_bud side j some =
+      let b = neighbour_of slots root s order held listed i within n e side j some in
+      let is = neighbour_is slots side i order once b in
+      record { index = b.index; is = is.0; within = is.1; bare = b.bare; put = is.2 }
 
 module _ {I : Type 0} (number : I → ℕ) {side : Side} {i : ℕ} {slots : Slots} {order : List ℕ} (bud : NextLeafBranch side i slots order) (branch : Branch I) where
   pub IsLeafBranch-next : number branch.parent ≡ bud.index → branch.side ≡ other_side side → IsLeafBranch number i side slots order branch

@@ -4,10 +4,12 @@ pub mod Halves
 pub mod Forks
 pub mod Frames
 pub mod Rotations
+pub mod Plugs
 pub mod Doubles
 pub mod OnceOrTwice
 pub mod Potentials
 pub mod Views
+pub mod Steps
 pub mod RankChanges
 pub mod Promoting
 pub mod Removing
@@ -16,8 +18,6 @@ pub mod Demoting
 pub mod Reading
 pub mod Spots
 pub mod NewLeaf
-pub mod PromotionAccount
-pub mod DemotionAccount
 pub mod Cutting
 pub mod Standing
 pub mod Neighbours

@@ -1,22 +1,23 @@
 -- An entry that moves: from the tree without its node to the tree with it as a new leaf.
-use Rattle.std.proofs.Common.{arith, ◌≡◌, ◌≢◌, ℕ, ◌+◌, ◌<◌, ◌≤◌, ◌^◌, Option, Some, None, List, [], ◌∷◌, ◌++◌, ◌∙◌, map, length, length-append, refl, sym, ap, subst, inl, inr, ⊎_elim, is_some, true, option_map}
+use Rattle.std.proofs.Common.{arith, ◌≡◌, ◌≢◌, ℕ, ◌+◌, ◌<◌, Option, Some, None, List, [], ◌∷◌, ◌++◌, ◌∙◌, map, length, length-append, refl, sym, ap, subst, inl, inr, ⊎_elim, is_some, true, option_map}
 use Rattle.std.proofs.{lemmas.Grind.common_steps, lemmas.Bool.cases_eq, lemmas.Bool.ne_eqb}
-use Rattle.chain_base.specs.Chain.{Entry, Chain, entry_at, times as entry_times, IsSound, without as entries_without}
+use Rattle.chain_base.specs.Chain.{Entry, Chain, entry_at, times as entry_times, without as entries_without}
 use Rattle.chain_base.specs.{declared.chain.insert.LinkInsertKind.LinkInsertKind, Insert.placed, Insert.CanPlace, Move.with_entry_moved, Move.without_entry, Move.list_with}
 use Rattle.chain_base.proofs.CallerLemmas.{entry_at-without_other}
 use Rattle.ord_tree.specs.{declared.node.SimpleOrdArenaNode.SimpleOrdArenaNode as Node, Node.bare_entry, Node.bare, Node.entry_in, Node.links_in, Node.slots_of, Node.indexes}
 use Rattle.ord_tree.specs.{declared.tree_links.Side.TheVariants.Lesser, declared.tree_links.Side.TheVariants.Greater, declared.tree_links.Side.Side}
 use Rattle.ord_tree.specs.{declared.tree_links.TreeLinks.TreeLinks, declared.tree_links.Branch.Branch, Shape.Shape, Shape.walk}
 use Rattle.ord_tree.specs.{Leaf.beside, Leaf.previous, Leaf.following, Leaf.neighbour_in, Leaf.leaf_links, Leaf.IsNewLeaf}
-use Rattle.ord_tree.specs.{LeafBranch.kind_at, LeafBranch.IsLeafBranch, Detach.without, Detach.IsDetachable}
-use Rattle.ord_tree.specs.{Slots.Slots, Slots.Holds, Slots.times, Slots.here, Slots.IsOnce, Slots.MovesBacks, Slots.Writes, Layout.shape_in, Layout.IsLaidOut}
-use Rattle.ord_tree.specs.{Promote.IsBuilt, Promote.IsRepaired, Tree.put_on, Tree.CanPutAt, Move.IsRearranged, Move.IsAside}
-use Rattle.ord_tree.specs.{Potential.potential, Potential.ChangesRanksWithin, Account.IsSpelledWithin, Account.NamesChanges, Account.rank_in, Account.ranks_without}
-use Rattle.ord_tree.proofs.Trees.{entry_at-bare, is_some-bare, indexes-bare, shape_in-held}
-use Rattle.ord_tree.proofs.{Shrunk.times-without_same, Shrunk.indexes-without, Shrunk.bare-without, Shrunk.detachable, Cutting.times-without, Spots.times-beside-ge, Spots.times-beside}
+use Rattle.ord_tree.specs.{LeafBranch.kind_at, LeafBranch.IsLeafBranch, Detach.without}
+use Rattle.ord_tree.specs.{Slots.Slots, Slots.Holds, Slots.times, Slots.MovesBacks, Slots.Writes, Layout.shape_in, Layout.IsLaidOut}
+use Rattle.ord_tree.specs.{Promote.IsRepaired, Tree.put_on, Tree.CanPutAt, Move.IsRearranged, Move.IsAside}
+use Rattle.ord_tree.specs.{Potential.potential, Account.IsSpelledWithin, Account.NamesChanges, Account.rank_in, Account.ranks_without}
+use Rattle.ord_tree.proofs.Trees.{entry_at-bare, is_some-bare, indexes-bare, shape_in-held, IsLaidOut-held}
+use Rattle.ord_tree.proofs.Shrunk.{still_in}
+use Rattle.ord_tree.proofs.{Shrunk.bare-without, Shrunk.IsTakenOut, Shrunk.rest, Shrunk.rest_is, Shrunk.rest_fresh, Shrunk.rest_once, Shrunk.not_out, Spots.times-beside-ge, Spots.IsOnce-beside}
 use Rattle.ord_tree.proofs.{Puts.put-same, Puts.put-other, Puts.put-indexes, Puts.put-bare, Grown.placed-put, Grown.CanPlace-put}
 use Rattle.ord_tree.proofs.{LeafBranches.times-indexes, LeafBranches.within-occupied, LeafBranches.some_in, LeafBranches.is_some-mapped, Views.MovesAtMost-backs, Views.Holds-unique}
-use Rattle.ord_tree.proofs.{RankChanges.NamesChanges-joined, RankChanges.ChangesRanksWithin-spelled, Forks.here-same, Forks.here-other, Forks.times-walk, Forks.apart-from, Frames.Holds-frame, Displacing.MovesBacks-then, Slack.IsRanked-balanced}
+use Rattle.ord_tree.proofs.{RankChanges.NamesChanges-joined, RankChanges.ChangesRanksWithin-spelled, Forks.apart-from, Frames.Holds-frame, Views.MovesBacks-then, Views.MovesBacks-write, Views.MovesBacks-same, Slack.IsRanked-balanced}
 
 -- a list without one of its indexes is shorter by one
 length-without_in : (i : ℕ) (xs : List ℕ) → 0 < times i xs → length (without i xs) + 1 ≡ length xs
@@ -42,28 +43,6 @@ module _ (y x : ℕ) where
   neighbour-beside Lesser order none = previous-beside None order none
   neighbour-beside Greater order none = following-beside order none
 
--- d is the chain c after the node x was taken out of the tree; `root` and `root'` are the roots before and after
-pub record IsTakenOut {P T I G : Type 0} (c : Chain (Node P T I G)) (root : Option ℕ) (d : Chain (Node P T I G)) (root' : Option ℕ) (x : ℕ) : Type 0 where
-  pub kept : bare d ≡ bare c
-  pub built : IsBuilt (slots_of d) root' (without x (indexes c.entries)) 1
-  pub backs : MovesBacks 9 (slots_of c) (slots_of d)
-  pub account : IsSpelledWithin (ranks_without x (shape_in c root)) (slots_of d) root' (without x (indexes c.entries)) (potential (shape_in c root) + 9)
-  pub once : IsOnce (indexes c.entries)
-  pub few : length (indexes c.entries) < 2 ^ 64
-  pub there : is_some (entry_at c.entries x) ≡ true
-
--- what the removing step ensures
-module _ {P T I G : Type 0} (c : Chain (Node P T I G)) (root : Option ℕ) (x : ℕ) (laid : IsLaidOut c root (shape_in c root)) (there : is_some (entry_at c.entries x) ≡ true)
-    (most : ℕ) (greatest : Option ℕ) (sound : IsSound most greatest c) (fits : most + 1 < 2 ^ 64) (before : Option ℕ) (is_before : before ≡ previous None x (indexes c.entries))
-    (d : Chain (Node P T I G)) (root' : Option ℕ) (kept : bare d ≡ bare c)
-    (builds : (order : List ℕ) → IsDetachable (slots_of c) root x before order → IsBuilt (slots_of d) root' (without x order) 1)
-    (moves : (order : List ℕ) → IsDetachable (slots_of c) root x before order → MovesBacks 9 (slots_of c) (slots_of d)) where
-  pub taken_out : ((order : List ℕ) (can : IsDetachable (slots_of c) root x before order) → IsSpelledWithin (ranks_without x can.built.shape) (slots_of d) root' (without x order) (potential can.built.shape + 9))
-      → IsTakenOut c root d root' x
-  taken_out accounts =
-      let can = detachable c root x laid there most greatest sound fits before is_before in
-      record { kept = kept; built = builds _ can; backs = moves _ can; account = accounts _ can; once = can.once; few = can.few; there = there }
-
 -- the accounts of removing and inserting one entry, together: its own rank may change too
 module _ (s t : Shape) (x : ℕ) {at new : Slots} {root root' : Option ℕ} {order order' : List ℕ} (removal : IsSpelledWithin (ranks_without x s) at root order (potential s + 9)) where
   pub both_accounts : removal.shape ≡ t → IsSpelledWithin (rank_in t) new root' order' (potential t + 4) → IsSpelledWithin (rank_in s) new root' order' (potential s + 14)
@@ -84,27 +63,6 @@ module _ (s t : Shape) (x : ℕ) {at new : Slots} {root root' : Option ℕ} {ord
       }
 
 module _ {P T I G : Type 0} {c d : Chain (Node P T I G)} {root root' : Option ℕ} {x : ℕ} (out : IsTakenOut c root d root' x) where
-  abbrev pub rest : List ℕ
-  rest = without x (indexes c.entries)
-
-  some_kept : (j : ℕ) → is_some (entry_at d.entries j) ≡ is_some (entry_at c.entries j)
-  some_kept j = sym (is_some-bare d.entries j) ∙ ap (λ (b : Chain T). is_some (entry_at b.entries j)) out.kept ∙ is_some-bare c.entries j
-
-  pub still_in : is_some (entry_at d.entries x) ≡ true
-  still_in = some_kept x ∙ out.there
-
-  same_order : indexes d.entries ≡ indexes c.entries
-  same_order = sym (indexes-bare d.entries) ∙ ap (λ (b : Chain T). indexes b.entries) out.kept ∙ indexes-bare c.entries
-
-  pub rest_is : indexes (entries_without x d.entries) ≡ rest
-  rest_is = indexes-without d.entries x ∙ ap (without x) same_order
-
-  rest_fresh : times x rest ≡ 0
-  rest_fresh = times-without_same x (indexes c.entries) (out.once x)
-
-  rest_once : IsOnce rest
-  rest_once j = omega (arith, times-without x j (indexes c.entries), out.once j)
-
   module _ (number : I → ℕ) (at : I × Side) (can : CanPutAt number (Some at) (without_entry (bare c) x)) where
     abbrev y : ℕ
     y = number at.0
@@ -119,9 +77,7 @@ module _ {P T I G : Type 0} {c d : Chain (Node P T I G)} {root root' : Option �
     y_left = sym (is_some-bare left y) ∙ ap (λ (es : List (Entry T)). is_some (entry_at es y)) left_bare ∙ can
 
     pub can_place : (kind : LinkInsertKind P I G) → kind ≡ kind_at (Some at) → CanPlace number kind (without_entry d x)
-    can_place kind kind_is =
-        let C : LinkInsertKind P I G → Type 0 = λ kind. CanPlace number kind (without_entry d x) in
-        subst C (sym kind_is) (CanPlace-put P G number (Some at) (without_entry d x) y_left)
+    can_place kind kind_is = rw kind_is (CanPlace-put P G number (Some at) (without_entry d x) y_left)
 
     -- the entry, still in the chain
     module _ (e : ℕ × Node P T I G) (has : entry_at d.entries x ≡ Some e) where
@@ -129,7 +85,7 @@ module _ {P T I G : Type 0} {c d : Chain (Node P T I G)} {root root' : Option �
       entry = record { index = x; generation = e.0; item = e.1 }
 
       left_free : entry_times x left ≡ 0
-      left_free = sym (times-indexes left x) ∙ ap (times x) rest_is ∙ rest_fresh
+      left_free = sym (times-indexes left x) ∙ ap (times x) (rest_is out) ∙ (rest_fresh out)
 
       abbrev put : List (Entry (Node P T I G))
       put = put_on at.1 y left entry
@@ -141,8 +97,8 @@ module _ {P T I G : Type 0} {c d : Chain (Node P T I G)} {root root' : Option �
           (λ (other : j ≢ x). put-other at.1 left y y_left entry j other ∙ entry_at-without_other d.entries x j other)
           (cases_eq j x)
 
-      order-put : indexes put ≡ beside at.1 y x rest
-      order-put = put-indexes at.1 left y entry ∙ ap (beside at.1 y x) rest_is
+      order-put : indexes put ≡ beside at.1 y x (rest out)
+      order-put = put-indexes at.1 left y entry ∙ ap (beside at.1 y x) (rest_is out)
 
       bare-put : map bare_entry put ≡ list_with (put_on at.1 y) x (entry_at (bare c).entries x) (entries_without x (bare c).entries)
       bare-put =
@@ -159,7 +115,7 @@ module _ {P T I G : Type 0} {c d : Chain (Node P T I G)} {root root' : Option �
     -- the chain with the entry at its new place; its node isn't in the tree yet
     module _ (m : Chain (Node P T I G)) (kind : LinkInsertKind P I G) (kind_is : kind ≡ kind_at (Some at)) (m_is : m ≡ with_entry_moved d x (placed number kind)) where
       e : (e : ℕ × Node P T I G) × (entry_at d.entries x ≡ Some e)
-      e = some_in (entry_at d.entries x) still_in
+      e = some_in (entry_at d.entries x) (still_in out)
 
       entries_are : m ≡ record d { entries = put e.0 e.1 }
       entries_are = m_is ∙ put_at_place e.0 e.1 kind kind_is
@@ -170,7 +126,7 @@ module _ {P T I G : Type 0} {c d : Chain (Node P T I G)} {root root' : Option �
       pub same_slots : (j : ℕ) → slots_of m j ≡ slots_of d j
       same_slots j = ap (option_map (λ (e : ℕ × Node P T I G). links_in e.1)) (same_entries j)
 
-      pub order_is : indexes m.entries ≡ beside at.1 y x rest
+      pub order_is : indexes m.entries ≡ beside at.1 y x (rest out)
       order_is = ap (λ (c : Chain (Node P T I G)). indexes c.entries) entries_are ∙ order-put e.0 e.1
 
       pub bare_is : bare m ≡ with_entry_moved (bare c) x (put_on at.1 y)
@@ -179,64 +135,59 @@ module _ {P T I G : Type 0} {c d : Chain (Node P T I G)} {root root' : Option �
           ∙ ap (λ (b : Chain T). record b { entries = list_with (put_on at.1 y) x (entry_at (bare c).entries x) (entries_without x (bare c).entries) }) out.kept
 
       pub x_in : is_some (entry_at m.entries x) ≡ true
-      x_in = ap is_some (same_entries x) ∙ still_in
+      x_in = ap is_some (same_entries x) ∙ (still_in out)
 
       pub x_slot : is_some (slots_of m x) ≡ true
       x_slot = is_some-mapped (λ (e : ℕ × Node P T I G). links_in e.1) (entry_at m.entries x) ∙ x_in
 
-      y_within : 0 < times y rest
-      y_within = omega (arith, ap (times y) rest_is, within-occupied left y y_left)
+      y_within : 0 < times y (rest out)
+      y_within = omega (arith, ap (times y) (rest_is out), within-occupied left y y_left)
 
       pub y_in : is_some (entry_at m.entries y) ≡ true
-      y_in = occupied-within m.entries y (omega (arith, ap (times y) order_is, times-beside-ge at.1 y x y rest, y_within))
+      y_in = occupied-within m.entries y (omega (arith, ap (times y) order_is, times-beside-ge at.1 y x y (rest out), y_within))
 
       held_rest : Holds (slots_of m) None root' out.built.shape
       held_rest = Holds-frame (slots_of d) (slots_of m) out.built.shape None root' (λ j _. same_slots j) out.built.held
 
-      pub aside : IsAside (slots_of m) root' rest (indexes m.entries) at.1 y x
+      pub aside : IsAside (slots_of m) root' (rest out) (indexes m.entries) at.1 y x
       aside = record {
         shape = out.built.shape;
         held = held_rest;
         listed = out.built.listed;
-        once = rest_once;
+        once = (rest_once out);
         within = y_within;
-        facing = ap (neighbour_in at.1 x) order_is ∙ neighbour-beside y x at.1 rest rest_fresh;
+        facing = ap (neighbour_in at.1 x) order_is ∙ neighbour-beside y x at.1 (rest out) (rest_fresh out);
       }
 
       -- its node is now a leaf with a parent link
-      module _ (n : Chain (Node P T I G)) (branch : Branch I) (bud : IsLeafBranch number y at.1 (slots_of m) rest branch)
+      module _ (n : Chain (Node P T I G)) (branch : Branch I) (bud : IsLeafBranch number y at.1 (slots_of m) (rest out) branch)
           (write : Writes x (λ _. leaf_links (Some (number branch.parent))) (slots_of m) (slots_of n) (bare m) (bare n)) where
-        pub new_leaf : IsNewLeaf (slots_of n) root' branch.side (number branch.parent) x rest 1
+        pub new_leaf : IsNewLeaf (slots_of n) root' branch.side (number branch.parent) x (rest out) 1
         new_leaf = record {
           built = record {
             shape = out.built.shape;
             held = Holds-frame (slots_of m) (slots_of n) out.built.shape None root'
-                (λ j inside. write.elsewhere j (apart-from x j (λ j. times j rest) rest_fresh (omega (arith, inside, times-walk j out.built.shape, ap (times j) out.built.listed)))) held_rest;
+                (λ j inside. write.elsewhere j (not_out out j inside)) held_rest;
             listed = out.built.listed;
             balanced = out.built.balanced;
           };
           within = bud.within;
-          bare = λ l h. bud.bare l (sym (write.elsewhere (number branch.parent) (apart-from x (number branch.parent) (λ j. times j rest) rest_fresh bud.within)) ∙ h);
+          bare = λ l h. bud.bare l (sym (write.elsewhere (number branch.parent) (apart-from x (number branch.parent) (λ j. times j (rest out)) (rest_fresh out) bud.within)) ∙ h);
           leaf = let slot = some_in (slots_of m x) x_slot in write.here slot.0 slot.1;
-          fresh = rest_fresh;
-          once = rest_once;
+          fresh = (rest_fresh out);
+          once = (rest_once out);
           few = omega (arith, length-without_in x (indexes c.entries) (within-occupied c.entries x out.there), out.few);
         }
 
         own_back : MovesBacks 1 (slots_of d) (slots_of n)
-        own_back = (
-          x ∷ [],
-          omega arith,
-          λ j. ⊎_elim (λ (same : j ≡ x). inl (inl same))
-              (λ (other : j ≢ x). inr (ap (option_map (λ (l : TreeLinks ℕ). l.back)) (sym (write.elsewhere j other ∙ same_slots j)))) (cases_eq j x),
-        )
+        own_back = MovesBacks-same (slots_of d) (slots_of m) (slots_of n) 1 (λ j. ap (option_map (λ (l : TreeLinks ℕ). l.back)) (sym (same_slots j))) (MovesBacks-write write)
 
         -- it is attached
         module _ (laid : IsLaidOut c root (shape_in c root)) (q : Chain (Node P T I G)) (root'' : Option ℕ) (hung : bare q ≡ bare n)
             (repairs : (order : List ℕ) (slack : ℕ) → IsNewLeaf (slots_of n) root' branch.side (number branch.parent) x order slack
             → IsRepaired (slots_of n) (slots_of q) root'' (beside branch.side (number branch.parent) x order) slack) where
-          repaired : IsRepaired (slots_of n) (slots_of q) root'' (beside branch.side (number branch.parent) x rest) 1
-          repaired = repairs rest 1 new_leaf
+          repaired : IsRepaired (slots_of n) (slots_of q) root'' (beside branch.side (number branch.parent) x (rest out)) 1
+          repaired = repairs (rest out) 1 new_leaf
 
           bare_end : bare q ≡ bare m
           bare_end = hung ∙ write.kept
@@ -250,44 +201,28 @@ module _ {P T I G : Type 0} {c d : Chain (Node P T I G)} {root root' : Option �
           shape_is = shape_in-held q root'' repaired.built.shape repaired.built.held listed
 
           pub laid_again : IsLaidOut q root'' (shape_in q root'')
-          laid_again =
-              let L : Shape → Type 0 = λ s. IsLaidOut q root'' s in
-              subst L (sym shape_is) (record { held = repaired.built.held; listed = listed; ranked = IsRanked-balanced 1 repaired.built.shape repaired.built.balanced })
+          laid_again = IsLaidOut-held q root'' (record { held = repaired.built.held; listed = listed; ranked = IsRanked-balanced 1 repaired.built.shape repaired.built.balanced })
 
           pub list_moved : bare q ≡ with_entry_moved (bare c) x (put_on at.1 y)
           list_moved = bare_end ∙ bare_is
 
           moves : MovesBacks 15 (slots_of c) (slots_of q)
-          moves = MovesBacks-then 9 6 (slots_of c) (slots_of d) (slots_of q) out.backs (MovesBacks-then 1 5 (slots_of d) (slots_of n) (slots_of q) own_back repaired.backs)
+          moves = MovesBacks-then (slots_of c) (slots_of d) (slots_of q) 9 6 out.backs (MovesBacks-then (slots_of d) (slots_of n) (slots_of q) 1 5 own_back repaired.backs)
 
           -- the account of both steps
           module _ (accounts : (order : List ℕ) (slack : ℕ) (bud : IsNewLeaf (slots_of n) root' branch.side (number branch.parent) x order slack)
               → IsSpelledWithin (rank_in bud.built.shape) (slots_of q) root'' (beside branch.side (number branch.parent) x order) (potential bud.built.shape + 4)) where
-            account : IsSpelledWithin (rank_in (shape_in c root)) (slots_of q) root'' (beside branch.side (number branch.parent) x rest) (potential (shape_in c root) + 14)
+            account : IsSpelledWithin (rank_in (shape_in c root)) (slots_of q) root'' (beside branch.side (number branch.parent) x (rest out)) (potential (shape_in c root) + 14)
             unfolding new_leaf
             account =
                 both_accounts (shape_in c root) out.built.shape x out.account
-                (Holds-unique (slots_of d) None root' out.account.shape out.built.shape out.account.held out.built.held) (accounts rest 1 new_leaf)
-
-            times_left : (j : ℕ) → times j (walk account.shape) ≤ 1
-            times_left j =
-                let within = times-beside branch.side (number branch.parent) x j rest in ⊎_elim
-                (λ (same : j ≡ x). omega (arith, ap (times j) account.listed, within, ap (λ i. times i rest) same, rest_fresh, here-same x, ap (λ i. here i x) same))
-                (λ (other : j ≢ x). omega (arith, ap (times j) account.listed, within, here-other j x other, rest_once j)) (cases_eq j x)
-
-            rank_changes : ChangesRanksWithin 14 (shape_in c root) repaired.built.shape
-            rank_changes =
-                let R : Shape → Type 0 = λ s. ChangesRanksWithin 14 (shape_in c root) s in
-                subst R (Holds-unique (slots_of q) None root'' account.shape repaired.built.shape account.held repaired.built.held)
-                (ChangesRanksWithin-spelled 14 (shape_in c root) account (λ j inside. refl)
-                (λ j. omega (arith, out.once j, times-walk j (shape_in c root), ap (times j) laid.listed))
-                (λ j. omega (arith, times-walk j account.shape, times_left j)) laid.ranked)
+                (Holds-unique (slots_of d) None root' out.account.shape out.built.shape out.account.held out.built.held) (accounts (rest out) 1 new_leaf)
 
             pub rearranged : IsRearranged (shape_in c root) (shape_in q root'')
             rearranged =
-                let S : Shape → Type 0 = λ s. IsRearranged (shape_in c root) s in
-                subst S (sym shape_is) (record {
+                subst (λ (s : Shape). IsRearranged (shape_in c root) s) (sym shape_is) (record {
                   ranked = IsRanked-balanced 1 repaired.built.shape repaired.built.balanced;
                   moved = MovesAtMost-backs 15 (slots_of c) (slots_of q) root root'' (shape_in c root) repaired.built.shape laid.held repaired.built.held moves;
-                  rank_changes = rank_changes;
+                  rank_changes = ChangesRanksWithin-spelled 14 (shape_in c root) repaired.built.shape laid.listed out.once laid.ranked repaired.built.held
+                      (IsOnce-beside branch.side (number branch.parent) x (rest out) (rest_once out) (rest_fresh out)) (λ j inside. refl) account;
                 })

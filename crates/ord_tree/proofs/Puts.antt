@@ -1,21 +1,13 @@
 -- A new entry in a list of entries: lookups by index, the indexes, the items.
 use Rattle.std.proofs.Common.{arith, ◌≡◌, ◌≢◌, ℕ, Some, List, [], ◌∷◌, ◌∙◌, map, refl, sym, ap, is_some, true}
 use Rattle.std.proofs.lemmas.Grind.{common_steps}
-use Rattle.chain_base.specs.Chain.{Entry, entry_at, times as entry_times, insert_after, insert_before}
+use Rattle.chain_base.specs.Chain.{Entry, entry_at, times as entry_times}
 use Rattle.chain_base.proofs.CallerLemmas.{entry_at-between, entry_at-between_other, Parted, insert_after-between, insert_before-between}
 use Rattle.ord_tree.specs.declared.tree_links.Side.TheVariants.{Lesser, Greater}
 use Rattle.ord_tree.specs.{declared.node.SimpleOrdArenaNode.SimpleOrdArenaNode as Node, Node.indexes, Node.bare_entry, declared.tree_links.Side.Side}
 use Rattle.ord_tree.specs.{Leaf.beside, Tree.put_on}
 
 module _ {T : Type 0} where
-  after-indexes : (es : List (Entry T)) (i : ℕ) (new : Entry T) → indexes (insert_after i new es) ≡ beside Greater i new.index (indexes es)
-  after-indexes [] i new = refl
-  after-indexes (a ∷ es) i new = grind (arith, common_steps, after-indexes es i new)
-
-  before-indexes : (es : List (Entry T)) (i : ℕ) (new : Entry T) → indexes (insert_before i new es) ≡ beside Lesser i new.index (indexes es)
-  before-indexes [] i new = refl
-  before-indexes (a ∷ es) i new = grind (arith, common_steps, before-indexes es i new)
-
   -- on either side, the entry is between two parts of the list
   put-between : (side : Side) (es : List (Entry T)) (i : ℕ) → is_some (entry_at es i) ≡ true → Parted es (put_on side i es)
   put-between Lesser es i there = insert_before-between es i there
@@ -32,21 +24,15 @@ module _ {T : Type 0} where
     put-other j other = ap (λ xs. entry_at xs j) (parted.3 new) ∙ entry_at-between_other parted.0 new parted.1 j other ∙ ap (λ xs. entry_at xs j) (sym parted.2)
 
   pub put-indexes : (side : Side) (es : List (Entry T)) (i : ℕ) (new : Entry T) → indexes (put_on side i es new) ≡ beside side i new.index (indexes es)
-  put-indexes Lesser es i new = before-indexes es i new
-  put-indexes Greater es i new = after-indexes es i new
+  put-indexes Lesser [] i new = refl
+  put-indexes Greater [] i new = refl
+  put-indexes Lesser (a ∷ es) i new = grind (arith, common_steps, put-indexes Lesser es i new)
+  put-indexes Greater (a ∷ es) i new = grind (arith, common_steps, put-indexes Greater es i new)
 
 module _ {P T I G : Type 0} where
-  after-bare : (es : List (Entry (Node P T I G))) (i : ℕ) (new : Entry (Node P T I G))
-      → map bare_entry (insert_after i new es) ≡ insert_after i (bare_entry new) (map bare_entry es)
-  after-bare [] i new = refl
-  after-bare (a ∷ es) i new = grind (arith, common_steps, after-bare es i new)
-
-  before-bare : (es : List (Entry (Node P T I G))) (i : ℕ) (new : Entry (Node P T I G))
-      → map bare_entry (insert_before i new es) ≡ insert_before i (bare_entry new) (map bare_entry es)
-  before-bare [] i new = refl
-  before-bare (a ∷ es) i new = grind (arith, common_steps, before-bare es i new)
-
   pub put-bare : (side : Side) (es : List (Entry (Node P T I G))) (i : ℕ) (new : Entry (Node P T I G))
       → map bare_entry (put_on side i es new) ≡ put_on side i (map bare_entry es) (bare_entry new)
-  put-bare Lesser es i new = before-bare es i new
-  put-bare Greater es i new = after-bare es i new
+  put-bare Lesser [] i new = refl
+  put-bare Greater [] i new = refl
+  put-bare Lesser (a ∷ es) i new = grind (arith, common_steps, put-bare Lesser es i new)
+  put-bare Greater (a ∷ es) i new = grind (arith, common_steps, put-bare Greater es i new)

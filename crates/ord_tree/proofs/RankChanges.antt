@@ -1,12 +1,12 @@
 -- Ranks by index, and lists of indexes whose rank changes.
-use Rattle.std.proofs.Common.{◌≡◌, ◌≢◌, ℕ, zero, suc, ◌+◌, ◌<◌, ◌≤◌, ◌⊎◌, Option, Some, List, [], ◌∷◌, ◌++◌, length, arith, refl, sym, ◌∙◌, ap, inl, inr, ⊎_elim}
-use Rattle.std.proofs.{lemmas.Grind.common_steps, lemmas.Bool.eq-eqb, lemmas.Bool.ne_eqb}
+use Rattle.std.proofs.Common.{◌≡◌, ◌≢◌, ℕ, zero, suc, ◌+◌, ◌<◌, ◌≤◌, ◌⊎◌, Option, Some, None, List, [], ◌∷◌, ◌++◌, length, length-append, arith, refl, sym, ◌∙◌, ap, subst, inl, inr, ⊎_elim}
+use Rattle.std.proofs.{lemmas.Grind.common_steps, lemmas.Bool.cases_eq, lemmas.Bool.eq-eqb, lemmas.Bool.ne_eqb}
 use Rattle.ord_tree.specs.declared.tree_links.Side.TheVariants.{Lesser, Greater}
-use Rattle.ord_tree.specs.Slots.{Way, top, up, plug, here, times_in, times_way, Among}
-use Rattle.ord_tree.proofs.{Forks.here-same, Views.Contains-among}
+use Rattle.ord_tree.specs.Slots.{Holds, Way, top, up, plug, here, times, times_in, times_way, IsOnce, Among}
+use Rattle.ord_tree.proofs.{Forks.here-same, Forks.times-walk, Views.Holds-unique, Views.Contains-among, Views.Among-before, Views.Among-behind}
 use Rattle.ord_tree.specs.{Potential.potential, Ranks.HasRank, Potential.ChangesRanksWithin, Ranks.IsRanked, Account.IsSpelledWithin, Slots.Slots}
-use Rattle.ord_tree.specs.{Shape.Shape, Shape.missing, Shape.node, Shape.fork, Shape.root_of, Shape.rank_of, declared.tree_links.Side.Side}
-use Rattle.ord_tree.specs.Account.{rank_here, rank_in, rank_way, NamesChanges, pending_change}
+use Rattle.ord_tree.specs.{Shape.Shape, Shape.missing, Shape.node, Shape.fork, Shape.root_of, Shape.rank_of, Shape.walk, declared.tree_links.Side.Side}
+use Rattle.ord_tree.specs.Account.{rank_here, rank_in, rank_way, NamesChanges, pending_change, rising_ranks, fallen_ranks, IsRisingWithin, IsFallenWithin, IsDemotedWithin}
 
 pub rank_here-same : (i k : ℕ) → rank_here i i k ≡ k
 rank_here-same i k = rw (eq-eqb i i refl) refl
@@ -47,21 +47,64 @@ pub rank_in-plug : (j : ℕ) (way : Way) (s : Shape) → rank_in (plug way s) j 
 rank_in-plug j top s = omega arith
 rank_in-plug j (up side i k far rest) s = omega (arith, rank_in-plug j rest (fork side s i k far), rank_in-fork j side s far i k)
 
--- appended lists
-pub Among-before : (xs ys : List ℕ) (j : ℕ) → Among j xs → Among j (xs ++ ys)
-Among-before [] ys j h = elim h [ ]
-Among-before (x ∷ xs) ys j h = ⊎_elim (λ e. inl e) (λ rest. inr (Among-before xs ys j rest)) h
-
-Among-behind : (xs ys : List ℕ) (j : ℕ) → Among j ys → Among j (xs ++ ys)
-Among-behind [] ys j h = h
-Among-behind (x ∷ xs) ys j h = inr (Among-behind xs ys j h)
-
 pub NamesChanges-joined : (xs ys : List ℕ) (f g h : ℕ → ℕ) → NamesChanges xs f g → NamesChanges ys g h → NamesChanges (xs ++ ys) f h
 NamesChanges-joined xs ys f g h p q j =
     ⊎_elim (λ in_xs. inl (Among-before xs ys j in_xs))
     (⊎_elim (λ none. inr (inl none))
     (λ (same : f j ≡ g j). ⊎_elim (λ in_ys. inl (Among-behind xs ys j in_ys))
     (⊎_elim (λ (none : g j ≡ 0). inr (inl (same ∙ none))) (λ (same' : g j ≡ h j). inr (inr (same ∙ same')))) (q j))) (p j)
+
+pub NamesChanges-same : (named : List ℕ) (was f g : ℕ → ℕ) → ((j : ℕ) → f j ≡ g j) → NamesChanges named was f → NamesChanges named was g
+NamesChanges-same named was f g same names j = subst (λ (k : ℕ). Among j named ⊎ (was j ≡ 0) ⊎ (was j ≡ k)) (same j) (names j)
+
+-- a change, and then a state with its account: the credit pays for both
+module _ {was is : ℕ → ℕ} (named : List ℕ) (names : NamesChanges named was is) {at : Slots} {root : Option ℕ} {order : List ℕ} {spent total : ℕ} (enough : length named + spent ≤ total) where
+  pub IsSpelledWithin-before : IsSpelledWithin is at root order spent → IsSpelledWithin was at root order total
+  IsSpelledWithin-before paid = record {
+    shape = paid.shape;
+    held = paid.held;
+    listed = paid.listed;
+    named = named ++ paid.named;
+    within = omega (arith, enough, paid.within, length-append named paid.named);
+    names = NamesChanges-joined named paid.named was is (rank_in paid.shape) names paid.names;
+  }
+
+  pub IsRisingWithin-before : {z slack : ℕ} → IsRisingWithin is at root z order slack spent → IsRisingWithin was at root z order slack total
+  IsRisingWithin-before next = record {
+    rising = next.rising;
+    named = named ++ next.named;
+    within = omega (arith, enough, next.within, length-append named next.named);
+    names = NamesChanges-joined named next.named was is (rising_ranks next.rising) names next.names;
+  }
+
+  pub IsFallenWithin-before : {z : ℕ} {side : Side} → IsFallenWithin is at root z side order spent → IsFallenWithin was at root z side order total
+  IsFallenWithin-before next = record {
+    fallen = next.fallen;
+    named = named ++ next.named;
+    within = omega (arith, enough, next.within, length-append named next.named);
+    names = NamesChanges-joined named next.named was is (fallen_ranks next.fallen) names next.names;
+  }
+
+  pub IsDemotedWithin-before : {y : ℕ} → IsDemotedWithin is at root y order spent → IsDemotedWithin was at root y order total
+  IsDemotedWithin-before l = record {
+    demoted = l.demoted;
+    named = named ++ l.named;
+    within = omega (arith, enough, l.within, length-append named l.named);
+    names = NamesChanges-joined named l.named was is (λ j. rank_way l.demoted.way j + rank_in l.demoted.shape j) names l.names;
+  }
+
+-- for an index apart from all of these, A is true
+abbrev pub Apart : List ℕ → ℕ → Type 0 → Type 0
+Apart [] j A = A
+Apart (i ∷ is) j A = j ≢ i → Apart is j A
+
+-- no other rank changes
+pub names_but : (named : List ℕ) (was is : ℕ → ℕ) → ((j : ℕ) → Apart named j (was j ≡ is j)) → NamesChanges named was is
+names_but named was is same j = go named (same j)
+  where
+    go : (xs : List ℕ) → Apart xs j (was j ≡ is j) → Among j xs ⊎ (was j ≡ 0) ⊎ (was j ≡ is j)
+    go [] e = inr (inr e)
+    go (x ∷ xs) f = ⊎_elim (λ (e : j ≡ x). inl (inl e)) (λ (other : j ≢ x). ⊎_elim (λ rest. inl (inr rest)) (λ stays. inr stays) (go xs (f other))) (cases_eq j x)
 
 -- y is pending, or new
 pub pending_or_new : (y low : ℕ) → Among y (pending_change y low) ⊎ (low ≡ 0)
@@ -101,15 +144,17 @@ rank-positive missing i k ranked h = elim h [ ]
 rank-positive (node l j m r) i k ranked h =
     ⊎_elim (λ (at : (i ≡ j) × (k ≡ m)). omega (arith, at.1, ranked.0.lesser)) (⊎_elim (rank-positive l i k ranked.1) (rank-positive r i k ranked.2)) h
 
--- the account of a change, in terms of the shapes; `was` has the ranks of the indexes that stay
-pub ChangesRanksWithin-spelled : (m : ℕ) (s : Shape) {was : ℕ → ℕ} {at : Slots} {root : Option ℕ} {order : List ℕ} (paid : IsSpelledWithin was at root order (potential s + m))
-    → ((j : ℕ) → 0 < times_in j paid.shape → was j ≡ rank_in s j) → ((j : ℕ) → times_in j s ≤ 1) → ((j : ℕ) → times_in j paid.shape ≤ 1) → IsRanked s → ChangesRanksWithin m s paid.shape
-ChangesRanksWithin-spelled m s {was} paid stays once once' ranked = (
-  paid.named,
-  paid.within,
-  λ i k l before after.
-      let same = stays i (standing paid.shape i l after) ∙ rank_in-standing s i k (once i) before in
-      ⊎_elim (λ among. inl (Contains-among i paid.named among))
-      (⊎_elim (λ (none : was i ≡ 0). absurd (omega (arith, none, same, rank-positive s i k ranked before)))
-      (λ (e : was i ≡ rank_in paid.shape i). inr (sym same ∙ e ∙ rank_in-standing paid.shape i l (once' i) after))) (paid.names i),
-)
+-- the account of a change, in terms of the shapes s before it and t after it; `was` has the ranks of the indexes that stay
+module _ (m : ℕ) (s t : Shape) {was : ℕ → ℕ} {at : Slots} {root : Option ℕ} {before order : List ℕ} (listed : walk s ≡ before) (once : IsOnce before) (ranked : IsRanked s)
+    (held : Holds at None root t) (once' : IsOnce order) (stays : (j : ℕ) → 0 < times j order → was j ≡ rank_in s j) where
+  pub ChangesRanksWithin-spelled : IsSpelledWithin was at root order (potential s + m) → ChangesRanksWithin m s t
+  ChangesRanksWithin-spelled paid = subst (λ (t : Shape). ChangesRanksWithin m s t) (Holds-unique at None root paid.shape t paid.held held) (
+    paid.named,
+    paid.within,
+    λ i k l was_k is_l.
+        let count : times i order ≡ times_in i paid.shape = ap (times i) (sym paid.listed) ∙ times-walk i paid.shape in
+        let same = stays i (omega (arith, count, standing paid.shape i l is_l)) ∙ rank_in-standing s i k (omega (arith, once i, ap (times i) listed, times-walk i s)) was_k in
+        ⊎_elim (λ among. inl (Contains-among i paid.named among))
+        (⊎_elim (λ (none : was i ≡ 0). absurd (omega (arith, none, same, rank-positive s i k ranked was_k)))
+        (λ (e : was i ≡ rank_in paid.shape i). inr (sym same ∙ e ∙ rank_in-standing paid.shape i l (omega (arith, once' i, count)) is_l))) (paid.names i),
+  )

@@ -1,10 +1,11 @@
 -- The steps of a rebuild: opening a run, meeting an entry, ending a run.
-use Rattle.std.proofs.Common.{◌≡◌, ◌≢◌, ℕ, zero, suc, ◌+◌, ◌-◌, ◌*◌, ◌/◌, ◌^◌, ◌<◌, ◌≤◌, inr, ⊎_elim, Option, Some, None, List, [], ◌∷◌, ◌++◌, length, length-append, append_assoc, arith, refl, sym, ◌∙◌, ap, subst, is_some, true, slice_get, option_map}
+use Rattle.std.proofs.Common.{◌≡◌, ℕ, zero, suc, ◌+◌, ◌-◌, ◌*◌, ◌/◌, ◌^◌, ◌<◌, ◌≤◌, inr, ⊎_elim, Option, Some, None, List, [], ◌∷◌, ◌++◌, length, length-append, append_assoc, arith, refl, sym, ◌∙◌, ap, subst, is_some, true, slice_get, option_map}
 use Rattle.std.proofs.{Math.Nat.mul-le-mul_right, Math.Nat.one-le-pow, Math.Nat.pow-suc, Math.Nat.two-pow-succ, lemmas.Grind.common_steps}
 use Rattle.std.proofs.{lemmas.Bool.cases_lt, lemmas.Bool.eq-eqb, lemmas.Nat.leading_length, lemmas.Option.none-some, lemmas.List.append-nil, Math.Pow.pow_mono}
 use Rattle.std.specs.Int.Count.{count_leading_zeros}
 use Rattle.ord_tree.specs.Rebuild.{ahead, IsFacing, IsFew, IsPlan, IsMiddle, IsStack, IsUnopened, IsFinished, IsWaiting, IsOpening, IsPassing}
-use Rattle.ord_tree.specs.Slots.{Slots, Holds, Way, top, up, plug, here, times, times_in, times_way, IsOnce}
+use Rattle.chain_base.specs.Chain.{Chain}
+use Rattle.ord_tree.specs.Slots.{Slots, Holds, Way, top, up, plug, here, times, times_in, times_way, IsOnce, Writes, Hangs}
 use Rattle.ord_tree.specs.{declared.tree_links.Side.TheVariants.Lesser, declared.tree_links.Side.TheVariants.Greater, Numbers.IsTop}
 use Rattle.ord_tree.specs.{Shape.Shape, Shape.missing, Shape.node, Shape.fork, Shape.size_of, Shape.walk, Leaf.list_head, Leaf.following}
 use Rattle.ord_tree.specs.{Half.half_rank, Half.IsHalf, Half.IsRebuilt, declared.tree_links.TreeLinks.TreeLinks}
@@ -49,8 +50,7 @@ below_power k l n d p s g =
 -- so a path to a node of the plan has fewer steps than the size of the plan has digits
 few-steps : {at : Slots} {q : ℕ} {s : Shape} (way : Way) (t : Shape) → IsPlan at q s → plug way t ≡ s → 0 < size_of t → (d : ℕ) → size_of s < 2 ^ d → depth way < d
 few-steps {at} {q} {s} way t plan whole some d below =
-    let P : Shape → Type 0 = λ s. IsHalf q s in
-    below_power (depth way) (size_of t) (size_of s) d some below (omega (arith, size-plug way t q (subst P (sym whole) plan.half), ap size_of whole))
+    below_power (depth way) (size_of t) (size_of s) d some below (omega (arith, size-plug way t q (rw (← whole) at plan.half), ap size_of whole))
 
 size-fork-some : (side : Side) (near far : Shape) (i k : ℕ) → 0 < size_of (fork side near i k far)
 size-fork-some Lesser near far i k = omega arith
@@ -114,6 +114,23 @@ module _ where
     IsStack-frame (up side i k far rest) n frames same h =
         (h.0, h.1, h.2, IsMiddle-frame i k far h.1.middle (λ j inside. same j (omega arith)) side h.3, h.4, IsStack-frame rest (n + 1 + size_of far) h.0 (λ j inside. same j (omega arith)) h.5)
 
+  -- a finished shape is hung under m, after a write of m
+  module _ {T : Type 0} {first second third : Chain T} {at written new : Slots} {m : ℕ} {change : TreeLinks ℕ → TreeLinks ℕ} {link : Option ℕ}
+      (write : Writes m change at written first second) (hung : Hangs link (Some m) written new second third) (s : Shape) (held : Holds at None link s)
+      (alone : (j : ℕ) → here j m + times_in j s ≤ 1) where
+    pub hung-stays : (j : ℕ) → here j m + times_in j s ≡ 0 → new j ≡ at j
+    hung-stays j out =
+        hung.elsewhere j (λ e. omega (arith, root-in s j (sym (link-root at None link s held) ∙ e)))
+        ∙ write.elsewhere j (λ e. let one = ap (here j) e in omega (arith, here-same j))
+
+    pub hung-written : (n : TreeLinks ℕ) → at m ≡ Some n → new m ≡ Some (change n)
+    hung-written n e = hung.elsewhere m (λ e. omega (arith, alone m, here-same m, root-in s m (sym (link-root at None link s held) ∙ e))) ∙ write.here n e
+
+    pub Holds-hung : Holds new (Some m) link s
+    Holds-hung =
+        Holds-rehung written new None (Some m) link hung.here s (λ j other inside. hung.elsewhere j other) (λ j. omega (arith, alone j))
+        (Holds-frame at written s None link (λ j inside. write.elsewhere j (apart-from m j (λ j. times_in j s) (omega (arith, alone m, here-same m)) inside)) held)
+
   pub sizeless : (s : Shape) → size_of s ≡ 0 → s ≡ missing
   sizeless missing none = refl
   sizeless (node l i k r) none = absurd (omega arith)
@@ -134,8 +151,7 @@ module _ where
               let whole = rw is at u.whole in
               let stack = rw is at u.stack in
               let size = rw is at u.size in
-              let P : Shape → Type 0 = λ s. IsHalf q s in
-              let half = IsHalf-plug u.way (node l i k r) q (q - depth u.way) refl (subst P (sym whole) plan.half) in (
+              let half = IsHalf-plug u.way (node l i k r) q (q - depth u.way) refl (rw (← whole) at plan.half) in (
                 omega (arith, length-stack at u.way (size_of (node l i k r)) frames stack, few-steps u.way (node l i k r) plan whole (omega arith) 64 plan.few),
                 record {
                   unopened = record {
@@ -183,15 +199,13 @@ module _ where
             let same = snoc-same stack.0 below stack.1 f (sym stack.2 ∙ e) in
             let first : i ≡ x = cc in
             let tail : walk far ++ ahead rest ≡ todo = cc in
-            let P : ℕ → Type 0 = λ i. plug rest (node done i k far) ≡ s in
-            let Q : List Frame → Type 0 = λ frames. IsStack at rest (size_of done + 1 + size_of far) frames in
             record {
               rest = rest;
               l = done;
               k = k;
               r = far;
-              whole = subst P first whole;
-              stack = subst Q same.0 stack.5;
+              whole = rw first at whole;
+              stack = rw same.0 at stack.5;
               len = ap (λ (f : Frame). f.len) (sym same.1) ∙ stack.4;
               held = held;
               todo_is = tail;
@@ -214,21 +228,13 @@ module _ where
     alone = apart next.rest (node next.l x next.k next.r) plan next.whole
 
     half : IsHalf (q - depth next.rest) (node next.l x next.k next.r)
-    half = let P : Shape → Type 0 = λ s. IsHalf q s in IsHalf-plug next.rest (node next.l x next.k next.r) q (q - depth next.rest) refl (subst P (sym next.whole) plan.half)
-
-    in_l : (j : ℕ) → link ≡ Some j → 0 < times_in j next.l
-    in_l j e = root-in next.l j (sym (link-root at None link next.l next.held) ∙ e)
+    half = IsHalf-plug next.rest (node next.l x next.k next.r) q (q - depth next.rest) refl (rw (← next.whole) at plan.half)
 
     -- the entry is met
-    module _ (written new : Slots) (rank : ℕ) (rank_is : rank ≡ half_rank f.len (q - length below))
-        (here_is : (n : TreeLinks ℕ) → at x ≡ Some n → written x ≡ Some (record { back = None; lesser = link; greater = None; rank = rank })) (but_x : (j : ℕ) → j ≢ x → written j ≡ at j)
-        (hung : (i : ℕ) (n : TreeLinks ℕ) → link ≡ Some i → written i ≡ Some n → new i ≡ Some (record n { back = Some x }))
-        (but_hung : (j : ℕ) → link ≢ Some j → new j ≡ written j) where
-      not_x : (j : ℕ) → 0 < times_way j next.rest + times_in j next.l → j ≢ x
-      not_x j some = apart-from x j (λ j. times_way j next.rest + times_in j next.l) (omega (arith, alone x, here-same x)) some
-
-      not_hung : (j : ℕ) → times_in j next.l ≡ 0 → link ≢ Some j
-      not_hung j none e = omega (arith, in_l j e)
+    module _ {T : Type 0} {first second third : Chain T} {written new : Slots} {rank : ℕ} (rank_is : rank ≡ half_rank f.len (q - length below))
+        (write : Writes x (λ _. record { back = None; lesser = link; greater = None; rank = rank }) at written first second) (hung : Hangs link (Some x) written new second third) where
+      alone_l : (j : ℕ) → here j x + times_in j next.l ≤ 1
+      alone_l j = omega (arith, alone j)
 
       abbrev pub met_frame : Frame
       met_frame = record { len = f.len; middle = Some x }
@@ -239,11 +245,10 @@ module _ where
           rank_is ∙ ap (λ n. half_rank n (q - length below)) next.len ∙ ap (λ d. half_rank (size_of next.l + 1 + size_of next.r) (q - d)) steps ∙ sym half.1
 
       pub bare-met : new x ≡ Some (record { back = None; lesser = link; greater = None; rank = rank })
-      bare-met = let was = some_in (at x) next-there in but_hung x (not_hung x (omega (arith, alone x, here-same x))) ∙ here_is was.0 was.1
+      bare-met = let was = some_in (at x) next-there in hung-written write hung next.l next.held alone_l was.0 was.1
 
       pub IsUnopened-met : IsUnopened new (below ++ met_frame ∷ []) s (f.len - f.len / 2 - 1) todo
       IsUnopened-met =
-          let P : ℕ → Type 0 = λ n. IsStack new next.rest n below in
           let turned : size_of next.l + 1 + size_of next.r ≡ size_of next.r + 1 + size_of next.l = omega arith in
           record {
             way = up Greater x next.k next.l next.rest;
@@ -259,11 +264,10 @@ module _ where
                 bare-met,
                 refl,
                 rank_met,
-                Holds-rehung written new None (Some x) link hung next.l (λ j other inside. but_hung j other) (λ j. omega (arith, alone j))
-                    (Holds-frame at written next.l None link (λ j inside. but_x j (not_x j (omega arith))) next.held),
+                Holds-hung write hung next.l next.held alone_l,
               ),
               omega (arith, next.len),
-              subst P turned (IsStack-frame at new next.rest (size_of next.l + 1 + size_of next.r) below (λ j inside. but_hung j (not_hung j (omega (arith, alone j))) ∙ but_x j (not_x j (omega arith))) next.stack),
+              rw turned at (IsStack-frame at new next.rest (size_of next.l + 1 + size_of next.r) below (λ j inside. hung-stays write hung next.l next.held alone_l j (omega (arith, alone j))) next.stack),
             );
             size = omega (arith, next.len, half.0);
             todo_is = next.todo_is;
@@ -308,18 +312,15 @@ module _ where
             let same = snoc-same stack.0 below stack.1 f (sym stack.2 ∙ e) in
             let some : f.middle ≡ Some i = ap (λ (f : Frame). f.middle) (sym same.1) ∙ stack.3.0 in
             let is_m : i ≡ m = cc in
-            let P : List Frame → Type 0 = λ frames. IsStack at rest (size_of done + 1 + size_of far) frames in
-            let Q : ℕ → Type 0 = λ n. IsStack at rest n below in
             let turned : size_of done + 1 + size_of far ≡ size_of far + 1 + size_of done = omega arith in
-            let E : ℕ → Type 0 = λ m. IsEnding below m in
-            subst E is_m (record {
+            subst (λ (m : ℕ). IsEnding below m) is_m (record {
               rest = rest;
               l = far;
               k = k;
               r = done;
               n = stack.3.1;
               whole = whole;
-              stack = subst Q turned (subst P same.0 stack.5);
+              stack = rw (same.0, turned) at stack.5;
               found = stack.3.2;
               back = stack.3.3;
               rank = stack.3.4;
@@ -338,49 +339,51 @@ module _ where
       pub ending-link-there : (i : ℕ) → link ≡ Some i → is_some (at i) ≡ true
       ending-link-there i e = occupied-link at None link ending.r i ending.greater e
 
-      module _ (written new : Slots) (here_is : (n : TreeLinks ℕ) → at m ≡ Some n → written m ≡ Some (record n { greater = link })) (but_m : (j : ℕ) → j ≢ m → written j ≡ at j)
-          (hung : (i : ℕ) (n : TreeLinks ℕ) → link ≡ Some i → written i ≡ Some n → new i ≡ Some (record n { back = Some m }))
-          (but_hung : (j : ℕ) → link ≢ Some j → new j ≡ written j) where
-        not_m : (j : ℕ) → 0 < times_way j ending.rest + times_in j ending.l + times_in j ending.r → j ≢ m
-        not_m j some = apart-from m j (λ j. times_way j ending.rest + times_in j ending.l + times_in j ending.r) (omega (arith, alone-ending m, here-same m)) some
-
-        in_r : (j : ℕ) → link ≡ Some j → 0 < times_in j ending.r
-        in_r j e = root-in ending.r j (sym (link-root at None link ending.r ending.greater) ∙ e)
-
-        not_link : (j : ℕ) → times_in j ending.r ≡ 0 → link ≢ Some j
-        not_link j none e = omega (arith, in_r j e)
-
-        kept : (j : ℕ) → 0 < times_way j ending.rest + times_in j ending.l → new j ≡ at j
-        kept j inside = but_hung j (not_link j (omega (arith, alone-ending j))) ∙ but_m j (not_m j (omega arith))
-
+      module _ {new : Slots} (found : new m ≡ Some (record (ending.n) { greater = link })) (stays : (j : ℕ) → 0 < times_way j ending.rest + times_in j ending.l → new j ≡ at j)
+          (held : Holds new (Some m) link ending.r) where
         pub IsFinished-ended : IsFinished new below s (Some m) todo
         IsFinished-ended = record {
           way = ending.rest;
           done = node ending.l m ending.k ending.r;
           whole = ending.whole;
-          stack = IsStack-frame at new ending.rest (size_of ending.l + 1 + size_of ending.r) below (λ j inside. kept j (omega arith)) ending.stack;
+          stack = IsStack-frame at new ending.rest (size_of ending.l + 1 + size_of ending.r) below (λ j inside. stays j (omega arith)) ending.stack;
           held = (
             record (ending.n) { greater = link },
             refl,
-            but_hung m (not_link m (omega (arith, alone-ending m, here-same m))) ∙ here_is ending.n ending.found,
+            found,
             ending.back,
             ending.rank,
-            Holds-frame at new ending.l (Some m) ending.n.lesser (λ j inside. kept j (omega arith)) ending.lesser,
-            Holds-rehung written new None (Some m) link hung ending.r (λ j other inside. but_hung j other) (λ j. omega (arith, alone-ending j))
-                (Holds-frame at written ending.r None link (λ j inside. but_m j (not_m j (omega arith))) ending.greater),
+            Holds-frame at new ending.l (Some m) ending.n.lesser (λ j inside. stays j (omega arith)) ending.lesser,
+            held,
           );
           todo_is = ending.todo_is;
         }
+
+      -- by two writes
+      module _ {T : Type 0} {first second third : Chain T} {written new : Slots} (write : Writes m (λ n. record n { greater = link }) at written first second)
+          (hung : Hangs link (Some m) written new second third) where
+        alone_r : (j : ℕ) → here j m + times_in j ending.r ≤ 1
+        alone_r j = omega (arith, alone-ending j)
+
+        pub IsFinished-written : IsFinished new below s (Some m) todo
+        IsFinished-written =
+            IsFinished-ended (hung-written write hung ending.r ending.greater alone_r ending.n ending.found)
+            (λ j inside. hung-stays write hung ending.r ending.greater alone_r j (omega (arith, alone-ending j))) (Holds-hung write hung ending.r ending.greater alone_r)
 
 -- an entry that is met is finished, if it has no greater side
 module _ {at : Slots} {q : ℕ} {s : Shape} (plan : IsPlan at q s) {below : List Frame} (f : Frame) {x len : ℕ} {todo : List ℕ} (met : IsUnopened at (below ++ f ∷ []) s len todo) where
   pub IsFinished-met : f.middle ≡ Some x → option_map (λ (n : TreeLinks ℕ). n.greater) (at x) ≡ Some None → len ≡ 0 → IsFinished at below s (Some x) todo
   IsFinished-met middle bare none =
       let finished = IsFinished-empty plan met none in
-      let same : (n : TreeLinks ℕ) → at x ≡ Some n → at x ≡ Some (record n { greater = None }) = λ n is.
-      let none_there : n.greater ≡ None = grind (arith, is, bare) in
-      subst (λ (link : Option ℕ). at x ≡ Some (record n { greater = link })) none_there is in
-      IsFinished-ended plan finished (ending-run plan finished below f x refl middle) at at same (λ j other. refl) (λ i n e is. absurd (none-some i e)) (λ j other. refl)
+      let ending = ending-run plan finished below f x refl middle in
+      let found = ending.found in
+      let none_there : ending.n.greater ≡ None = grind (arith, found, bare) in
+      IsFinished-ended plan finished ending (subst (λ (link : Option ℕ). at x ≡ Some (record (ending.n) { greater = link })) none_there found) (λ j inside. refl)
+      (Holds-empty ending.r ending.greater)
+    where
+      Holds-empty : (t : Shape) → Holds at None None t → Holds at (Some x) None t
+      Holds-empty missing h = refl
+      Holds-empty (node l i k r) h = absurd (none-some i h.1)
 
 -- the plan stays if no node is removed
 pub IsPlan-kept : {old new : Slots} {q : ℕ} {s : Shape} → ((j : ℕ) → is_some (new j) ≡ is_some (old j)) → IsPlan old q s → IsPlan new q s
@@ -404,29 +407,22 @@ following-at z (x ∷ xs) back none = grind (arith, common_steps, following-at z
 
 -- a list to be rebuilt
 module _ (at : Slots) (order : List ℕ) (n top_rank : ℕ) (len : n ≡ length order) (fits : n < 2 ^ 64) (once : IsOnce order) (there : (j : ℕ) → 0 < times j order → is_some (at j) ≡ true) (top_is : IsTop n top_rank) where
-  abbrev pub planned : Shape
-  planned = (rebuilt_exists order).0
-
-  pub planned_walk : walk planned ≡ order
-  planned_walk = (rebuilt_exists order).1
-
-  planned_size : size_of planned ≡ n
-  planned_size = size_of-walk planned ∙ ap length planned_walk ∙ sym len
-
-  pub planned_rebuilt : IsRebuilt planned
-  planned_rebuilt = (rebuilt_exists order).2
-
-  pub plan_for : IsPlan at top_rank planned
-  plan_for =
-      let P : ℕ → Type 0 = λ m. IsTop m top_rank in
-      let same = IsTop-same (size_of planned) planned_rebuilt.0 top_rank planned_rebuilt.1 (subst P (sym planned_size) top_is) in
-      let Q : ℕ → Type 0 = λ q. IsHalf q planned in
-      record {
-        half = subst Q same planned_rebuilt.2;
-        few = omega (arith, planned_size);
-        once = λ j. omega (arith, once j, times-walk j planned, ap (times j) planned_walk);
-        there = λ j some. there j (omega (arith, some, times-walk j planned, ap (times j) planned_walk));
-      }
+  pub planned : (s : Shape) × (walk s ≡ order) × IsRebuilt s × IsPlan at top_rank s
+  planned =
+      let r = rebuilt_exists order in
+      let size : size_of r.0 ≡ n = size_of-walk r.0 ∙ ap length r.1 ∙ sym len in
+      let same = IsTop-same (size_of r.0) r.2.0 top_rank r.2.1 (rw (← size) at top_is) in
+      let count = λ (j : ℕ). sym (times-walk j r.0) ∙ ap (times j) r.1 in (
+        r.0,
+        r.1,
+        r.2,
+        record {
+          half = rw same at r.2.2;
+          few = omega (arith, size);
+          once = λ j. omega (arith, once j, count j);
+          there = λ j some. there j (omega (arith, some, count j));
+        },
+      )
 
 module _ {at : Slots} {s : Shape} {order : List ℕ} where
   -- at the start no run is open
@@ -452,9 +448,7 @@ module _ {at : Slots} {s : Shape} {order : List ℕ} where
         go [] split ready h = absurd cc
         go (y ∷ rest) split ready h =
             let same : y ≡ x = cc in
-            let P : ℕ → Type 0 = λ y. order ≡ passing.met ++ y ∷ rest in
-            let Q : ℕ → Type 0 = λ y. IsWaiting at frames s link (y ∷ rest) in
-            record { rest = rest; split = subst P same split; ready = subst Q same ready }
+            record { rest = rest; split = rw same at split; ready = rw same at ready }
 
     pub target-there : {q x : ℕ} → IsPlan at q s → walk s ≡ order → IsTarget x → is_some (at x) ≡ true
     target-there {q} {x} plan walked is =
@@ -476,7 +470,7 @@ module _ {at : Slots} {s : Shape} {order : List ℕ} where
         none (y ∷ rest) split = absurd (omega (arith, passing.count, ap length split, length-append passing.met (y ∷ rest)))
 
         go : (way : Way) → IsFacing way → plug way passing.ready.finished.done ≡ s → ahead way ≡ [] → Holds at None link passing.ready.finished.done → Holds at None link s
-        go top facing whole e held = let P : Shape → Type 0 = λ s. Holds at None link s in subst P whole held
+        go top facing whole e held = rw whole at held
         go (up Lesser i k far rest) facing whole e held = absurd cc
         go (up Greater i k far rest) facing whole e held = absurd facing
 

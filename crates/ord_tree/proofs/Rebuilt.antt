@@ -9,7 +9,7 @@ use Rattle.ord_tree.specs.{declared.node.SimpleOrdArenaNode.SimpleOrdArenaNode a
 use Rattle.ord_tree.specs.Shape.{Shape, walk}
 use Rattle.chain_base.proofs.ArenaLemmas.{limit_of-below}
 use Rattle.ord_tree.proofs.LeafBranches.{is_some-mapped, times-indexes, within-occupied, IsOnce-distinct}
-use Rattle.ord_tree.proofs.{Trees.indexes-bare, Trees.shape_in-held, Halves.IsRanked-from_rebuilt}
+use Rattle.ord_tree.proofs.{Trees.indexes-bare, Trees.shape_in-held, Trees.IsLaidOut-held, Halves.IsRanked-from_rebuilt}
 
 -- an index above 0 has a number
 pub index-some : (n : ℕ) → 0 < n → is_some (index_number n) ≡ true
@@ -50,6 +50,4 @@ module _ {P T I G : Type 0} (c new : Chain (Node P T I G)) (kept : bare new ≡ 
   }
 
   pub rebuilt-shape_in : IsLaidOut new root (shape_in new root) × IsRebuilt (shape_in new root)
-  rebuilt-shape_in =
-      let P : Shape → Type 0 = λ s. IsLaidOut new root s × IsRebuilt s in
-      subst P (sym (shape_in-held new root r.0 laid_rebuilt.held laid_rebuilt.listed)) (laid_rebuilt, r.2)
+  rebuilt-shape_in = (IsLaidOut-held new root laid_rebuilt, subst (λ (s : Shape). IsRebuilt s) (sym (shape_in-held new root r.0 laid_rebuilt.held laid_rebuilt.listed)) r.2)

@@ -1,5 +1,5 @@
 -- What the code of a removal finds at each of its steps.
-use Rattle.std.proofs.Common.{◌≡◌, ℕ, ◌+◌, ◌≤◌, Option, Some, None, List, [], ◌∷◌, ◌++◌, map, arith, refl, sym, ◌∙◌, ap, subst, option_map, is_some, true, false, append_assoc, MatchOption}
+use Rattle.std.proofs.Common.{◌≡◌, ℕ, ◌+◌, ◌≤◌, Option, Some, None, List, [], ◌∷◌, ◌++◌, map, arith, refl, sym, ◌∙◌, ap, inr, option_map, is_some, true, false, append_assoc, MatchOption}
 use Rattle.std.proofs.lemmas.List.{map-append}
 use Rattle.std.specs.Option.{IsSomeAnd}
 use Rattle.ord_tree.specs.Slots.{Slots, Holds, Way, top, plug, above, HoldsWay, here, times}
@@ -10,10 +10,10 @@ use Rattle.ord_tree.specs.{declared.tree_links.Branch.Branch, declared.tree_link
 use Rattle.ord_tree.proofs.Displacing.{potential-renamed, potential_way-renamed, rank_here-renamed, rank_in-renamed, rank_way-renamed, names_stood, renamed_way, renamed-fork, renamed-plug, rank-renamed, IsBalanced-renamed, IsBalancedWay-renamed, walk-renamed, map-absent, plug_held}
 use Rattle.ord_tree.specs.Potential.{node_potential}
 use Rattle.ord_tree.specs.Account.{rank_in, leaf_reserve, ranks_without, fallen_ranks, IsSpelledWithin, IsFallenWithin}
-use Rattle.ord_tree.proofs.Neighbours.{BeforeIn, before_in, previous-neighbour, first-within}
+use Rattle.ord_tree.proofs.Neighbours.{NeighbourIn, neighbour_of, neighbour_is, first-within}
 use Rattle.ord_tree.proofs.Forks.{Holds-plug, HoldsFork-holds, here-same, times-append, times-walk}
 use Rattle.ord_tree.proofs.{Cutting.without-split, Cutting.times-without, Cutting.length-without, Spots.Spot, Spots.spot_in}
-use Rattle.ord_tree.proofs.{Demoting.BuiltOrFallen, Standing.stand_in-same, PromotionAccount.IsSpelledWithin-more}
+use Rattle.ord_tree.proofs.{Demoting.BuiltOrFallen, Demoting.PaidOrFallen, Standing.stand_in-same, RankChanges.IsSpelledWithin-before, RankChanges.IsFallenWithin-before}
 
 -- the second branch is the first with v in place of z
 abbrev pub IsRenamed : {I : Type 0} → (I → ℕ) → ℕ → ℕ → Option (Branch I) → Option (Branch I) → Type 0
@@ -34,11 +34,11 @@ module _ {old : Slots} {root : Option ℕ} {z : ℕ} {before : Option ℕ} {orde
   loose_z nz e none = record { built = can.built; within = can.within; bare = bare_z nz e none; once = can.once; few = can.few }
 
   module _ (nz : TreeLinks ℕ) (e : old z ≡ Some nz) (j : ℕ) (some : nz.lesser ≡ Some j) where
-    abbrev pub b : BeforeIn old z order
-    b = before_in old root can.built.shape order can.built.held can.built.listed z can.within nz e j some
+    abbrev pub b : NeighbourIn old Lesser z order
+    b = neighbour_of old root can.built.shape order can.built.held can.built.listed z can.within nz e Lesser j some
 
     pub v_is : before ≡ Some b.index
-    v_is = can.is_before ∙ previous-neighbour order b.front b.back b.index z can.once b.is
+    v_is = can.is_before ∙ (neighbour_is old Lesser z order can.once b).0
 
     module _ (v : ℕ) (is_v : before ≡ Some v) where
       pub same : b.index ≡ v
@@ -49,8 +49,7 @@ module _ {old : Slots} {root : Option ℕ} {z : ℕ} {before : Option ℕ} {orde
 
       abbrev pub loose_v : IsLoose old root v Greater order
       loose_v =
-          let P : ℕ → Type 0 = λ v. (n : TreeLinks ℕ) → old v ≡ Some n → n.greater ≡ None in
-          record { built = can.built; within = first-within order b.front b.back v z can.once listed; bare = subst P same b.bare; once = can.once; few = can.few }
+          record { built = can.built; within = first-within order b.front b.back v z can.once listed; bare = rw same at b.bare; once = can.once; few = can.few }
 
       counts : (i : ℕ) → times i b.front + (here i v + (here i z + times i b.back)) ≤ 1
       counts i = omega (arith, can.once i, ap (times i) listed, times-append i b.front (v ∷ z ∷ b.back))
@@ -111,7 +110,7 @@ module _ {old : Slots} {root : Option ℕ} {z : ℕ} {before : Option ℕ} {orde
             same_shape = renamed-plug z v f.way (fork side f.low y f.rank f.far) ∙ ap (plug way') (renamed-fork z v side f.low f.far y f.rank)
 
             whole : Holds new None root'' (plug way' fork')
-            whole = let P : Shape → Type 0 = λ s. Holds new None root'' s in subst P same_shape (held (plug f.way (fork side f.low y f.rank f.far)) (fallen_stands f))
+            whole = rw same_shape at (held (plug f.way (fork side f.low y f.rank f.far)) (fallen_stands f))
 
             parts : (link : Option ℕ) × HoldsWay new root'' way' link × Holds new (above way') link fork'
             parts = plug_held new root'' way' fork' whole
@@ -120,10 +119,10 @@ module _ {old : Slots} {root : Option ℕ} {z : ℕ} {before : Option ℕ} {orde
             link_is = (HoldsFork-holds new (above way') parts.0 side (renamed z v f.low) (renamed z v f.far) (stand_in z v y) f.rank parts.2).1
 
             pub way_stood : HoldsWay new root'' way' (Some (stand_in z v y))
-            way_stood = let W : Option ℕ → Type 0 = λ link. HoldsWay new root'' way' link in subst W link_is parts.1
+            way_stood = rw link_is at parts.1
 
             pub fork_stood : Holds new (above way') (Some (stand_in z v y)) fork'
-            fork_stood = let H : Option ℕ → Type 0 = λ link. Holds new (above way') link fork' in subst H link_is parts.2
+            fork_stood = rw link_is at parts.2
 
             pub listed_stood : walk (plug way' fork') ≡ without z order
             listed_stood = ap walk (sym same_shape) ∙ walk-renamed z v (plug f.way (fork side f.low y f.rank f.far)) ∙ ap (map (stand_in z v)) f.listed ∙ order_renamed
@@ -147,12 +146,6 @@ module _ {old : Slots} {root : Option ℕ} {z : ℕ} {before : Option ℕ} {orde
               once = λ i. omega (arith, times-without z i order, can.once i);
               few = omega (arith, length-without z order, can.few);
             }
-
-          fallen_renamed : (y y' : ℕ) (side side' : Side) → y' ≡ stand_in z v y → side' ≡ side → IsFallen mid root' y side (without v order) → IsFallen new root'' y' side' (without z order)
-          fallen_renamed y y' side side' is_y is_side f =
-              let P : ℕ → Type 0 = λ y. IsFallen new root'' y side' (without z order) in
-              let Q : Side → Type 0 = λ side. IsFallen new root'' (stand_in z v y) side (without z order) in
-              subst P (sym is_y) (subst Q (sym is_side) (fallen_stood f))
 
           -- and the account
           module _ (s : Shape) (credit : ℕ) where
@@ -194,17 +187,12 @@ module _ {old : Slots} {root : Option ℕ} {z : ℕ} {before : Option ℕ} {orde
                 }
 
             module _ {I : Type 0} (number : I → ℕ) (total : ℕ) (enough : credit + 1 ≤ total) where
-              pub displaced_paid : (cut branch : Option (Branch I)) → IsRenamed number z v cut branch
-                  → MatchOption cut (IsSpelledWithin (ranks_without v s) mid root' (without v order) credit) (λ b. IsFallenWithin (ranks_without v s) mid root' (number b.parent) b.side (without v order) credit)
-                  → MatchOption branch (IsSpelledWithin (ranks_without z s) new root'' (without z order) total)
-                  (λ b. IsFallenWithin (ranks_without z s) new root'' (number b.parent) b.side (without z order) total)
+              pub displaced_paid : (cut branch : Option (Branch I)) → IsRenamed number z v cut branch → PaidOrFallen number (ranks_without v s) mid root' (without v order) credit cut
+                  → PaidOrFallen number (ranks_without z s) new root'' (without z order) total branch
               displaced_paid None None is h = built_paid total enough h
               displaced_paid None (Some q) is h = absurd cc
               displaced_paid (Some p) None is h = elim is [ ]
-              displaced_paid (Some p) (Some q) is h =
-                  let P : ℕ → Type 0 = λ y. IsFallenWithin (ranks_without z s) new root'' y q.side (without z order) total in
-                  let Q : Side → Type 0 = λ side. IsFallenWithin (ranks_without z s) new root'' (stand_in z v (number p.parent)) side (without z order) total in
-                  subst P (sym is.0) (subst Q (sym is.1) (fallen_paid total enough (number p.parent) p.side h))
+              displaced_paid (Some p) (Some q) is h = rw (is.0, is.1) (fallen_paid total enough (number p.parent) p.side h)
 
           module _ {I : Type 0} (number : I → ℕ) where
             pub displaced : (cut branch : Option (Branch I)) → IsRenamed number z v cut branch → BuiltOrFallen number mid root' (without v order) cut
@@ -212,14 +200,13 @@ module _ {old : Slots} {root : Option ℕ} {z : ℕ} {before : Option ℕ} {orde
             displaced None None is h = built_renamed h
             displaced None (Some q) is h = absurd cc
             displaced (Some p) None is h = elim is [ ]
-            displaced (Some p) (Some q) is h = fallen_renamed (number p.parent) (number q.parent) p.side q.side is.0 is.1 h
+            displaced (Some p) (Some q) is h = rw (is.0, is.1) (fallen_stood h)
 
 -- more credit
 pub paid_more : {I : Type 0} (number : I → ℕ) (was : ℕ → ℕ) (at : Slots) (root : Option ℕ) (order : List ℕ) (c d : ℕ) → c ≤ d → (on : Option (Branch I))
-    → MatchOption on (IsSpelledWithin was at root order c) (λ b. IsFallenWithin was at root (number b.parent) b.side order c)
-    → MatchOption on (IsSpelledWithin was at root order d) (λ b. IsFallenWithin was at root (number b.parent) b.side order d)
-paid_more number was at root order c d more None paid = IsSpelledWithin-more was was at root order c d (λ j. refl) more paid
-paid_more number was at root order c d more (Some b) up = record { fallen = up.fallen; named = up.named; within = omega (arith, up.within); names = up.names }
+    → PaidOrFallen number was at root order c on → PaidOrFallen number was at root order d on
+paid_more number was at root order c d more None paid = IsSpelledWithin-before [] (λ j. inr (inr refl)) (omega arith) paid
+paid_more number was at root order c d more (Some b) up = IsFallenWithin-before [] (λ j. inr (inr refl)) (omega arith) up
 
 -- an empty link, with numbers for indexes
 pub mapped_none : {I : Type 0} (number : I → ℕ) (o : Option I) → is_some o ≡ false → option_map number o ≡ None

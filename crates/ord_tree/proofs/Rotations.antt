@@ -1,13 +1,14 @@
 -- The combined effect of the four writes of a rotation.
-use Rattle.std.proofs.Common.{◌≡◌, ◌≢◌, ℕ, ◌+◌, ◌<◌, ◌≤◌, Option, Some, None, arith, refl, sym, ◌∙◌, ap, subst, inl, inr, ⊎_elim, ◌⊎◌, option_map, is_some, true}
+use Rattle.std.proofs.Common.{◌≡◌, ◌≢◌, ℕ, ◌+◌, ◌<◌, ◌≤◌, Option, Some, None, arith, refl, sym, ◌∙◌, ap, inl, inr, ⊎_elim, ◌⊎◌, option_map, is_some, true}
 use Rattle.std.proofs.lemmas.Bool.{cases_eq}
-use Rattle.ord_tree.specs.Slots.{Slots, Holds, Way, top, up, above, HoldsWay, here, times_in, times_way, back_at}
+use Rattle.chain_base.specs.Chain.{Chain}
+use Rattle.ord_tree.specs.Slots.{Slots, Holds, Way, top, up, above, HoldsWay, here, times_in, times_way, back_at, Writes, Hangs, ReplacesChild}
 use Rattle.ord_tree.specs.declared.tree_links.Side.TheVariants.{Lesser, Greater}
 use Rattle.ord_tree.specs.TreeLinks.{other_side, child_at, with_child_at, as_numbers}
 use Rattle.ord_tree.specs.{Shape.Shape, Shape.missing, Shape.node, Shape.fork, Shape.root_of, declared.tree_links.TreeLinks.TreeLinks}
 use Rattle.ord_tree.specs.{declared.tree_links.Side.Side, Rotate.Site, Rotate.IsRotated}
-use Rattle.ord_tree.proofs.Forks.{HoldsFork-holds, Holds-fork, here-same, times_in-fork, apart-from, link-root, child-with_child, other_child-with_child, child-with_other, other_child-with_other}
-use Rattle.ord_tree.proofs.Frames.{root-in, Holds-frame, HoldsWay-frame, Holds-rehung, IsReplaced, HoldsWay-replaced}
+use Rattle.ord_tree.proofs.Forks.{HoldsFork-holds, Holds-fork, here-same, times_in-fork, apart-from, link-root, child-with_child, other_child-with_child, child-with_other}
+use Rattle.ord_tree.proofs.Frames.{root-in, Holds-frame, HoldsWay-frame, Holds-rehung, HoldsWay-replaced}
 
 -- links as numbers
 pub child-as_numbers : {I : Type 0} (number : I → ℕ) (side : Side) (n : TreeLinks I) → option_map number (child_at side n) ≡ child_at side (as_numbers number n)
@@ -34,8 +35,7 @@ module _ (at : Slots) (over link : Option ℕ) (side : Side) (near : Shape) (i k
   ForkAt-holds e h =
       let f = HoldsFork-holds at over link side near far i k h in
       let same : f.0 ≡ n = cc in
-      let P : TreeLinks ℕ → Type 0 = λ m. ForkAt at over side near i k far m in
-      subst P same (record { back = f.3; rank = f.4; near_held = f.5; far_held = f.6 })
+      rw (← same) (record { back = f.3; rank = f.4; near_held = f.5; far_held = f.6 })
 
 pub above-in : (way : Way) (p : ℕ) → above way ≡ Some p → 0 < times_way p way
 above-in top p e = absurd cc
@@ -63,15 +63,12 @@ pub cases_link : (link : Option ℕ) (j : ℕ) → (link ≡ Some j) ⊎ (link �
 cases_link None j = inr (λ e. absurd cc)
 cases_link (Some i) j = ⊎_elim (λ same. inl (ap Some same)) (λ other. inr (λ e. other cc)) (cases_eq i j)
 
-module _ (old replaced hung below new : Slots) (root root' : Option ℕ) (side : Side) (z y : ℕ) (rank_z rank_y : ℕ) (ny nz : TreeLinks ℕ)
-    (site : Site old root side z y) (is_y : old y ≡ Some ny) (is_z : old z ≡ Some nz)
-    (parent : IsReplaced old replaced nz.back root root' z (Some y))
-    (middle : (i : ℕ) (n : TreeLinks ℕ) → child_at (other_side side) ny ≡ Some i → replaced i ≡ Some n → hung i ≡ Some (record n { back = Some z }))
-    (but_middle : (j : ℕ) → child_at (other_side side) ny ≢ Some j → hung j ≡ replaced j)
-    (at_z : (n : TreeLinks ℕ) → hung z ≡ Some n → below z ≡ Some (placed (Some y) rank_z (with_child_at side (child_at (other_side side) ny) n)))
-    (but_z : (j : ℕ) → j ≢ z → below j ≡ hung j)
-    (at_y : (n : TreeLinks ℕ) → below y ≡ Some n → new y ≡ Some (placed nz.back rank_y (with_child_at (other_side side) (Some z) n)))
-    (but_y : (j : ℕ) → j ≢ y → new j ≡ below j) where
+module _ {T : Type 0} {first second third fourth fifth : Chain T} {old replaced hung below new : Slots} {root root' : Option ℕ} {side : Side} {z y : ℕ} {rank_z rank_y : ℕ}
+    (site : Site old root side z y) {ny nz : TreeLinks ℕ} (is_y : old y ≡ Some ny) (is_z : old z ≡ Some nz)
+    (parent : ReplacesChild nz.back z (Some y) root root' old replaced first second)
+    (middle : Hangs (child_at (other_side side) ny) (Some z) replaced hung second third)
+    (write_z : Writes z (λ n. placed (Some y) rank_z (with_child_at side (child_at (other_side side) ny) n)) hung below third fourth)
+    (write_y : Writes y (λ n. placed nz.back rank_y (with_child_at (other_side side) (Some z) n)) below new fourth fifth) where
   fork_z : ForkAt old (above site.way) side (fork side site.outer y site.low site.inner) z site.high site.far nz
   fork_z = ForkAt-holds old (above site.way) (Some z) side (fork side site.outer y site.low site.inner) z site.high site.far nz is_z site.held
 
@@ -96,13 +93,13 @@ module _ (old replaced hung below new : Slots) (root root' : Option ℕ) (side :
 
   -- the earlier writes changed neither of the two nodes
   z_stays : hung z ≡ Some nz
-  z_stays = but_middle z (λ e. omega (arith, total z, here-same z, in_inner z e)) ∙ parent.elsewhere z (λ e. omega (arith, total z, here-same z, in_way z e)) ∙ is_z
+  z_stays = middle.elsewhere z (λ e. omega (arith, total z, here-same z, in_inner z e)) ∙ parent.elsewhere z (λ e. omega (arith, total z, here-same z, in_way z e)) ∙ is_z
 
   y_stays : below y ≡ Some ny
-  y_stays = but_z y y≢z ∙ but_middle y (λ e. omega (arith, total y, here-same y, in_inner y e)) ∙ parent.elsewhere y (λ e. omega (arith, total y, here-same y, in_way y e)) ∙ is_y
+  y_stays = write_z.elsewhere y y≢z ∙ middle.elsewhere y (λ e. omega (arith, total y, here-same y, in_inner y e)) ∙ parent.elsewhere y (λ e. omega (arith, total y, here-same y, in_way y e)) ∙ is_y
 
   elsewhere : (j : ℕ) → j ≢ z → j ≢ y → child_at (other_side side) ny ≢ Some j → nz.back ≢ Some j → new j ≡ old j
-  elsewhere j not_z not_y not_middle not_parent = but_y j not_y ∙ but_z j not_z ∙ but_middle j not_middle ∙ parent.elsewhere j not_parent
+  elsewhere j not_z not_y not_middle not_parent = write_y.elsewhere j not_y ∙ write_z.elsewhere j not_z ∙ middle.elsewhere j not_middle ∙ parent.elsewhere j not_parent
 
   -- a part without the written indexes is unchanged
   stays : (f : ℕ → ℕ) → ((j : ℕ) → f j + times_way j site.way + here j y + times_in j site.inner + here j z ≤ 1) → (j : ℕ) → 0 < f j → new j ≡ old j
@@ -124,27 +121,26 @@ module _ (old replaced hung below new : Slots) (root root' : Option ℕ) (side :
   inner_held : Holds new (Some z) (child_at (other_side side) ny) site.inner
   inner_held =
       Holds-rehung old new (Some y) (Some z) (child_at (other_side side) ny)
-      (λ j n is e. but_y j (apart-from y j (λ j. times_in j site.inner) (omega (arith, total y, here-same y)) (in_inner j is))
-      ∙ but_z j (apart-from z j (λ j. times_in j site.inner) (omega (arith, total z, here-same z)) (in_inner j is))
-      ∙ middle j n is (parent.elsewhere j (λ p. omega (arith, total j, in_inner j is, in_way j p)) ∙ e)) site.inner
+      (λ j n is e. write_y.elsewhere j (apart-from y j (λ j. times_in j site.inner) (omega (arith, total y, here-same y)) (in_inner j is))
+      ∙ write_z.elsewhere j (apart-from z j (λ j. times_in j site.inner) (omega (arith, total z, here-same z)) (in_inner j is))
+      ∙ middle.here j n is (parent.elsewhere j (λ p. omega (arith, total j, in_inner j is, in_way j p)) ∙ e)) site.inner
       inner_stays (λ j. omega (arith, total j)) fork_y.far_held
 
   way_stays : (j : ℕ) → 0 < times_way j site.way → new j ≡ replaced j
   way_stays j in_way' =
-      but_y j (apart-from y j (λ j. times_way j site.way) (omega (arith, total y, here-same y)) in_way')
-      ∙ but_z j (apart-from z j (λ j. times_way j site.way) (omega (arith, total z, here-same z)) in_way')
-      ∙ but_middle j (λ e. omega (arith, total j, in_inner j e))
+      write_y.elsewhere j (apart-from y j (λ j. times_way j site.way) (omega (arith, total y, here-same y)) in_way')
+      ∙ write_z.elsewhere j (apart-from z j (λ j. times_way j site.way) (omega (arith, total z, here-same z)) in_way')
+      ∙ middle.elsewhere j (λ e. omega (arith, total j, in_inner j e))
 
   way_held : HoldsWay new root' site.way (Some y)
   way_held =
-      let P : Option ℕ → Type 0 = λ b. IsReplaced old replaced b root root' z (Some y) in
       HoldsWay-frame replaced new site.way root' (Some y) way_stays
-      (HoldsWay-replaced site.way (subst P fork_z.back parent) (λ j. omega (arith, total j)) site.held_way)
+      (HoldsWay-replaced site.way (rw fork_z.back at parent) (λ j. omega (arith, total j)) site.held_way)
 
   backs_held : (j : ℕ) → (j ≡ z) ⊎ (j ≡ y) ⊎ (root_of site.inner ≡ Some j) ⊎ (back_at old j ≡ back_at new j)
   backs_held j =
       ⊎_elim (λ e. inl e) (λ not_z. inr (⊎_elim (λ e. inl e) (λ not_y. inr (⊎_elim (λ e. inl e)
-      (λ not_middle. inr (parent.backs j ∙ ap (λ (o : Option (TreeLinks ℕ)). option_map (λ (n : TreeLinks ℕ). n.back) o) (sym (but_y j not_y ∙ but_z j not_z ∙ but_middle j (λ e. not_middle (sym middle_is ∙ e))))))
+      (λ not_middle. inr (parent.backs j ∙ ap (λ (o : Option (TreeLinks ℕ)). option_map (λ (n : TreeLinks ℕ). n.back) o) (sym (write_y.elsewhere j not_y ∙ write_z.elsewhere j not_z ∙ middle.elsewhere j (λ e. not_middle (sym middle_is ∙ e))))))
       (cases_link (root_of site.inner) j))) (cases_eq j y))) (cases_eq j z)
 
   held_z : (link : Option ℕ) → link ≡ Some z → Holds new (Some y) link (fork side site.inner z rank_z site.far)
@@ -153,7 +149,7 @@ module _ (old replaced hung below new : Slots) (root root' : Option ℕ) (side :
       Holds-fork new (Some y) link side site.inner site.far z rank_z (
         placed (Some y) rank_z n,
         e,
-        but_y z (λ e. y≢z (sym e)) ∙ at_z nz z_stays,
+        write_y.elsewhere z (λ e. y≢z (sym e)) ∙ write_z.here nz z_stays,
         refl,
         refl,
         rw (child-placed side (Some y) rank_z n, child-with_child side (child_at (other_side side) ny) nz) inner_held,
@@ -166,11 +162,11 @@ module _ (old replaced hung below new : Slots) (root root' : Option ℕ) (side :
       Holds-fork new (above site.way) (Some y) side site.outer (fork side site.inner z rank_z site.far) y rank_y (
         placed nz.back rank_y n,
         refl,
-        at_y ny y_stays,
+        write_y.here ny y_stays,
         fork_z.back,
         refl,
         rw (child-placed side nz.back rank_y n, child-with_other side (Some z) ny) outer_held,
-        held_z (child_at (other_side side) (placed nz.back rank_y n)) (child-placed (other_side side) nz.back rank_y n ∙ other_child-with_other side (Some z) ny),
+        held_z (child_at (other_side side) (placed nz.back rank_y n)) (child-placed (other_side side) nz.back rank_y n ∙ child-with_child (other_side side) (Some z) ny),
       )
 
   pub IsRotated-written : IsRotated site new root' rank_z rank_y

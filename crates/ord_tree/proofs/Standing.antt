@@ -1,15 +1,15 @@
 -- A node in the place of another.
-use Rattle.std.proofs.Common.{◌≡◌, ◌≢◌, ℕ, ◌+◌, ◌<◌, Option, Some, None, [], ◌∷◌, ◌++◌, arith, refl, sym, ◌∙◌, ap, subst, inl, inr, ⊎_elim, option_map, is_some, true, length-append}
-use Rattle.std.proofs.{lemmas.Bool.cases_eq, lemmas.Bool.eq-eqb, lemmas.Bool.ne_eqb, lemmas.Grind.common_steps}
-use Rattle.std.specs.Option.{option_to_list}
-use Rattle.ord_tree.specs.Slots.{Slots, Holds, Way, top, up, plug, above, HoldsWay, here, times_in, times_way, MovesBacks}
+use Rattle.std.proofs.Common.{◌≡◌, ◌≢◌, ℕ, ◌+◌, ◌<◌, Option, Some, None, arith, refl, sym, ◌∙◌, ap, is_some, true}
+use Rattle.std.proofs.{lemmas.Bool.eq-eqb, lemmas.Bool.ne_eqb, lemmas.Grind.common_steps}
+use Rattle.chain_base.specs.Chain.{Chain}
+use Rattle.ord_tree.specs.Slots.{Slots, Holds, Way, top, up, plug, above, HoldsWay, here, times_in, times_way, MovesBacks, Writes, Hangs, ReplacesChild}
 use Rattle.ord_tree.specs.declared.tree_links.Side.TheVariants.{Lesser, Greater}
-use Rattle.ord_tree.specs.{Shape.Shape, Shape.missing, Shape.node, Shape.root_of, Detach.stand_in, Detach.renamed, Detach.CanStandIn}
+use Rattle.ord_tree.specs.{Shape.Shape, Shape.missing, Shape.node, Detach.stand_in, Detach.renamed, Detach.CanStandIn}
 use Rattle.ord_tree.specs.declared.tree_links.TreeLinks.{TreeLinks}
-use Rattle.ord_tree.proofs.Frames.{occupied-above, root-in, HoldsWay-frame, Holds-rehung, IsReplaced, HoldsWay-replaced}
+use Rattle.ord_tree.proofs.Frames.{occupied-above, root-in, HoldsWay-frame, Holds-rehung, HoldsWay-replaced}
 use Rattle.ord_tree.proofs.Forks.{Holds-plug, link-root, here-same, times_in-plug, apart-from}
-use Rattle.ord_tree.proofs.{Rotations.above-in, Rotations.occupied-link, Rotations.cases_link, Spots.Spot, Spots.spot_in}
-use Rattle.ord_tree.proofs.Doubles.{Among-root, Among-behind, length-root}
+use Rattle.ord_tree.proofs.{Rotations.above-in, Rotations.occupied-link, Spots.Spot, Spots.spot_in, Spots.spot_holds, Rotations.ForkAt}
+use Rattle.ord_tree.proofs.{Views.MovesBacks-then, Views.MovesBacks-same, Views.MovesBacks-write, Views.MovesBacks-hung, LeafBranches.some_in}
 
 -- another index stays
 pub stand_in-other : (z v j : ℕ) → j ≢ z → stand_in z v j ≡ j
@@ -49,83 +49,63 @@ module _ {old : Slots} {root : Option ℕ} {z v : ℕ} {s : Shape} (can : CanSta
       ∙ rw (renamed-absent z v l (omega (arith, total z, here-same z, can.apart z)), renamed-absent z v r (omega (arith, total z, here-same z, can.apart z)), stand_in-same z v) refl
 
   module _ (nz : TreeLinks ℕ) (e : old z ≡ Some nz) where
-    nz_is : spot.links ≡ nz
-    nz_is = let f = spot.at_y in cc
-
-    back_is : nz.back ≡ above spot.way
-    back_is = ap (λ (n : TreeLinks ℕ). n.back) (sym nz_is) ∙ spot.holds.back
-
-    rank_is : nz.rank ≡ spot.rank
-    rank_is = ap (λ (n : TreeLinks ℕ). n.rank) (sym nz_is) ∙ spot.holds.rank
-
-    l_held : Holds old (Some z) nz.lesser l
-    l_held = let P : TreeLinks ℕ → Type 0 = λ n. Holds old (Some z) n.lesser l in subst P nz_is spot.holds.near_held
-
-    r_held : Holds old (Some z) nz.greater r
-    r_held = let P : TreeLinks ℕ → Type 0 = λ n. Holds old (Some z) n.greater r in subst P nz_is spot.holds.far_held
+    stored : ForkAt old (above spot.way) Lesser l z spot.rank r nz
+    stored = spot_holds spot nz e
 
     pub lesser_occupied : (i : ℕ) → nz.lesser ≡ Some i → is_some (old i) ≡ true
-    lesser_occupied i link = occupied-link old (Some z) nz.lesser l i l_held link
+    lesser_occupied i link = occupied-link old (Some z) nz.lesser l i stored.near_held link
 
     pub greater_occupied : (i : ℕ) → nz.greater ≡ Some i → is_some (old i) ≡ true
-    greater_occupied i link = occupied-link old (Some z) nz.greater r i r_held link
+    greater_occupied i link = occupied-link old (Some z) nz.greater r i stored.far_held link
 
     pub parent_occupied : (p : ℕ) → nz.back ≡ Some p → is_some (old p) ≡ true
-    parent_occupied p b = occupied-above old root (Some z) spot.way spot.held_way p (sym back_is ∙ b)
+    parent_occupied p b = occupied-above old root (Some z) spot.way spot.held_way p (sym stored.back ∙ b)
 
     in_l : (j : ℕ) → nz.lesser ≡ Some j → 0 < times_in j l
-    in_l j link = root-in l j (sym (link-root old (Some z) nz.lesser l l_held) ∙ link)
+    in_l j link = root-in l j (sym (link-root old (Some z) nz.lesser l stored.near_held) ∙ link)
 
     in_r : (j : ℕ) → nz.greater ≡ Some j → 0 < times_in j r
-    in_r j link = root-in r j (sym (link-root old (Some z) nz.greater r r_held) ∙ link)
+    in_r j link = root-in r j (sym (link-root old (Some z) nz.greater r stored.far_held) ∙ link)
 
     in_way : (j : ℕ) → nz.back ≡ Some j → 0 < times_way j spot.way
-    in_way j b = above-in spot.way j (sym back_is ∙ b)
+    in_way j b = above-in spot.way j (sym stored.back ∙ b)
 
-    module _ (replaced hung both new : Slots) (root' : Option ℕ)
-        (parent : IsReplaced old replaced nz.back root root' z (Some v))
-        (lesser : (i : ℕ) (n : TreeLinks ℕ) → nz.lesser ≡ Some i → replaced i ≡ Some n → hung i ≡ Some (record n { back = Some v }))
-        (but_lesser : (j : ℕ) → nz.lesser ≢ Some j → hung j ≡ replaced j)
-        (greater : (i : ℕ) (n : TreeLinks ℕ) → nz.greater ≡ Some i → hung i ≡ Some n → both i ≡ Some (record n { back = Some v }))
-        (but_greater : (j : ℕ) → nz.greater ≢ Some j → both j ≡ hung j)
-        (at_v : new v ≡ Some nz) (but_v : (j : ℕ) → j ≢ v → new j ≡ both j) where
+    module _ {T : Type 0} {first second third fourth fifth : Chain T} {replaced hung both new : Slots} {root' : Option ℕ}
+        (parent : ReplacesChild nz.back z (Some v) root root' old replaced first second) (lesser : Hangs nz.lesser (Some v) replaced hung second third)
+        (greater : Hangs nz.greater (Some v) hung both third fourth) (write : Writes v (λ _. nz) both new fourth fifth) where
+      at_v : new v ≡ Some nz
+      at_v = let was = some_in (both v) (greater.occupied v ∙ lesser.occupied v ∙ parent.occupied v ∙ can.spare) in write.here was.0 was.1
+
       not_v : (j : ℕ) → 0 < times_in j s → j ≢ v
       not_v j inside = apart-from v j (λ j. times_in j s) can.fresh inside
 
       way_held : HoldsWay new root' spot.way (Some v)
       way_held =
-          let P : Option ℕ → Type 0 = λ b. IsReplaced old replaced b root root' z (Some v) in
           HoldsWay-frame replaced new spot.way root' (Some v)
-          (λ j inside. but_v j (not_v j (omega (arith, total j))) ∙ but_greater j (λ link. omega (arith, in_r j link, total j, can.apart j)) ∙ but_lesser j (λ link. omega (arith, in_l j link, total j, can.apart j)))
-          (HoldsWay-replaced spot.way (subst P back_is parent) (λ j. omega (arith, total j, can.apart j)) spot.held_way)
+          (λ j inside. write.elsewhere j (not_v j (omega (arith, total j))) ∙ greater.elsewhere j (λ link. omega (arith, in_r j link, total j, can.apart j)) ∙ lesser.elsewhere j (λ link. omega (arith, in_l j link, total j, can.apart j)))
+          (HoldsWay-replaced spot.way (rw stored.back at parent) (λ j. omega (arith, total j, can.apart j)) spot.held_way)
 
       l_new : Holds new (Some v) nz.lesser l
       l_new =
           Holds-rehung old new (Some z) (Some v) nz.lesser
-          (λ j n link d. let inside = in_l j link in but_v j (not_v j (omega (arith, total j))) ∙ but_greater j (λ other. omega (arith, in_r j other, total j, can.apart j))
-          ∙ lesser j n link (parent.elsewhere j (λ b. omega (arith, in_way j b, total j, can.apart j)) ∙ d)) l
-          (λ j other inside. but_v j (not_v j (omega (arith, total j))) ∙ but_greater j (λ link. omega (arith, in_r j link, total j, can.apart j)) ∙ but_lesser j other ∙ parent.elsewhere j (λ b. omega (arith, in_way j b, total j, can.apart j)))
-          (λ j. omega (arith, total j, can.apart j)) l_held
+          (λ j n link d. let inside = in_l j link in write.elsewhere j (not_v j (omega (arith, total j))) ∙ greater.elsewhere j (λ other. omega (arith, in_r j other, total j, can.apart j))
+          ∙ lesser.here j n link (parent.elsewhere j (λ b. omega (arith, in_way j b, total j, can.apart j)) ∙ d)) l
+          (λ j other inside. write.elsewhere j (not_v j (omega (arith, total j))) ∙ greater.elsewhere j (λ link. omega (arith, in_r j link, total j, can.apart j)) ∙ lesser.elsewhere j other ∙ parent.elsewhere j (λ b. omega (arith, in_way j b, total j, can.apart j)))
+          (λ j. omega (arith, total j, can.apart j)) stored.near_held
 
       r_new : Holds new (Some v) nz.greater r
       r_new =
           Holds-rehung old new (Some z) (Some v) nz.greater
-          (λ j n link d. let inside = in_r j link in but_v j (not_v j (omega (arith, total j)))
-          ∙ greater j n link (but_lesser j (λ other. omega (arith, in_l j other, total j, can.apart j)) ∙ parent.elsewhere j (λ b. omega (arith, in_way j b, total j, can.apart j)) ∙ d)) r
-          (λ j other inside. but_v j (not_v j (omega (arith, total j))) ∙ but_greater j other ∙ but_lesser j (λ link. omega (arith, in_l j link, total j, can.apart j)) ∙ parent.elsewhere j (λ b. omega (arith, in_way j b, total j, can.apart j)))
-          (λ j. omega (arith, total j, can.apart j)) r_held
+          (λ j n link d. let inside = in_r j link in write.elsewhere j (not_v j (omega (arith, total j)))
+          ∙ greater.here j n link (lesser.elsewhere j (λ other. omega (arith, in_l j other, total j, can.apart j)) ∙ parent.elsewhere j (λ b. omega (arith, in_way j b, total j, can.apart j)) ∙ d)) r
+          (λ j other inside. write.elsewhere j (not_v j (omega (arith, total j))) ∙ greater.elsewhere j other ∙ lesser.elsewhere j (λ link. omega (arith, in_l j link, total j, can.apart j)) ∙ parent.elsewhere j (λ b. omega (arith, in_way j b, total j, can.apart j)))
+          (λ j. omega (arith, total j, can.apart j)) stored.far_held
 
       pub Holds-substituted : Holds new None root' (renamed z v s)
       Holds-substituted =
-          let P : Shape → Type 0 = λ t. Holds new None root' t in
-          subst P (sym named) (Holds-plug new root' spot.way (node l v spot.rank r) (Some v) way_held (nz, refl, at_v, back_is, rank_is, l_new, r_new))
+          rw named (Holds-plug new root' spot.way (node l v spot.rank r) (Some v) way_held (nz, refl, at_v, stored.back, stored.rank, l_new, r_new))
 
       pub moves_three : MovesBacks 3 old new
-      moves_three = (
-        v ∷ (option_to_list (root_of l) ++ (option_to_list (root_of r) ++ [])),
-        omega (arith, length-append (option_to_list (root_of l)) (option_to_list (root_of r) ++ []), length-append (option_to_list (root_of r)) [], length-root (root_of l), length-root (root_of r)),
-        λ j. ⊎_elim (λ same. inl (inl same)) (λ not_v'. ⊎_elim (λ link. inl (inr (Among-root l j (option_to_list (root_of r) ++ []) (sym (link-root old (Some z) nz.lesser l l_held) ∙ link))))
-            (λ not_l. ⊎_elim (λ link. inl (inr (Among-behind (option_to_list (root_of l)) (option_to_list (root_of r) ++ []) j (Among-root r j [] (sym (link-root old (Some z) nz.greater r r_held) ∙ link)))))
-            (λ not_r. inr (parent.backs j ∙ ap (λ (o : Option (TreeLinks ℕ)). option_map (λ (n : TreeLinks ℕ). n.back) o) (sym (but_v j not_v' ∙ but_greater j not_r ∙ but_lesser j not_l))))
-            (cases_link nz.greater j)) (cases_link nz.lesser j)) (cases_eq j v),
-      )
+      moves_three =
+          MovesBacks-same old replaced new 3 parent.backs
+          (MovesBacks-then replaced hung new 1 2 (MovesBacks-hung lesser) (MovesBacks-then hung both new 1 1 (MovesBacks-hung greater) (MovesBacks-write write)))

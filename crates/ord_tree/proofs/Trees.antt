@@ -4,10 +4,10 @@ use Rattle.std.proofs.{lemmas.Grind.common_steps, lemmas.List.length-map}
 use Rattle.chain_base.specs.Chain.{Entry, Chain, entry_at, times, with_item_among, with_item as chain_with_item, vacant_among, with_capacity, with_room, grown_capacity, greatest_index, IsSound}
 use Rattle.std.specs.Option.{ForSome}
 use Rattle.chain_base.specs.{Generation.IsLawfulGeneration, PlainArena.times as times_among}
-use Rattle.ord_tree.specs.{Layout.shape_in, Layout.tree_of, Layout.IsLaidOut, Layout.with_item_below, Layout.with_node_item, Ranks.IsRanked}
+use Rattle.ord_tree.specs.{Layout.shape_in, Layout.tree_of, Layout.IsLaidOut, Layout.with_item_below, Layout.with_node_item}
 use Rattle.ord_tree.specs.Node.{bare_entry, bare, entry_in, links_in, slots_of, indexes}
 use Rattle.ord_tree.specs.Shape.{Shape, missing, node, size_of, height, walk}
-use Rattle.ord_tree.specs.{declared.node.SimpleOrdArenaNode.SimpleOrdArenaNode as Node, Slots.Slots, Slots.Holds, Slots.shape_under}
+use Rattle.ord_tree.specs.{declared.node.SimpleOrdArenaNode.SimpleOrdArenaNode as Node, Slots.Slots, Slots.Holds}
 use Rattle.ord_tree.specs.Tree.{IsSoundTree, with_item}
 use Rattle.ord_tree.proofs.{Views.shape_under-held, Halves.size_of-walk, Frames.Holds-frame}
 
@@ -107,14 +107,8 @@ module _ {P T I G : Type 0} where
       let counted : size_of s ≡ length c.entries = size_of-walk s ∙ ap length listed ∙ length-map c.entries (λ (e : Entry (Node P T I G)). e.index) in
       shape_under-held (length c.entries) (slots_of c) None root s h (omega (arith, height-le-size s, counted))
 
-  -- the layout depends only on the entries
-  pub IsLaidOut-entries : (c d : Chain (Node P T I G)) (root : Option ℕ) → d.entries ≡ c.entries → IsLaidOut c root (shape_in c root) → IsLaidOut d root (shape_in d root)
-  IsLaidOut-entries c d root e h =
-      let Spelled : List (Entry (Node P T I G)) → Shape = λ es. shape_under (length es) (links_at es) root in
-      let Held : List (Entry (Node P T I G)) → Type 0 = λ es. Holds (links_at es) None root (Spelled es) in
-      let Listed : List (Entry (Node P T I G)) → Type 0 = λ es. walk (Spelled es) ≡ indexes es in
-      let Ranks : List (Entry (Node P T I G)) → Type 0 = λ es. IsRanked (Spelled es) in
-      record { held = subst Held (sym e) h.held; listed = subst Listed (sym e) h.listed; ranked = subst Ranks (sym e) h.ranked }
+  pub IsLaidOut-held : (c : Chain (Node P T I G)) (root : Option ℕ) {s : Shape} → IsLaidOut c root s → IsLaidOut c root (shape_in c root)
+  IsLaidOut-held c root {s} h = subst (λ (s : Shape). IsLaidOut c root s) (sym (shape_in-held c root s h.held h.listed)) h
 
   -- the facts about a tree that lies in a chain
   pub IsSoundTree-laid_out : (c : Chain (Node P T I G)) (root : Option ℕ) → IsLaidOut c root (shape_in c root) → IsSoundTree (tree_of c root)
@@ -142,9 +136,11 @@ module _ {P T I G : Type 0} where
     shape_in-linked = shape_in-held d root (shape_in c root) held-linked (h.listed ∙ sym order)
 
     pub IsLaidOut-linked : IsLaidOut d root (shape_in d root)
-    IsLaidOut-linked =
-        let Laid : Shape → Type 0 = λ s. IsLaidOut d root s in
-        subst Laid (sym shape_in-linked) (record { held = held-linked; listed = h.listed ∙ sym order; ranked = h.ranked })
+    IsLaidOut-linked = IsLaidOut-held d root (record { held = held-linked; listed = h.listed ∙ sym order; ranked = h.ranked })
+
+  -- so it depends only on the entries
+  pub IsLaidOut-entries : (c d : Chain (Node P T I G)) (root : Option ℕ) → d.entries ≡ c.entries → IsLaidOut c root (shape_in c root) → IsLaidOut d root (shape_in d root)
+  IsLaidOut-entries c d root e h = IsLaidOut-linked c d root (λ j. ap (λ (es : List (Entry (Node P T I G))). links_at es j) e) (ap indexes e) h
 
   -- another item
   pub IsLaidOut-below : (c : Chain (Node P T I G)) (root : Option ℕ) (i : ℕ) (x : T) → IsLaidOut c root (shape_in c root)

@@ -33,6 +33,7 @@ pub use Rattle.chain_base.specs.ArenaClone
 pub use Rattle.chain_base.specs.ArenaCompression
 pub use Rattle.chain_base.specs.Generation
 pub use Rattle.chain_base.specs.Invalidation
+pub use Rattle.chain_base.specs.Room
 pub use Rattle.chain_base.specs.ArenaWalk
 pub use Rattle.chain_base.specs.InsertionError
 pub use Rattle.chain_base.specs.ReallocationError

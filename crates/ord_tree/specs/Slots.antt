@@ -109,7 +109,7 @@ pub record Hangs {T : Type 0} (link back : Option ℕ) (old new : Slots) (list_o
 
 -- From old to new, `instead` takes the place of the child: as the root if the child has no parent, else on its side of the parent. All
 -- other links stay, and so does the list.
-pub record Replaces {T : Type 0} (parent : Option ℕ) (child : ℕ) (instead root_old root_new : Option ℕ) (old new : Slots)
+pub record ReplacesChild {T : Type 0} (parent : Option ℕ) (child : ℕ) (instead root_old root_new : Option ℕ) (old new : Slots)
     (list_old list_new : Chain T) : Type 0 where
   pub at_top : parent ≡ None → root_new ≡ instead
   pub below : (p : ℕ) → parent ≡ Some p → root_new ≡ root_old

@@ -1,14 +1,11 @@
 -- A tree as its users see it: a list of entries, with a shape.
-use Rattle.std.specs.Prelude.{◌≡◌, ℕ, ◌<◌, ◌⊎◌, ◌↔◌, Bool, Option, None, Some, List, [], ◌∷◌, length, Result, Err, OnOk, IfErr, OnErr, refl}
+use Rattle.std.specs.Prelude.{◌≡◌, ℕ, Bool, Option, None, Some, List, [], ◌∷◌, length, refl}
 use Rattle.std.specs.Coded.{Coded, code_by, coded×, coded_ℕ, coded_list, coded_option}
-use Rattle.chain_base.specs.InsertionError.{InsertionError, TheVariants.BeyondMaxCapacity as InsertionBeyond, TheVariants.AllocError as InsertionAlloc}
-use Rattle.chain_base.specs.ReallocationError.{ReallocationError, TheVariants.BeyondMaxCapacity, TheVariants.AllocError}
 use Rattle.chain_base.specs.InvalidationOption.{InvalidationOption}
 use Rattle.chain_base.specs.ArenaCompression.{compressed_generation, compression_overflows}
-use Rattle.chain_base.specs.Chain.{Entry, Chain, chain_limit, insert_after, insert_before, with_item as chain_with_item, IsOccupied}
-use Rattle.chain_base.specs.Generation.{overflows_after}
+use Rattle.chain_base.specs.Chain.{Entry, Chain, insert_after, insert_before, with_item as chain_with_item, IsOccupied}
 use Rattle.chain_base.specs.Invalidation.{is_overflow}
-use Rattle.ord_tree.specs.{declared.node.SimpleOrdArenaNode.SimpleOrdArenaNode as Node, Shape.Shape, Shape.root_of, Shape.walk, Slots.Holds}
+use Rattle.ord_tree.specs.{declared.node.SimpleOrdArenaNode.SimpleOrdArenaNode as Node, Shape.Shape, Shape.root_of, Shape.walk, Shape.missing, Slots.Holds}
 use Rattle.ord_tree.specs.{declared.tree_links.Side.Side, declared.tree_links.Side.TheVariants.Lesser, declared.tree_links.Side.TheVariants.Greater}
 use Rattle.ord_tree.specs.{Node.indexes, Node.bare, Node.slots_of, Half.IsRebuilt, Ranks.IsRanked, Ranks.IsTight, ShapeCode.shape_code, Parents.MovesAtMost, Potential.ChangesRanksWithin}
 
@@ -74,11 +71,6 @@ pub record IsShrunk (old new : Shape) : Type 0 where
   pub moved : MovesAtMost 9 old new
   pub rank_changes : ChangesRanksWithin 9 old new
 
--- A call that raises the generation: `After` is true afterwards, and the result says whether the generations overflow.
-pub record Raises {R : Type 0} (greatest : Option ℕ) (before : ℕ) (result : InvalidationOption R) (After : Type 0) : Type 0 where
-  pub after : After
-  pub overflow : is_overflow result ≡ overflows_after greatest before
-
 -- What a compression does to a tree. All entries get one generation, of which `After` is true: the first if `reset` is true, else the
 -- next. The tree is rebuilt, and the result says whether the generations overflow.
 pub record Compresses {T R : Type 0} (greatest : Option ℕ) (reset : Bool) (old new : Tree T) (result : InvalidationOption R)
@@ -87,22 +79,12 @@ pub record Compresses {T R : Type 0} (greatest : Option ℕ) (reset : Bool) (old
   pub shape : IsRebuilt new.shape
   pub overflow : is_overflow result ≡ compression_overflows greatest reset old.list.generation
 
--- An insertion that can grow the tree fails only if the tree is full, because it is at its limit or because growing failed. Then the tree
--- stays as it is.
-pub record FailsOnlyIfFull {T R : Type 0} (most : ℕ) (old new : Tree T) (result : Result R InsertionError) : Type 0 where
-  pub beyond : (result ≡ Err InsertionBeyond) ↔ (length old.list.entries ≡ chain_limit most old.list)
-  pub memory : result ≡ Err InsertionAlloc → length old.list.entries ≡ old.list.capacity
-  pub refusal : IfErr result (λ e. (e ≡ InsertionBeyond) ⊎ (e ≡ InsertionAlloc))
-  pub err : OnErr result (new ≡ old)
-
--- A call that makes sure of room for `needed` entries. If it succeeds, `After` is true. It fails if they are beyond the list's limit, or
--- if they are more than its capacity and growing failed. Then `Same` is true.
-pub record Reallocates {T R : Type 0} (most : ℕ) (old : Chain T) (needed : ℕ) (result : Result R ReallocationError)
-    (After Same : Type 0) : Type 0 where
-  pub ok : OnOk result After
-  pub beyond : (result ≡ Err BeyondMaxCapacity) ↔ (chain_limit most old < needed)
-  pub memory : result ≡ Err AllocError → old.capacity < needed
-  pub err : OnErr result Same
+-- All entries moved from a tree, which is left as `source`, into this one. `Lists` says what became of the two lists. This tree is rebuilt,
+-- and the other has no node.
+pub record TransfersTree {T U : Type 0} (source : Tree U) (new : Tree T) (Lists : Type 0) : Type 0 where
+  pub lists : Lists
+  pub shape : IsRebuilt new.shape
+  pub left : source.shape ≡ missing
 
 -- the tree with another item at this index
 abbrev pub with_item : {T : Type 0} → Tree T → ℕ → T → Tree T

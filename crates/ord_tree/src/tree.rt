@@ -4,8 +4,9 @@ ghost use Rattle.std.specs.Prelude.{◌≡◌, ◌==◌, None, IfSome, is_some, 
 ghost use Rattle.std.specs.Option.{option_map};
 ghost use Rattle.chain_base.specs.Generation.{IsLawfulGeneration};
 ghost use Rattle.chain_base.specs.Chain.{raised, entry_at, next_index, IsSound};
+ghost use Rattle.chain_base.specs.Invalidation.{Raises};
 ghost use Rattle.ord_tree.specs.Shape.{root_of};
-ghost use Rattle.ord_tree.specs.Tree.{IsChainOf, IsSoundTree, Raises};
+ghost use Rattle.ord_tree.specs.Tree.{IsChainOf, IsSoundTree};
 
 mod append;
 mod clone;

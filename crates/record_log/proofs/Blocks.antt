@@ -1,9 +1,9 @@
 -- What files of blocks hold.
-use Rattle.std.proofs.Common.{◌≡◌, ◌≢◌, inl, inr, ℕ, zero, suc, ◌≤◌, List, [], ◌∷◌, ◌++◌, length, take, drop, refl, sym, ◌∙◌, ap, subst, arith, append_assoc, length-take}
+use Rattle.std.proofs.Common.{◌≡◌, ◌≢◌, inl, inr, ℕ, zero, suc, ◌<◌, ◌≤◌, List, [], ◌∷◌, ◌++◌, length, take, drop, refl, sym, ◌∙◌, ap, subst, arith, append_assoc, length-append, length-take}
 use Rattle.std.specs.List.{AllByRecursion}
 use Rattle.std.proofs.lemmas.List.{append-nil}
 use Rattle.std.proofs.lemmas.Bool.{cases_eq}
-use Rattle.record_log.specs.Format.{header, frame, blocks, front, Fits, IsEnd, HasBlocks, Holds, HoldsBeforeOrAfter}
+use Rattle.record_log.specs.Format.{header, frame, blocks, front, Fits, IsEnd, Holds, HoldsEither}
 use Rattle.record_log.proofs.Frames.{frames_alike, length-frame}
 
 pub blocks-push : (records : List (List ℕ)) (bytes rest : List ℕ) → blocks (records ++ bytes ∷ []) ++ rest ≡ blocks records ++ 1 ∷ (frame bytes ++ rest)
@@ -38,19 +38,21 @@ pub holds_front : (records : List (List ℕ)) (end file : List ℕ) → AllByRec
 holds_front records end file fit is_end split = inr (ap (λ (l : List ℕ). take 8 l) split, record { end = end; split = ap (λ (l : List ℕ). drop 8 l) split; is_end = is_end; fit = fit })
 
 -- a whole record behind any gate counts, or it doesn't
-pub holds_gate : (records : List (List ℕ)) (bytes file : List ℕ) (gate : ℕ) → AllByRecursion Fits records → Fits bytes → file ≡ front records ++ gate ∷ (frame bytes ++ 0 ∷ []) → HoldsBeforeOrAfter records bytes file
+pub holds_gate : (records : List (List ℕ)) (bytes file : List ℕ) (gate : ℕ) → AllByRecursion Fits records → Fits bytes
+    → file ≡ front records ++ gate ∷ (frame bytes ++ 0 ∷ []) → HoldsEither records (records ++ bytes ∷ []) file
 holds_gate records bytes file gate fit fits split = elim (cases_eq gate 1) [
   | inl is_open ↦ inr (holds_front (records ++ bytes ∷ []) (0 ∷ []) file (fits-push records bytes fit fits) tt (split ∙ ap (λ (g : ℕ). front records ++ g ∷ (frame bytes ++ 0 ∷ [])) is_open ∙ sym (front-push records bytes (0 ∷ []))))
   | inr shut ↦ inl (holds_front records (gate ∷ (frame bytes ++ 0 ∷ [])) file fit (shut_end gate (frame bytes ++ 0 ∷ []) shut) split)
 ]
 
--- no record in an end
-open_end : (bytes rest : List ℕ) → 8 ≤ length bytes → IsEnd (1 ∷ (bytes ++ rest)) → ⊥
-open_end [] rest long is = omega arith
-open_end (b ∷ bytes) rest long is = is refl
+-- A record begins behind an open gate that isn't at the end.
+pub not_an_end : (inner : List ℕ) → 0 < length inner → IsEnd (1 ∷ inner) → ⊥
+not_an_end [] some is = omega arith
+not_an_end (b ∷ inner) some is = is refl
 
 record_of : (bytes rest end : List ℕ) → 1 ∷ (frame bytes ++ rest) ≡ end → IsEnd end → ⊥
-record_of bytes rest end e is = open_end (frame bytes) rest (omega (arith, length-frame bytes)) (subst IsEnd (sym e) is)
+record_of bytes rest end e is =
+    not_an_end (frame bytes ++ rest) (omega (arith, length-frame bytes, length-append (frame bytes) rest)) (subst IsEnd (sym e) is)
 
 -- Bytes are read in one way.
 pub blocks_alike : (a b : List (List ℕ)) (x y : List ℕ) → AllByRecursion Fits a → AllByRecursion Fits b → IsEnd x → IsEnd y → blocks a ++ x ≡ blocks b ++ y → a ≡ b
@@ -61,6 +63,3 @@ blocks_alike (r ∷ a) (s ∷ b) x y fa fb ex ey e =
     let inner : frame r ++ (blocks a ++ x) ≡ frame s ++ (blocks b ++ y) = sym (append_assoc (frame r) (blocks a) x) ∙ ap (λ (l : List ℕ). drop 1 l) e ∙ append_assoc (frame s) (blocks b) y in
     let same = frames_alike r s (blocks a ++ x) (blocks b ++ y) fa.0 fb.0 inner in
     (λ i. same.0 i ∷ blocks_alike a b x y fa.1 fb.1 ex ey same.1 i)
-
-pub blocks_one : (bytes : List ℕ) (a b : List (List ℕ)) → HasBlocks bytes a → HasBlocks bytes b → a ≡ b
-blocks_one bytes a b p q = blocks_alike a b p.end q.end p.fit q.fit p.is_end q.is_end (sym p.split ∙ q.split)

@@ -4,9 +4,6 @@ use Rattle.std.proofs.lemmas.List.{take_at, drop_at, drop_more, take_all, drop_a
 use Rattle.record_log.specs.Device.{Overwrites, IsTorn, IsPartlyCut}
 
 module _ (p : List ℕ) (n : ℕ) (len : length p ≡ n) where
-  sealed : ℕ → List ℕ
-  sealed gate = p ++ gate ∷ []
-
   length-sealed : (gate : ℕ) → length (p ++ gate ∷ []) ≡ n + 1
   length-sealed gate = omega (arith, len, length-append p (gate ∷ []))
 
@@ -18,11 +15,9 @@ module _ (p : List ℕ) (n : ℕ) (len : length p ≡ n) where
 
   pub written_behind : (gate : ℕ) (bytes c : List ℕ) → Overwrites (p ++ gate ∷ []) (n + 1) bytes c → c ≡ p ++ gate ∷ bytes
   written_behind gate bytes c is =
-      is
-      ∙ ap (λ (l : List ℕ). l ++ bytes ++ drop (n + 1 + length bytes) (p ++ gate ∷ [])) (take_all _ _ (omega (arith, length-sealed gate)))
-      ∙ ap (λ (l : List ℕ). (p ++ gate ∷ []) ++ bytes ++ l) (drop_all (n + 1 + length bytes) (p ++ gate ∷ []) (omega (arith, length-sealed gate)))
-      ∙ append-nil ((p ++ gate ∷ []) ++ bytes)
-      ∙ append_assoc p (gate ∷ []) bytes
+      let all = take_all (n + 1) (p ++ gate ∷ []) (omega (arith, length-sealed gate)) in
+      let none = drop_all (n + 1 + length bytes) (p ++ gate ∷ []) (omega (arith, length-sealed gate)) in
+      is ∙ rw (all, none, append-nil) (append_assoc p (gate ∷ []) bytes)
 
   behind : (gate : ℕ) (bytes : List ℕ) → drop (n + 1) (p ++ gate ∷ bytes) ≡ bytes
   behind gate bytes = ap (λ (l : List ℕ). drop (n + 1) l) (sym (append_assoc p (gate ∷ []) bytes)) ∙ drop_at (p ++ gate ∷ []) bytes (n + 1) (length-sealed gate)
@@ -36,32 +31,19 @@ module _ (p : List ℕ) (n : ℕ) (len : length p ≡ n) where
       sym (take-append-drop n c) ∙ ap (λ (l : List ℕ). l ++ drop n c) (torn.before ∙ take_at p (gate ∷ bytes) n len) ∙ ap (λ (l : List ℕ). p ++ l) rest
 
   pub written_gate : (gate other : ℕ) (bytes c : List ℕ) → Overwrites (p ++ gate ∷ bytes) n (other ∷ []) c → c ≡ p ++ other ∷ bytes
-  written_gate gate other bytes c is =
-      is
-      ∙ ap (λ (l : List ℕ). l ++ (other ∷ []) ++ drop (n + 1) (p ++ gate ∷ bytes)) (take_at p (gate ∷ bytes) n len)
-      ∙ ap (λ (l : List ℕ). p ++ (other ∷ []) ++ l) (behind gate bytes)
-      ∙ append_assoc p (other ∷ []) bytes
+  written_gate gate other bytes c is = is ∙ rw (take_at p (gate ∷ bytes) n len, behind gate bytes) (append_assoc p (other ∷ []) bytes)
 
   -- A cut leaves the front and some of the rest.
   pub cut_behind : (end c : List ℕ) → IsPartlyCut n (p ++ end) c → c ≡ p ++ take (length c - n) end
   cut_behind end c cut =
       let size : length c ≡ n + (length c - n) = omega (arith, cut.no_shorter) in
-      let front : take n c ≡ p = ap (λ (l : List ℕ). take n l) (sym cut.front) ∙ take_of_cut ∙ take_at p end n len in
+      let front : take n c ≡ p =
+      ap (λ (l : List ℕ). take n l) (sym cut.front) ∙ take-take n (length c) (p ++ end) cut.no_shorter ∙ take_at p end n len in
       let back : drop n c ≡ take (length c - n) end =
       ap (λ (l : List ℕ). drop n l) (sym cut.front ∙ ap (λ (k : ℕ). take k (p ++ end)) size) ∙ drop-take n (length c - n) (p ++ end) ∙ ap (λ (l : List ℕ). take (length c - n) l) (drop_at p end n len) in
       sym (take-append-drop n c) ∙ ap (λ (l : List ℕ). l ++ drop n c) front ∙ ap (λ (l : List ℕ). p ++ l) back
-    where
-      take_of_cut : take n (take (length c) (p ++ end)) ≡ take n (p ++ end)
-      take_of_cut = take-take n (length c) (p ++ end) cut.no_shorter
 
   -- A write of one byte behind the front leaves the front and at most one byte.
   pub torn_end : (c : List ℕ) → IsTorn n 1 p c → (c ≡ p ++ drop n c) × (length (drop n c) ≤ 1)
   torn_end c torn =
       (sym (take-append-drop n c) ∙ ap (λ (l : List ℕ). l ++ drop n c) (torn.before ∙ take_all n p (omega (arith, len))), omega (arith, length-drop n c, torn.no_longer, len))
-
-  pub written_end : (gate : ℕ) (c : List ℕ) → Overwrites p n (gate ∷ []) c → c ≡ p ++ gate ∷ []
-  written_end gate c is =
-      is
-      ∙ ap (λ (l : List ℕ). l ++ (gate ∷ []) ++ drop (n + 1) p) (take_all n p (omega (arith, len)))
-      ∙ ap (λ (l : List ℕ). p ++ (gate ∷ []) ++ l) (drop_all (n + 1) p (omega (arith, len)))
-      ∙ append-nil (p ++ gate ∷ [])

@@ -1,5 +1,5 @@
 -- A frame is read in one way.
-use Rattle.std.proofs.Common.{◌≡◌, ℕ, ◌+◌, ◌^◌, ◌<◌, ◌≤◌, List, [], ◌∷◌, ◌++◌, length, take, drop, refl, sym, ap, ◌∙◌, append_assoc, length-append, arith}
+use Rattle.std.proofs.Common.{◌≡◌, ℕ, ◌+◌, ◌^◌, ◌<◌, ◌≤◌, List, [], ◌∷◌, ◌++◌, length, take, drop, refl, sym, ap, ◌∙◌, length-append, arith}
 use Rattle.std.specs.Int.{w32, to_be_bytes, from_be_bytes}
 use Rattle.std.proofs.lemmas.List.{take_at, drop_at}
 use Rattle.std.proofs.lemmas.Nat.{from_be_bytes-to_be_bytes_4}
@@ -60,11 +60,3 @@ length-frame payload = omega arith
 pub framed_payload : (bytes rest payload behind : List ℕ) (len sum : ℕ) → bytes ≡ to_be_bytes w32 len ++ (to_be_bytes w32 sum ++ rest) → len ≡ length payload → sum ≡ checksum payload → rest ≡ payload ++ behind → bytes ≡ frame payload ++ behind
 unfolding frame
 framed_payload bytes rest payload behind len sum e p q r = rw (e, p, q, r) refl
-
--- A frame is put behind some bytes.
-pub pushed : (old bytes first second new : List ℕ) → first ≡ old ++ to_be_bytes w32 (length bytes) → second ≡ first ++ to_be_bytes w32 (checksum bytes) → new ≡ second ++ bytes → new ≡ old ++ frame bytes
-unfolding frame
-pushed old bytes first second new p q r =
-    let len = to_be_bytes w32 (length bytes) in
-    let sum = to_be_bytes w32 (checksum bytes) in
-    r ∙ ap (λ (l : List ℕ). l ++ bytes) (q ∙ ap (λ (l : List ℕ). l ++ sum) p) ∙ append_assoc (old ++ len) sum bytes ∙ append_assoc old len (sum ++ bytes)

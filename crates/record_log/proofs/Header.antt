@@ -5,7 +5,7 @@ use Rattle.record_log.specs.Device.{IsTorn, IsPartlyCut}
 use Rattle.record_log.specs.Format.{header, front, IsEnd, Holds, HasBlocks}
 use Rattle.record_log.specs.Log.{IsReadTo, IsLaidOut, IsPartlySealed}
 use Rattle.record_log.proofs.Crash.{cut_behind, torn_end}
-use Rattle.record_log.proofs.Blocks.{take_end, short_end, holds_front, blocks_one}
+use Rattle.record_log.proofs.Blocks.{take_end, short_end, holds_front, blocks_alike}
 
 take_header : (n : ℕ) (l : List ℕ) → take (8 + n) (header ++ l) ≡ header ++ take n l
 take_header n l = grind arith
@@ -37,7 +37,10 @@ short_holds old new records short shorter holds = inl (shorter, short_none old r
 pub holds_one : (file : List ℕ) (a b : List (List ℕ)) → Holds file a → Holds file b → a ≡ b
 holds_one file a b (inl p) q = p.1 ∙ sym (short_none file b p.0 q)
 holds_one file a b (inr p) (inl q) = short_none file a q.0 (inr p) ∙ sym q.1
-holds_one file a b (inr p) (inr q) = blocks_one (drop 8 file) a b p.1 q.1
+holds_one file a b (inr p) (inr q) =
+    let x = p.1 in
+    let y = q.1 in
+    blocks_alike a b x.end y.end x.fit y.fit x.is_end y.is_end (sym x.split ∙ y.split)
 
 -- While a file is sealed, a crash leaves its records.
 pub sealed_holds : (n : ℕ) (file c : List ℕ) (records : List (List ℕ)) → IsLaidOut n file records → IsPartlySealed n file c → Holds c records

@@ -7,4 +7,3 @@ mod Header
 mod Past
 mod Reading
 mod Refusals
-mod Rewriting

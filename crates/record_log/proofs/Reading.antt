@@ -1,11 +1,8 @@
 -- Reading goes on behind a record.
-use Rattle.std.proofs.Common.{◌≡◌, ℕ, ◌<◌, List, [], ◌∷◌, ◌++◌, length, drop, refl, sym, ◌∙◌, ap, subst, arith, append_assoc}
+use Rattle.std.proofs.Common.{◌≡◌, ℕ, ◌<◌, List, [], ◌∷◌, ◌++◌, length, drop, sym, ◌∙◌, ap, subst, append_assoc}
 use Rattle.record_log.specs.Format.{frame, blocks, Fits, IsEnd, HasBlocks}
+use Rattle.record_log.proofs.Blocks.{not_an_end}
 use Rattle.record_log.proofs.Frames.{frames_alike}
-
-not_an_end : (inner : List ℕ) → 0 < length inner → IsEnd (1 ∷ inner) → ⊥
-not_an_end [] some is = omega arith
-not_an_end (b ∷ inner) some is = is refl
 
 module _ (rest inner : List ℕ) (split : rest ≡ 1 ∷ inner) (some : 0 < length inner) where
   first_frame : (r : List ℕ) (more : List (List ℕ)) (has : HasBlocks rest (r ∷ more)) → inner ≡ frame r ++ (blocks more ++ has.end)

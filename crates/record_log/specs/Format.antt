@@ -43,10 +43,6 @@ pub record HasBlocks (bytes : List ℕ) (records : List (List ℕ)) : Type 0 whe
 abbrev pub Holds : List ℕ → List (List ℕ) → Type 0
 Holds file records = ((length file ≤ 8) × (records ≡ [])) ⊎ ((take 8 file ≡ header) × HasBlocks (drop 8 file) records)
 
--- The file holds the records from before an append, or those and the new one.
-abbrev pub HoldsBeforeOrAfter : List (List ℕ) → List ℕ → List ℕ → Type 0
-HoldsBeforeOrAfter records bytes file = Holds file records ⊎ Holds file (records ++ bytes ∷ [])
-
 -- The file holds the old records or the new ones.
 abbrev pub HoldsEither : List (List ℕ) → List (List ℕ) → List ℕ → Type 0
 HoldsEither old new file = Holds file old ⊎ Holds file new

@@ -1,5 +1,5 @@
 -- An open log.
-use Rattle.std.specs.Prelude.{◌≡◌, ◌≢◌, ◌⊎◌, ◌<◌, ◌≤◌, ℕ, Bool, IsTrue, List, [], ◌∷◌, ◌++◌, length, map, take, drop, Vec, Result, IsErrOf}
+use Rattle.std.specs.Prelude.{◌≡◌, ◌≢◌, ◌⊎◌, ◌<◌, ◌≤◌, ◌^◌, ℕ, Bool, IsTrue, List, [], ◌∷◌, ◌++◌, length, map, take, drop, Vec, Result, IfOk, IsErrOf}
 use Rattle.std.specs.List.{AllByRecursion}
 use Rattle.std.specs.declared.alloc.Global.{Global}
 use Rattle.record_log.specs.Device.{IsDurable, IsPartlyCut, IsTorn, IsQuiet, HasCause}
@@ -64,9 +64,7 @@ pub record IsAtRest (n : ℕ) (file : List ℕ) (records : List (List ℕ)) : Ty
 -- It says that the device failed, or that no memory was left.
 abbrev pub IsDeviceError : LogError → Type 0
 IsDeviceError (Device error) = Unit {0}
-IsDeviceError Full = ⊥
-IsDeviceError NotALog = ⊥
-IsDeviceError Corrupt = ⊥
+IsDeviceError error = ⊥
 
 -- Why a file is refused: it doesn't begin like a log, or no records are behind its header.
 abbrev pub IsRefused : List ℕ → LogError → Type 0
@@ -88,6 +86,11 @@ module _ {D : Type 0} (is_modelled : Bool) (seen : D → List ℕ) (may_leave : 
       pub quiet : IsTrue is_modelled → IsQuiet seen may_leave moment left_since old new
       pub cause : IsTrue is_modelled → HasCause faults old new result (Device Failed)
       pub full : IsErrOf result Full → IsFull
+
+    -- A call writes a log of these records beside, and returns where the last one ends. At `Full` they take 2^62 bytes.
+    pub record WritesLogBeside (result : Result ℕ LogError) (records : List (List ℕ)) : Type 0 where
+      pub end : IfOk result (λ end. end ≡ length (front records))
+      pub beside : WritesBeside result (2 ^ 62 ≤ length (front records))
 
 -- Whatever records the old file holds, the new one holds.
 abbrev pub HoldsTheSame : List ℕ → List ℕ → Type 0

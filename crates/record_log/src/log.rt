@@ -3,7 +3,7 @@
 ghost use Rattle.std.specs.Prelude.{◌≡◌, ◌⊎◌, ◌<◌, ◌≤◌, ◌^◌, [], ◌∷◌, ◌++◌, List, ℕ, IfOk, IfErr, OnOk, IsTrue, length};
 ghost use Rattle.std.specs.List.{AllByRecursion};
 ghost use Rattle.record_log.specs.Device.{IsDurable, LeavesOnly};
-ghost use Rattle.record_log.specs.Format.{front, Fits, Holds, HoldsBeforeOrAfter, HoldsEither};
+ghost use Rattle.record_log.specs.Format.{front, Fits, Holds, HoldsEither};
 ghost use Rattle.record_log.specs.Log.{contents, device_of, Keeps, IsSettled, IsDeviceError, IsRefused, HoldsTheSame, SaysWhy};
 
 use crate::device::{Device, DeviceError};
@@ -89,7 +89,7 @@ impl<D: Device> Log<D> {
         ensures any_moment { IsTrue D.is_modelled → (records : List (List ℕ))
             → Keeps D.seen D.may_leave self.old records
             → LeavesOnly D.moment D.left_since (device_of self.old) (device_of self.new)
-            (HoldsBeforeOrAfter records bytes.now) }
+            (HoldsEither records (records ++ bytes.now ∷ [])) }
         ensures err { SaysWhy D.is_modelled D.faults (device_of self.old) (device_of self.new)
             result (2 ^ 62 ≤ self.old.end) }
     {

@@ -1,10 +1,10 @@
 //! Rewriting: a log is written anew beside the old one, and takes its place.
 
-ghost use Rattle.std.specs.Prelude.{◌≡◌, ◌⊎◌, ◌+◌, ◌≤◌, ◌^◌, [], ◌∷◌, ◌++◌, length, IfOk, OnOk, IsTrue};
+ghost use Rattle.std.specs.Prelude.{◌≡◌, ◌⊎◌, ◌+◌, [], ◌∷◌, ◌++◌, length, IfOk, OnOk, IsTrue};
 ghost use Rattle.std.specs.List.{AllByRecursion};
 ghost use Rattle.record_log.specs.Device.{IsDurable, IsQuiet, HasCause, EndsOnDisk};
 ghost use Rattle.record_log.specs.Format.{header, frame, front, Fits};
-ghost use Rattle.record_log.specs.Log.{contents, WritesBeside};
+ghost use Rattle.record_log.specs.Log.{contents, WritesBeside, WritesLogBeside};
 
 use crate::device::{Device, DeviceError};
 use crate::error::LogError;
@@ -43,12 +43,11 @@ fn put<D: Device>(alloc: Global, device: &mut D, bytes: &[u8]) -> Result<usize, 
 fn put_all<D: Device>(alloc: Global, device: &mut D, records: &[Vec<u8>]) -> Result<usize, LogError>
     requires size { AllByRecursion Fits (contents records.now) }
     requires begun { IsTrue D.is_modelled → D.beside device.old ≡ header }
-    ensures end { IfOk result (λ end. end ≡ length (front (contents records.now))) }
     ensures records { IsTrue D.is_modelled
         → OnOk result (D.beside device.new ≡ front (contents records.now)) }
-    ensures beside { WritesBeside D.is_modelled D.seen D.may_leave D.moment D.left_since D.faults
+    ensures log { WritesLogBeside D.is_modelled D.seen D.may_leave D.moment D.left_since D.faults
         device.old device.new result
-        (2 ^ 62 ≤ length (front (contents records.now))) }
+        (contents records.now) }
 {
     let mut end = HEADER.len();
     for bytes in records {
@@ -67,14 +66,13 @@ pub(crate) fn write_beside<D: Device>(
     records: &[Vec<u8>],
 ) -> Result<usize, LogError>
     requires { AllByRecursion Fits (contents records.now) }
-    ensures end { IfOk result (λ end. end ≡ length (front (contents records.now))) }
     ensures records { IsTrue D.is_modelled
         → OnOk result (D.beside device.new ≡ front (contents records.now) ++ 0 ∷ []) }
     ensures durable { IsTrue D.is_modelled
         → OnOk result (IsDurable (D.beside device.new) (D.beside_may_leave device.new)) }
-    ensures beside { WritesBeside D.is_modelled D.seen D.may_leave D.moment D.left_since D.faults
+    ensures log { WritesLogBeside D.is_modelled D.seen D.may_leave D.moment D.left_since D.faults
         device.old device.new result
-        (2 ^ 62 ≤ length (front (contents records.now))) }
+        (contents records.now) }
 {
     begin(device)?;
     let end = put_all(alloc, device, records)?;

@@ -6,9 +6,13 @@ use Rattle.triple_ord.specs.{Tree.Tree, Shape.missing}
 use Rattle.triple_ord.specs.Arena.{item_of}
 use Rattle.triple_ord.proofs.CallerLemmas.{found-written as found-there, others-written as others-there}
 use Rattle.sorted_arena.specs.Sorted.{Sorted, count, pair_of, with_value}
--- the pointers of the first entry, of the last, and of an entry's successor; what a pointer finds; pairs behind all entries
-pub use Rattle.sorted_arena.proofs.Cutting.{first-named, last-named, last-none, next-here, found-here}
+-- the pointers of the first entry, of the last, and of an entry's neighbours; what a pointer finds; what is left without it; pairs behind
+-- all entries
+pub use Rattle.sorted_arena.proofs.Cutting.{first-named, last-named, last-none, next-here, prev-here, found-here, without-here}
 pub use Rattle.sorted_arena.proofs.Extending.{appended}
+-- what is true of each element, and of all entries but one
+pub use Rattle.sorted_arena.proofs.Elements.{all-append, all-front, all-back, all-between, all-both, filter-all, filter-none}
+pub use Rattle.sorted_arena.proofs.Cutting.{distinct-rest, recursion-without}
 
 module _ {K V : Type 0} (a : Sorted K V) (p : ℕ × ℕ) (v : V) where
   -- an ordered arena of these entries

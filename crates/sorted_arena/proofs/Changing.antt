@@ -1,5 +1,5 @@
 -- What insertions and removals make of a sorted arena.
-use Rattle.std.proofs.Common.{◌≡◌, ℕ, ◌+◌, ◌<◌, ◌≤◌, max, ◌++◌, List, [], ◌∷◌, length, Option, Some, None, Result, Ok, Err, IfSome, OnOk, OnErr, IfOk, subst, refl, sym, ap, ◌∙◌, inr, arith}
+use Rattle.std.proofs.Common.{◌≡◌, ℕ, ◌+◌, ◌<◌, ◌≤◌, max, ◌++◌, List, [], ◌∷◌, length, Option, Some, None, Result, Ok, Err, IfSome, OnOk, OnErr, IfOk, subst, refl, sym, ap, ◌∙◌, inr, arith, append-nil}
 use Rattle.std.proofs.lemmas.{List.Elements.All-from_recursion}
 use Rattle.std.specs.Cmp.{IsTotalOrder}
 use Rattle.std.specs.Prelude.{IsErr, ◌↔◌}
@@ -22,7 +22,6 @@ use Rattle.triple_ord.specs.Rekey.{Rekeys as RekeysArena}
 use Rattle.triple_ord.proofs.CallerLemmas.{kept_order, rekeyed_order, in_order-without, all_less, IsInOrder-back}
 use Rattle.sorted_arena.specs.Layout.{item_key, sorted_of, IsSortedArena, IsHeld, IsCompact}
 use Rattle.sorted_arena.proofs.Numbering.{none-behind, compact-inserted, compact-roomy, compact-resized, greatest-numbered, vacant-numbered}
-use Rattle.sorted_arena.proofs.Cutting.{append-nil}
 use Rattle.sorted_arena.specs.Sorted.{Inserts, Rekeys, Updates, IsSound}
 use Rattle.sorted_arena.proofs.Cutting.{sorted-in_order, in_order-sorted, sorted-without, all_at_most, greater}
 
@@ -147,32 +146,15 @@ module _ {K V : Type 0} (cmp : K → K → Ordering) (total : IsTotalOrder cmp) 
     }
 
   -- by what the call on the ordered arena tells
-  module _ (result : Result K K) (moved : OnOk result (IfSome named (λ pair. RekeysArena item_key cmp old p (k, pair.1) new)))
-      (before : IfOk result (λ before. option_map (λ pair. pair.0) named ≡ Some before)) where
-    pub rekeys-told : OnOk result (Rekeys cmp (sorted_of old) p k (sorted_of new))
-    rekeys-told = go result moved before
-      where
-        by : (o : Option (K × V)) → named ≡ o → (was : K) → IfSome o (λ pair. RekeysArena item_key cmp old p (k, pair.1) new) → option_map (λ pair. pair.0) o ≡ Some was
-            → Rekeys cmp (sorted_of old) p k (sorted_of new)
-        by None is was moved before = absurd (cc)
-        by (Some pair) is was moved before = rekeys_moved pair moved is
+  told-pair : (o : Option (K × V)) → named ≡ o → (was : K) → IfSome o (λ pair. RekeysArena item_key cmp old p (k, pair.1) new) → option_map (λ pair. pair.0) o ≡ Some was
+      → Rekeys cmp (sorted_of old) p k (sorted_of new) × IsSortedArena cmp new
+  told-pair None is was moved before = absurd (cc)
+  told-pair (Some pair) is was moved before = (rekeys_moved pair moved is, arena_moved pair moved)
 
-        go : (r : Result K K) → OnOk r (IfSome named (λ pair. RekeysArena item_key cmp old p (k, pair.1) new)) → IfOk r (λ before. option_map (λ pair. pair.0) named ≡ Some before)
-            → OnOk r (Rekeys cmp (sorted_of old) p k (sorted_of new))
-        go (Ok was) moved before = by named refl was moved before
-        go (Err back) moved before = tt
-
-    pub arena-told : OnErr result (new ≡ old) → IsSortedArena cmp new
-    arena-told same = go result moved before same
-      where
-        by : (o : Option (K × V)) → (was : K) → IfSome o (λ pair. RekeysArena item_key cmp old p (k, pair.1) new) → option_map (λ pair. pair.0) o ≡ Some was → IsSortedArena cmp new
-        by None was moved before = absurd (cc)
-        by (Some pair) was moved before = arena_moved pair moved
-
-        go : (r : Result K K) → OnOk r (IfSome named (λ pair. RekeysArena item_key cmp old p (k, pair.1) new)) → IfOk r (λ before. option_map (λ pair. pair.0) named ≡ Some before)
-            → OnErr r (new ≡ old) → IsSortedArena cmp new
-        go (Ok was) moved before same = by named was moved before
-        go (Err back) moved before same = subst (λ (a : Tree (K × V)). IsSortedArena cmp a) (sym same) holds
+  pub rekeys-told : (r : Result K K) → OnOk r (IfSome named (λ pair. RekeysArena item_key cmp old p (k, pair.1) new)) → IfOk r (λ before. option_map (λ pair. pair.0) named ≡ Some before)
+      → OnErr r (new ≡ old) → OnOk r (Rekeys cmp (sorted_of old) p k (sorted_of new)) × IsSortedArena cmp new
+  rekeys-told (Ok was) moved before same = told-pair named refl was moved before
+  rekeys-told (Err back) moved before same = (tt, subst (λ (a : Tree (K × V)). IsSortedArena cmp a) (sym same) holds)
 
 -- a call that is refused leaves an arena compact
 pub compact-refused : {T X E : Type 0} (old new : Tree T) (r : Result X E) → OnErr r (new ≡ old) → IsErr r → IsCompact old.list → IsCompact new.list

@@ -1,6 +1,6 @@
 -- Lists of entries that are cut at a place: what the words of a sorted arena say there.
 use Rattle.std.proofs.Common.{◌≡◌, ◌≢◌, ℕ, ◌==◌, true, false, Bool, List, [], ◌∷◌, ◌++◌, map, length, length-append, append_assoc, Option, Some, None, Result, Ok, Err, OnOk, IsSome, IfSome, IfNone, IsSomeAnd, OnSome, is_some, refl, sym, ap, subst, ◌∙◌, arith, inl, inr, if◌then◌else◌}
-use Rattle.std.proofs.{lemmas.Grind.common_steps, lemmas.List.Elements.All-from_recursion, lemmas.List.Elements.recursion_from_All}
+use Rattle.std.proofs.{lemmas.Grind.common_steps, lemmas.List.append-nil, lemmas.List.Elements.All-from_recursion, lemmas.List.Elements.recursion_from_All}
 use Rattle.std.proofs.lemmas.Bool.Decides.{eqb_tells}
 use Rattle.std.specs.{List.AllByRecursion, List.All, Option.option_map, Ordering.is_eq, Ordering.is_le, Ordering.is_lt, Ordering.is_gt, Ordering.ordering_reverse, Ordering.ordering_then, Cmp.IsTotalOrder}
 use Rattle.std.specs.declared.cmp.Ordering.{Ordering, TheVariants.Less, TheVariants.Equal, TheVariants.Greater}
@@ -10,17 +10,9 @@ use Rattle.triple_ord.specs.{Gap.Gap, Gap.before, Gap.after, Gap.first_of, Gap.l
 use Rattle.triple_ord.proofs.CallerLemmas.{IsInOrder-rest, IsInOrder-back, in_order-one, in_order-more, all_greater, all_less, recursion-map}
 use Rattle.triple_ord.proofs.CallerLemmas.{ends, stands, not_before, entry_at-here, link-read, no_last}
 use Rattle.triple_ord.proofs.ChainLemmas.{entry_at-link}
-use Rattle.sorted_arena.specs.Sorted.{key_of, first_item, pointer_of, first_where, next_of, prev_from, prev_of, last_item, before_last, AreSorted}
+use Rattle.sorted_arena.specs.Find.{FindsFirst}
+use Rattle.sorted_arena.specs.Sorted.{Sorted, IsSound, key_of, first_item, pointer_of, first_where, next_of, prev_from, prev_of, last_item, before_last, AreSorted}
 use Rattle.sorted_arena.specs.Layout.{item_key, pointer_among}
-
-module _ {X : Type 0} where
-  pub append-nil : (xs : List X) → xs ++ [] ≡ xs
-  append-nil [] = refl
-  append-nil (x ∷ xs) = ap (λ ys. x ∷ ys) (append-nil xs)
-
-  pub recursion-append : (P : X → Type 0) (xs ys : List X) → AllByRecursion P xs → AllByRecursion P ys → AllByRecursion P (xs ++ ys)
-  recursion-append P [] ys all others = others
-  recursion-append P (x ∷ xs) ys all others = (all.0, recursion-append P xs ys all.1 others)
 
 -- what a test tells of an option
 pub absent : {X : Type 0} (b : Bool) (o : Option X) → b ≡ is_some o → b ≡ false → o ≡ None
@@ -79,16 +71,8 @@ eq_is Equal is = refl
 eq_is Less is = absurd (cc)
 eq_is Greater is = absurd (cc)
 
-not_eq : (o : Ordering) → is_eq o ≡ false → o ≢ Equal
+pub not_eq : (o : Ordering) → is_eq o ≡ false → o ≢ Equal
 not_eq o is equal = absurd (let both : is_eq o ≡ true = ap is_eq equal in cc)
-
-pub OnOk-followed : {U E P Q : Type 0} (r : Result U E) → (P → Q) → OnOk r P → OnOk r Q
-OnOk-followed (Ok u) follows holds = follows holds
-OnOk-followed (Err e) follows holds = tt
-
-pub OnSome-followed : {X : Type 0} {P Q : Type 0} (o : Option X) → (P → Q) → OnSome o P → OnSome o Q
-OnSome-followed None follows holds = tt
-OnSome-followed (Some x) follows holds = follows holds
 
 module _ {K V : Type 0} where
   -- the first entry that passes a test, behind entries that don't
@@ -153,7 +137,7 @@ module _ {K V : Type 0} where
   prev-nowhere o [] p none = refl
   prev-nowhere o (e ∷ es) p none = grind (arith, common_steps, prev-nowhere (Some (pointer_of e)) es p)
 
-  distinct-rest : (e : Entry (K × V)) (es : List (Entry (K × V))) → IsDistinct (e ∷ es) → IsDistinct es
+  pub distinct-rest : (e : Entry (K × V)) (es : List (Entry (K × V))) → IsDistinct (e ∷ es) → IsDistinct es
   distinct-rest e es distinct i = omega (arith, distinct i)
 
   pub next-absent : (es : List (Entry (K × V))) (p : ℕ × ℕ) → IsDistinct es → item_of es p ≡ None → next_of es p ≡ None
@@ -195,6 +179,14 @@ module _ {K V : Type 0} where
   without-behind : (front : List (Entry (K × V))) (e : Entry (K × V)) (back : List (Entry (K × V))) → times e.index front ≡ 0 → without e.index (front ++ e ∷ back) ≡ front ++ back
   without-behind [] e back none = grind (arith, common_steps)
   without-behind (f ∷ front) e back none = grind (arith, common_steps, without-behind front e back)
+
+  -- what is true of all entries is true of all but one
+  pub recursion-without : (P : Entry (K × V) → Type 0) (i : ℕ) (es : List (Entry (K × V))) → AllByRecursion P es → AllByRecursion P (without i es)
+  recursion-without P i [] all = tt
+  recursion-without P i (e ∷ es) all = elim (e.index == i) as (λ b. AllByRecursion P (if b then es else e ∷ without i es)) [
+    | true ↦ all.1
+    | false ↦ (all.0, recursion-without P i es all.1)
+  ]
 
   pub first-named : (es : List (Entry (K × V))) (p : ℕ × ℕ) → Some p ≡ first_pointer es → item_of es p ≡ first_item es
   first-named [] p first = absurd (cc)
@@ -289,15 +281,6 @@ module _ {K V : Type 0} where
           let none : entry_at es p.0 ≡ None = entry_at-link None None es p.0 ∙ ap (option_map (λ (e : ℕ × Link (K × V)). (e.0, e.1.item))) (sym missing) in
           absurd (let lost : IsSome {T = ℕ × (K × V)} None = subst (λ (o : Option (ℕ × (K × V))). IsSome o) none occupied in cc)
 
-    -- the first entry that passes a test of its key
-    pub found-where : (test : K → Bool) (Q : K → Type 0) → ((k : K) → test k ≡ true → Q k) → {P : Type 0} (numbers : P → ℕ × ℕ) (o : Option P)
-        → option_map numbers o ≡ first_where (λ e. test (key_of e)) es → IfSome o (λ p. IsSomeAnd (item_of es (numbers p)) (λ x. Q x.0))
-    found-where test Q follows numbers None is = tt
-    found-where test Q follows numbers (Some p) is =
-        let cut = cut-where (λ e. test (key_of e)) es (numbers p) (sym is) in
-        let found : item_of es (numbers p) ≡ Some cut.entry.item = ap (item_of es) cut.named ∙ found-here cut.front cut.entry cut.back cut.cut in
-        rw found (follows (key_of cut.entry) cut.passes)
-
     -- the last entry
     pub last-named : (p : ℕ × ℕ) → last_pointer es ≡ Some p → (item_of es p ≡ last_item es) × (without p.0 es ≡ before_last es)
     last-named p last = go (last_of None es) refl
@@ -312,6 +295,24 @@ module _ {K V : Type 0} where
                   ∙ sym (ap before_last cut.1 ∙ before_last-end cut.0 e),
             )
 
+-- what a search by key promises, by the pointer that it finds
+module _ {K V P : Type 0} (cmp : K → K → Ordering) (most : ℕ) (numbers : P → ℕ × ℕ) (a : Sorted K V) (sound : IsSound cmp most a) (k : K) (test : Ordering → Bool)
+    (Passes Fails : Ordering → Type 0) (passes : (o : Ordering) → test o ≡ true → Passes o) (fails : (o : Ordering) → test o ≡ false → Fails o) where
+  abbrev tested : Entry (K × V) → Bool
+  tested e = test (cmp k (key_of e))
+
+  pub finds-first : (r : Option P) → option_map numbers r ≡ first_where tested a.entries → FindsFirst cmp most numbers a k test Passes Fails r
+  finds-first None is = record {
+    value = is;
+    finds = tt;
+    none = All-from_recursion _ a.entries (recursion-map _ (λ e. Fails (cmp k (key_of e))) (λ e. fails (cmp k (key_of e))) a.entries (none-where tested a.entries (sym is)));
+    sound = sound;
+  }
+  finds-first (Some p) is =
+      let cut = cut-where tested a.entries (numbers p) (sym is) in
+      let found : item_of a.entries (numbers p) ≡ Some cut.entry.item = ap (item_of a.entries) cut.named ∙ found-here a.entries sound.distinct cut.front cut.entry cut.back cut.cut in
+      record { value = is; finds = rw found (passes (cmp k (key_of cut.entry)) cut.passes); none = tt; sound = sound }
+
 -- a key isn't greater than itself
 not_greater-itself : {K : Type 0} (cmp : K → K → Ordering) → IsTotalOrder cmp → (k : K) → cmp k k ≢ Greater
 not_greater-itself cmp total k is = let other : Greater ≡ Less = sym is ∙ total.antisymm k k ∙ ap ordering_reverse is in cc
@@ -323,13 +324,6 @@ module _ {K V : Type 0} (cmp : K → K → Ordering) where
   sorted-in_order (e ∷ []) sorted = in_order-one item_key cmp e
   sorted-in_order (e ∷ f ∷ es) sorted =
       in_order-more item_key cmp e f es (recursion_from_All (λ x. cmp (key_of e) (key_of x) ≢ Greater) (f ∷ es) sorted.0).0 (sorted-in_order (f ∷ es) sorted.1)
-
-  recursion-without : (P : Entry (K × V) → Type 0) (i : ℕ) (es : List (Entry (K × V))) → AllByRecursion P es → AllByRecursion P (without i es)
-  recursion-without P i [] all = tt
-  recursion-without P i (e ∷ es) all = elim (e.index == i) as (λ b. AllByRecursion P (if b then es else e ∷ without i es)) [
-    | true ↦ all.1
-    | false ↦ (all.0, recursion-without P i es all.1)
-  ]
 
   pub sorted-without : (i : ℕ) (es : List (Entry (K × V))) → AreSorted cmp es → AreSorted cmp (without i es)
   sorted-without i [] sorted = tt
@@ -392,17 +386,6 @@ module _ {K V : Type 0} (cmp : K → K → Ordering) where
             sorted-written p.0 x.0 x.1 w e.0 es (at ∙ ap (λ y. Some (e.0, y)) same) sorted
         | inr h ↦ absurd (let lost : item_of es p ≡ None = rw (at, h.0) refl in cc)
       ]
-
-  -- where no entry has a key of at least k
-  pub all-less : (k : K) (es : List (Entry (K × V))) {P : Type 0} (numbers : P → ℕ × ℕ) (o : Option P) → option_map numbers o ≡ first_where (λ e. is_le (cmp k (key_of e))) es
-      → IfNone o (All (λ e. cmp k (key_of e) ≡ Greater) es)
-  all-less k es numbers None is = All-from_recursion _ es (recursion-map _ (λ e. cmp k (key_of e) ≡ Greater) (λ e. not_le (cmp k (key_of e))) es (none-where (λ e. is_le (cmp k (key_of e))) es (sym is)))
-  all-less k es numbers (Some p) is = tt
-
-  pub all-at-most : (k : K) (es : List (Entry (K × V))) {P : Type 0} (numbers : P → ℕ × ℕ) (o : Option P) → option_map numbers o ≡ first_where (λ e. is_lt (cmp k (key_of e))) es
-      → IfNone o (All (λ e. cmp k (key_of e) ≢ Less) es)
-  all-at-most k es numbers None is = All-from_recursion _ es (recursion-map _ (λ e. cmp k (key_of e) ≢ Less) (λ e. lt_not (cmp k (key_of e))) es (none-where (λ e. is_lt (cmp k (key_of e))) es (sym is)))
-  all-at-most k es numbers (Some p) is = tt
 
   module _ (total : IsTotalOrder cmp) where
     behind : (k : K) (f : Entry (K × V)) (es : List (Entry (K × V))) → cmp k (key_of f) ≢ Greater → IsInOrder item_key cmp (f ∷ es)
@@ -506,12 +489,6 @@ module _ {K V : Type 0} (cmp : K → K → Ordering) where
             let first : IfSome (after met.gap) (λ e. is_equal e ≡ true) = rw (met.here) (ap is_eq met.equal) in
             sym (ap (first_where is_equal) met.gap.cut ∙ first_where-skip is_equal met.gap.front met.gap.back low ∙ first_where-first is_equal met.gap.back first
             ∙ ap (option_map pointer_of) met.here ∙ ap (λ q. Some q) (sym h.1))
-
-        pub absent-equal : {P : Type 0} (numbers : P → ℕ × ℕ) (o : Option P) (c : ℕ) → FindsKey item_key cmp es k (option_map numbers o) c
-            → IfNone o (All (λ e. cmp k (key_of e) ≢ Equal) es)
-        absent-equal numbers None c h =
-            All-from_recursion _ es (recursion-map _ (λ e. cmp k (key_of e) ≢ Equal) (λ e. not_eq (cmp k (key_of e))) es (none-where is_equal es (sym (found-equal None c h))))
-        absent-equal numbers (Some p) c h = tt
 
         -- the first entry at or behind a place at which all before it are less
         bound-at : (gap : Gap es) → IfSome (before gap) (λ e. order_to item_key cmp k e ≡ Greater) → IfSome (after gap) (λ e. is_at_least e ≡ true)

@@ -1,15 +1,17 @@
 -- Pairs that are inserted behind the last key.
-use Rattle.std.proofs.Common.{◌≡◌, ◌≢◌, ℕ, suc, slice_index_or, slice_get, ◌++◌, List, [], ◌∷◌, map, length, length-append, arith, ◌+◌, true, false, Option, Some, None, IsSomeAnd, refl, sym, ap, subst, ◌∙◌, append_assoc}
+use Rattle.std.proofs.Common.{◌≡◌, ◌≢◌, ℕ, suc, slice_index_or, slice_get, ◌++◌, List, [], ◌∷◌, map, length, length-append, arith, ◌+◌, true, false, Option, Some, None, Err, IsSomeAnd, refl, sym, ap, subst, ◌∙◌, append_assoc, append-nil}
 use Rattle.std.proofs.{lemmas.List.map-append, lemmas.List.length-map, lemmas.List.Elements.recursion_from_All}
 use Rattle.std.specs.{Option.option_map_or, List.AllByRecursion, List.AllAdjacentBelow, Ordering.is_gt, Ordering.ordering_reverse, Cmp.IsTotalOrder}
 use Rattle.std.specs.declared.cmp.Ordering.{Ordering, TheVariants.Less, TheVariants.Greater}
 use Rattle.triple_ord.specs.Chain.{Entry}
 use Rattle.triple_ord.specs.Gap.{last_of}
-use Rattle.sorted_arena.specs.Sorted.{Sorted, key_of, item_of, last_item, Inserts, AreSorted, AreInOrder}
+use Rattle.sorted_arena.specs.Change.{ExtendsSorted}
+use Rattle.sorted_arena.specs.declared.error.SortedError.{SortedError, TheVariants.OutOfOrder, TheVariants.BeyondMaxCapacity, TheVariants.AllocError}
+use Rattle.sorted_arena.specs.Sorted.{Sorted, count, key_of, item_of, last_item, Inserts, Keeps, AreSorted, AreInOrder, IsOutOfOrder}
 use Rattle.sorted_arena.specs.Layout.{item_key}
 use Rattle.triple_ord.specs.Order.{IsInOrder}
 use Rattle.triple_ord.proofs.CallerLemmas.{IsInOrder-rest, in_order-one, in_order-more}
-use Rattle.sorted_arena.proofs.Cutting.{gt_is, append-nil, sorted-in_order, in_order-sorted, sorted-items}
+use Rattle.sorted_arena.proofs.Cutting.{gt_is, sorted-in_order, in_order-sorted, sorted-items}
 
 module _ {X : Type 0} where
   pub cut_more : (all xs ys zs : List X) (x : X) → all ≡ xs ++ ys → ys ≡ x ∷ zs → all ≡ (xs ++ x ∷ []) ++ zs
@@ -147,3 +149,18 @@ module _ {K V : Type 0} (cmp : K → K → Ordering) where
     -- entries with items that are in order
     pub sorted-listed : (es : List (Entry (K × V))) (items : List (K × V)) → map item_of es ≡ items → AreInOrder cmp items → AreSorted cmp es
     sorted-listed es items is order = sorted-items cmp es order.0 (is ∙ sym order.1) order.2
+
+-- pairs were inserted up to one that is refused
+module _ {K V : Type 0} (cmp : K → K → Ordering) (most : ℕ) (old now : Sorted K V) (pairs front back : List (K × V)) (cut : pairs ≡ front ++ back)
+    (held : map item_of now.entries ≡ map item_of old.entries ++ front) (keeps : Keeps old now) (generation : now.generation ≡ old.generation) where
+  pub stopped : (e : SortedError) → ((at : ℕ) → e ≡ OutOfOrder at → IsOutOfOrder cmp (map item_of old.entries) pairs at) → (e ≡ BeyondMaxCapacity → count now ≡ most)
+      → (e ≡ AllocError → count now ≡ now.capacity) → ExtendsSorted cmp most old pairs (Err e) now
+  stopped e unsorted full memory = record {
+    ok = tt;
+    unsorted = λ at is. unsorted at (cc);
+    part = (front, back, cut, held);
+    kept = keeps;
+    generation = generation;
+    full = λ is. full (cc);
+    memory = λ is. memory (cc);
+  }

@@ -1,12 +1,13 @@
 -- The neighbours of an entry: their pointers name entries, and their keys are in order.
-use Rattle.std.proofs.Common.{◌≡◌, ◌≢◌, ℕ, List, [], ◌∷◌, ◌++◌, append_assoc, Option, Some, None, IsSome, IfSome, IsSomeAnd, is_some, refl, sym, ap, subst, ◌∙◌}
+use Rattle.std.proofs.Common.{◌≡◌, ◌≢◌, ℕ, List, [], ◌∷◌, ◌++◌, append_assoc, Option, Some, None, IsSome, IsSomeAnd, is_some, refl, sym, ap, subst, ◌∙◌}
 use Rattle.std.proofs.lemmas.List.Elements.{recursion_from_All}
 use Rattle.std.specs.Option.{option_map}
 use Rattle.std.specs.declared.cmp.Ordering.{Ordering, TheVariants.Greater}
 use Rattle.triple_ord.specs.Chain.{Entry, IsDistinct, item_of}
 use Rattle.triple_ord.specs.Gap.{first_of, last_of}
 use Rattle.triple_ord.proofs.CallerLemmas.{ends}
-use Rattle.sorted_arena.specs.Sorted.{key_of, pointer_of, next_of, prev_of, AreSorted}
+use Rattle.sorted_arena.specs.Find.{FindsNeighbour}
+use Rattle.sorted_arena.specs.Sorted.{Sorted, key_of, pointer_of, next_of, prev_of, AreSorted, IsSound}
 use Rattle.sorted_arena.proofs.Cutting.{some-same, CutAt, cut-at, next-here, prev-here, next-absent, prev-absent, found-here}
 
 module _ {K V : Type 0} (cmp : K → K → Ordering) where
@@ -79,22 +80,16 @@ module _ {K V : Type 0} (cmp : K → K → Ordering) where
                     let other : item_of es q ≡ Some d.item = subst (λ r. item_of es r ≡ Some d.item) of (found-here es distinct low.0 d (c.entry ∷ c.back) cut) in
                     there q c.entry d (λ k l. cmp l k ≢ Greater) own other (in-order low.0 d c.entry c.back (subst (AreSorted cmp) cut sorted))
 
-    -- by the pointers themselves
-    module _ {P : Type 0} (numbers : P → ℕ × ℕ) where
-      pub next-named : (o : Option P) → option_map numbers o ≡ next_of es p → IfSome o (λ q. IsSome (item_of es (numbers q)))
-      next-named None is = tt
-      next-named (Some q) is = (next-stands (numbers q) (sym is)).named
+  -- what the calls for a neighbour promise
+  module _ (most : ℕ) (a : Sorted K V) (sound : IsSound cmp most a) (p : ℕ × ℕ) {P : Type 0} (numbers : P → ℕ × ℕ) where
+    pub next-found : (o : Option P) → option_map numbers o ≡ next_of a.entries p → FindsNeighbour cmp most numbers a (λ k l. cmp k l ≢ Greater) (next_of a.entries p) o p
+    next-found None is = record { value = is; named = tt; in_order = tt; sound = sound }
+    next-found (Some q) is =
+        let next = next-stands a.entries sound.distinct sound.sorted p (numbers q) (sym is) in
+        record { value = is; named = next.named; in_order = next.ordered; sound = sound }
 
-      pub next-ordered : (o : Option P) → option_map numbers o ≡ next_of es p
-          → IfSome o (λ q. IsSomeAnd (item_of es p) (λ x. IsSomeAnd (item_of es (numbers q)) (λ y. cmp x.0 y.0 ≢ Greater)))
-      next-ordered None is = tt
-      next-ordered (Some q) is = (next-stands (numbers q) (sym is)).ordered
-
-      pub prev-named : (o : Option P) → option_map numbers o ≡ prev_of es p → IfSome o (λ q. IsSome (item_of es (numbers q)))
-      prev-named None is = tt
-      prev-named (Some q) is = (prev-stands (numbers q) (sym is)).named
-
-      pub prev-ordered : (o : Option P) → option_map numbers o ≡ prev_of es p
-          → IfSome o (λ q. IsSomeAnd (item_of es p) (λ x. IsSomeAnd (item_of es (numbers q)) (λ y. cmp y.0 x.0 ≢ Greater)))
-      prev-ordered None is = tt
-      prev-ordered (Some q) is = (prev-stands (numbers q) (sym is)).ordered
+    pub prev-found : (o : Option P) → option_map numbers o ≡ prev_of a.entries p → FindsNeighbour cmp most numbers a (λ k l. cmp l k ≢ Greater) (prev_of a.entries p) o p
+    prev-found None is = record { value = is; named = tt; in_order = tt; sound = sound }
+    prev-found (Some q) is =
+        let prev = prev-stands a.entries sound.distinct sound.sorted p (numbers q) (sym is) in
+        record { value = is; named = prev.named; in_order = prev.ordered; sound = sound }

@@ -1,6 +1,6 @@
 -- Lists whose entries have the indexes from 1 on, and compact chains.
 use Rattle.std.proofs.Common.{◌≡◌, ◌≢◌, ℕ, zero, suc, ◌+◌, ◌-◌, ◌<◌, ◌≤◌, ◌==◌, Bool, true, false, if◌then◌else◌, List, [], ◌∷◌, ◌++◌, map, length, length-append, slice_get, take, drop, Option, Some, refl, sym, ap, subst, ◌∙◌, arith, is_some, inl, inr}
-use Rattle.std.proofs.{lemmas.Bool.cases_eq, lemmas.Bool.eq-eqb, lemmas.Bool.ne_eqb, lemmas.List.length-map}
+use Rattle.std.proofs.{lemmas.Bool.cases_eq, lemmas.Bool.eq-eqb, lemmas.Bool.ne_eqb, lemmas.List.length-map, Math.Seq.take-append_seam, Math.Seq.drop-append_seam}
 use Rattle.std.specs.{List.range_with_len, Option.option_map}
 use Rattle.triple_ord.specs.Chain.{Entry, Chain, times, entry_at, without, with_item_among, greatest_index, vacant_among, vacant_indexes, with_capacity, last_pointer, inserted_at, next_index, grown_capacity, IsSound}
 use Rattle.triple_ord.specs.{ChainCompression.numbered, ChainCompression.canonical, Insert.IsInsertion}
@@ -123,9 +123,7 @@ module _ {T : Type 0} where
 
   -- what is between two cuts
   pub run-between : (front middle back : List (Entry T)) → take (length middle) (drop (length front) (front ++ (middle ++ back))) ≡ middle
-  run-between [] [] back = refl
-  run-between [] (x ∷ middle) back = ap (λ ys. x ∷ ys) (run-between [] middle back)
-  run-between (x ∷ front) middle back = run-between front middle back
+  run-between front middle back = ap (take (length middle)) (drop-append_seam front (middle ++ back)) ∙ take-append_seam middle back
 
 -- compact chains
 module _ {T : Type 0} where

@@ -1,6 +1,6 @@
 -- The entries whose keys are outside a range, and those in it, where a sorted list is cut at its ends.
 use Rattle.std.proofs.Common.{◌≡◌, true, false, Bool, not, ◌&&◌, filter, List, [], ◌∷◌, ◌++◌, refl, sym, ap, ◌∙◌}
-use Rattle.std.proofs.{Common.arith, lemmas.Grind.common_steps, lemmas.List.Elements.All-from_recursion}
+use Rattle.std.proofs.lemmas.List.Elements.{All-from_recursion, filter_agree}
 use Rattle.std.specs.{List.All, List.AllByRecursion, Ordering.is_le, Ordering.is_lt, Ordering.ordering_reverse, Cmp.IsTotalOrder}
 use Rattle.std.specs.declared.cmp.Ordering.{Ordering, TheVariants.Less, TheVariants.Equal, TheVariants.Greater}
 use Rattle.std.specs.declared.ops.Bound.{Bound, TheVariants.Included, TheVariants.Excluded, TheVariants.Unbounded}
@@ -11,11 +11,6 @@ use Rattle.sorted_arena.specs.Sorted.{key_of, entries_until, entries_above, AreS
 use Rattle.triple_ord.proofs.CallerLemmas.{recursion-map}
 use Rattle.sorted_arena.proofs.Cutting.{lt_is}
 use Rattle.sorted_arena.proofs.Ranging.{Stays, inside, inside-in, inside-past, none-inside, from-stays, past-stays}
-
--- two tests that say the same
-filter-same : {X : Type 0} {p q : X → Bool} → ((x : X) → p x ≡ q x) → (xs : List X) → filter p xs ≡ filter q xs
-filter-same same [] = refl
-filter-same {X = X} {p = p} {q = q} same (x ∷ xs) = grind (arith, common_steps, same x, filter-same {X = X} {p = p} {q = q} same xs)
 
 turned : (o : Ordering) → is_le (ordering_reverse o) ≡ not (is_lt o)
 turned Less = refl
@@ -98,7 +93,7 @@ module _ {K V : Type 0} where
 module _ {K V : Type 0} (cmp : K → K → Ordering) (k : K) where
   -- before a key is what isn't from it on
   pub outside-before_key : (es : List (Entry (K × V))) → entries_outside cmp (Included k) Unbounded es ≡ entries_between cmp Unbounded (Excluded k) es
-  outside-before_key es = filter-same (λ e. both (is_le (cmp k (key_of e)))) es
+  outside-before_key es = filter_agree _ _ (λ e. both (is_le (cmp k (key_of e)))) es
     where
       both : (b : Bool) → not (b && not false) ≡ (true && not b)
       both true = refl

@@ -1,5 +1,5 @@
 -- Iterators over lists whose entries have the indexes from 1 on.
-use Rattle.std.proofs.Common.{◌≡◌, ◌≢◌, Bool, true, false, ℕ, zero, suc, ◌+◌, ◌-◌, ◌<◌, ◌≤◌, List, [], ◌∷◌, ◌++◌, length, length-append, append_assoc, slice_get, take, drop, Option, Some, None, is_some, refl, sym, ap, subst, ◌∙◌, arith}
+use Rattle.std.proofs.Common.{◌≡◌, ◌≢◌, Bool, true, false, ℕ, zero, suc, ◌+◌, ◌-◌, ◌^◌, ◌<◌, ◌≤◌, List, [], ◌∷◌, ◌++◌, length, length-append, append_assoc, slice_get, take, drop, Option, Some, None, is_some, refl, sym, ap, subst, ◌∙◌, arith}
 use Rattle.std.specs.{Option.option_map, Iterator.YieldsFirstBy, Iterator.YieldsLastBy}
 use Rattle.triple_ord.specs.Chain.{Entry, entry_at}
 use Rattle.sorted_arena.specs.{Layout.AreNumbered, Place.position_of, Place.left_at, Place.IsPlace, Stretch.stretch, Stretch.first_index, Stretch.IsStretch}
@@ -45,10 +45,10 @@ module _ {T : Type 0} where
 
   -- an iterator over what is between two indexes, whether entries are counted or linked
   module _ (es : List (Entry T)) (first end : Option ℕ) where
-    pub place-stretch : (is_numbered : Bool) → (is_numbered ≡ true → AreNumbered 1 es) → IsStretch es first end
+    pub place-stretch : (is_numbered : Bool) → (is_numbered ≡ true → AreNumbered 1 es) → IsStretch es first end → length es < 2 ^ 64
         → (from to : ℕ) → from ≡ position_of (length es) first → to ≡ position_of (length es) end → IsPlace es is_numbered first end from (to - from)
-    place-stretch true numbered s from to from_is to_is = (numbered refl, (run-stretch es first end (numbered refl) s from to from_is to_is).within)
-    place-stretch false numbered s from to from_is to_is = s
+    place-stretch true numbered s few from to from_is to_is = (numbered refl, (run-stretch es first end (numbered refl) s from to from_is to_is).within, few)
+    place-stretch false numbered s few from to from_is to_is = s
 
     pub gives-stretch : (is_numbered : Bool) → (is_numbered ≡ true → AreNumbered 1 es) → IsStretch es first end
         → (from to : ℕ) → from ≡ position_of (length es) first → to ≡ position_of (length es) end → left_at es is_numbered first end from (to - from) ≡ stretch es first end
@@ -69,7 +69,7 @@ module _ {T : Type 0} where
     pub left-numbered : is_numbered ≡ true → left_at es is_numbered first end from left ≡ take left (drop from es)
     left-numbered is = ap (λ (b : Bool). left_at es b first end from left) is
 
-    pub place-numbered : is_numbered ≡ true → IsPlace es is_numbered first end from left → AreNumbered 1 es × (from + left ≤ length es)
+    pub place-numbered : is_numbered ≡ true → IsPlace es is_numbered first end from left → AreNumbered 1 es × (from + left ≤ length es) × (length es < 2 ^ 64)
     place-numbered is place = subst (λ (b : Bool). IsPlace es b first end from left) is place
 
   -- each position has an entry

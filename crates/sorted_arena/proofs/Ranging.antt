@@ -15,11 +15,8 @@ use Rattle.triple_ord.proofs.CallerLemmas.{in_order-one, in_order-more, all_grea
 use Rattle.sorted_arena.specs.Layout.{item_key}
 use Rattle.sorted_arena.specs.{Range.entries_between, Stretch.stretch, Stretch.IsStretch, Stretch.is_forward}
 use Rattle.sorted_arena.specs.Sorted.{key_of, pointer_of, first_where, AreSorted}
-use Rattle.sorted_arena.proofs.Cutting.{found-here, lt_is, not_le}
+use Rattle.sorted_arena.proofs.Cutting.{some-same, found-here, lt_is, not_le}
 use Rattle.sorted_arena.proofs.Stretching.{stretch-middle}
-
-some-same : {X : Type 0} {x y : X} → Some x ≡ Some y → x ≡ y
-some-same is = cc
 
 -- what runs of an iterator give
 module _ {A X : Type 0} (shows : A → X) where

@@ -1,21 +1,15 @@
 -- Stretches of a list: what a step of an iterator from either end gives, and where it stands then.
 use Rattle.std.proofs.Common.{◌≡◌, ℕ, List, [], ◌∷◌, ◌++◌, append_assoc, Option, Some, None, refl, sym, ap, subst, ◌∙◌, arith}
-use Rattle.std.proofs.lemmas.Grind.{common_steps}
+use Rattle.std.proofs.lemmas.{Grind.common_steps, List.append-nil}
 use Rattle.std.specs.Option.{option_map}
 use Rattle.triple_ord.specs.{Chain.Entry, Chain.times, Chain.IsDistinct, Chain.entry_at, Chain.from_index, Chain.link_at, Chain.first_pointer, Chain.last_pointer, Link.Link}
 use Rattle.triple_ord.proofs.ChainLemmas.{times-append, entry_at-link}
 use Rattle.triple_ord.specs.Gap.{last_of}
 use Rattle.triple_ord.proofs.CallerLemmas.{last_of-append, ends, no_last, link-read, not_before, entry_at-here, from_index-here}
 use Rattle.sorted_arena.specs.Stretch.{before_index, stretch, first_index, IsStretch}
-
-some-same : {X : Type 0} {x y : X} → Some x ≡ Some y → x ≡ y
-some-same is = cc
+use Rattle.sorted_arena.proofs.Cutting.{some-same}
 
 module _ {T : Type 0} where
-  append-none : (xs : List (Entry T)) → xs ++ [] ≡ xs
-  append-none [] = refl
-  append-none (x ∷ xs) = ap (λ ys. x ∷ ys) (append-none xs)
-
   -- the entries before one whose index none of them has
   before-cut : (middle : List (Entry T)) (e : Entry T) (back : List (Entry T)) → times e.index middle ≡ 0 → before_index e.index (middle ++ e ∷ back) ≡ middle
   before-cut [] e back none = grind (arith, common_steps)
@@ -26,7 +20,7 @@ module _ {T : Type 0} where
       → stretch es (first_index (middle ++ back)) (first_index back) ≡ middle
   between-cuts es distinct front [] [] cut = refl
   between-cuts es distinct front [] (f ∷ back) cut = ap (before_index f.index) (from_index-here es distinct front f back cut) ∙ before-cut [] f back refl
-  between-cuts es distinct front (e ∷ middle) [] cut = from_index-here es distinct front e (middle ++ []) cut ∙ append-none (e ∷ middle)
+  between-cuts es distinct front (e ∷ middle) [] cut = from_index-here es distinct front e (middle ++ []) cut ∙ append-nil (e ∷ middle)
   between-cuts es distinct front (e ∷ middle) (f ∷ back) cut =
       let before : times f.index (front ++ (e ∷ middle)) ≡ 0 = not_before es distinct (front ++ (e ∷ middle)) f back (cut ∙ sym (append_assoc front (e ∷ middle) (f ∷ back))) in
       let none : times f.index (e ∷ middle) ≡ 0 = omega (arith, before, times-append f.index front (e ∷ middle)) in
@@ -199,7 +193,7 @@ module _ {T : Type 0} where
         empty (f ∷ back) none = absurd (cc)
 
         whole : es ≡ front
-        whole = cut ∙ ap (λ (xs : List (Entry T)). front ++ xs) (empty back ends) ∙ append-none front
+        whole = cut ∙ ap (λ (xs : List (Entry T)). front ++ xs) (empty back ends) ∙ append-nil front
 
         of_last : (xs : List (Entry T)) → option_map (λ e. e.index) (last_of None xs) ≡ option_map (λ p. p.0) (last_pointer xs)
         of_last [] = refl
@@ -213,7 +207,7 @@ module _ {T : Type 0} where
 
   module _ (es : List (Entry T)) (distinct : IsDistinct es) where
     pub whole-stretch : IsStretch es (option_map (λ p. p.0) (first_pointer es)) None
-    whole-stretch = record { distinct = distinct; front = []; middle = es; back = []; cut = sym (append-none es); begins = first_whole es; ends = refl }
+    whole-stretch = record { distinct = distinct; front = []; middle = es; back = []; cut = sym (append-nil es); begins = first_whole es; ends = refl }
 
     pub whole-stretched : stretch es (option_map (λ p. p.0) (first_pointer es)) None ≡ es
-    whole-stretched = subst (λ (f : Option ℕ). stretch es f None ≡ es) (first_whole es) (between-cuts es distinct [] es [] (sym (append-none es)))
+    whole-stretched = subst (λ (f : Option ℕ). stretch es f None ≡ es) (first_whole es) (between-cuts es distinct [] es [] (sym (append-nil es)))

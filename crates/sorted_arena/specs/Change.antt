@@ -7,15 +7,15 @@ use Rattle.sorted_arena.specs.declared.error.SortedError.{SortedError, TheVarian
 use Rattle.sorted_arena.specs.declared.error.SortedError.TheVariants.{AllocError}
 use Rattle.sorted_arena.specs.Sorted.{Sorted, pair_of, item_of, count, with_rest, Inserts, IsOutOfOrder, IsSound, Keeps, Rekeys, Updates}
 
--- A call that inserts a pair: the new entry's pointer comes back, or the pair, with the reason of its refusal. A refused pair changes
--- nothing.
+-- A call that inserts a pair. `Ok` has the pointer of the new entry. `Err` has the pair and the reason for the refusal, and the arena
+-- is unchanged.
 pub record InsertsPair {K V P E : Type 0} (cmp : K → K → Ordering) (most : ℕ) (numbers : P → ℕ × ℕ)
     (old : Sorted K V) (k : K) (v : V) (result : Result P ((K × V) × E)) (new : Sorted K V) : Type 0 where
   pub ok : IfOk result (λ p. Inserts cmp most old (numbers p) k v new)
   pub updates : IfOk result (λ p. Updates old new (numbers p) (Some (k, v)))
   pub back : IfErr result (λ e. e.0 ≡ (k, v))
   pub err : OnErr result (new ≡ old)
-  pub sound : OnOk result (IsSound cmp most new)
+  pub sound : IsSound cmp most new
   pub count : OnOk result (count new ≡ count old + 1)
 
 -- A call that inserts pairs in order behind all entries, up to the first that is out of order or has no room. Old pointers stay valid.
@@ -39,12 +39,12 @@ pub record ChangesKey {K V E : Type 0} (cmp : K → K → Ordering) (most : ℕ)
   pub sound : IsSound cmp most new
   pub count : count new ≡ count old
 
--- A call that removes an entry: with its key and its value this arena is left, with `None` nothing changes.
+-- A call that removes an entry. With `Some`, this arena is left. With `None`, the arena is unchanged.
 pub record RemovesEntry {K V : Type 0} (cmp : K → K → Ordering) (most : ℕ) (old left : Sorted K V)
     (result : Option (K × V)) (new : Sorted K V) : Type 0 where
   pub gone : OnSome result (new ≡ left)
   pub none : IfNone result (new ≡ old)
-  pub sound : OnSome result (IsSound cmp most new)
+  pub sound : IsSound cmp most new
   pub count : OnSome result (count old ≡ count new + 1)
 
 -- A call that removes all entries but these, and returns how many it removed.

@@ -1,28 +1,48 @@
--- What searches by key find in a sorted arena: the pointer of the first entry that they look for, or `None`, if there is no such entry.
-use Rattle.std.specs.Prelude.{◌≡◌, ◌≢◌, ℕ, Option, IfSome, IfNone, IsSomeAnd}
+-- What searches find in a sorted arena: the pointer of the entry that they look for, or `None`, if there is no such entry.
+use Rattle.std.specs.Prelude.{◌≡◌, ◌≢◌, ℕ, Bool, Option, IfSome, IfNone, IsSome, IsSomeAnd}
 use Rattle.std.specs.{List.All, Option.option_map, Ordering.is_eq, Ordering.is_le, Ordering.is_lt, declared.cmp.Ordering.Ordering}
 use Rattle.std.specs.declared.cmp.Ordering.TheVariants.{Equal, Less, Greater}
-use Rattle.sorted_arena.specs.Sorted.{Sorted, pair_of, first_where, key_of, IsAbsent, IsSound}
+use Rattle.sorted_arena.specs.Sorted.{Sorted, count, pair_of, first_where, key_of, IsSound, IsWithinRankedBound}
 
--- The parameters: the order of keys, the greatest index of a pointer, the numbers of a pointer, the arena, the key, and what was found.
-module _ {K V P : Type 0} (cmp : K → K → Ordering) (most : ℕ) (numbers : P → ℕ × ℕ) (a : Sorted K V) (k : K) (result : Option P) where
-  -- the first entry whose key equals this one
-  pub record FindsFirstEqual : Type 0 where
-    pub value : option_map numbers result ≡ first_where (λ e. is_eq (cmp k (key_of e))) a.entries
-    pub finds : IfSome result (λ p. IsSomeAnd (pair_of a (numbers p)) (λ e. cmp k e.0 ≡ Equal))
-    pub none : IfNone result (IsAbsent cmp a k)
+-- Searches by key. The parameters: the order of keys, the greatest index of a pointer, the numbers of a pointer, the arena, and the key.
+module _ {K V P : Type 0} (cmp : K → K → Ordering) (most : ℕ) (numbers : P → ℕ × ℕ) (a : Sorted K V) (k : K) where
+  -- The first entry for which a test of the order of k to its key is true. What passes the test has the one property, and what fails the
+  -- other.
+  pub record FindsFirst (test : Ordering → Bool) (Passes Fails : Ordering → Type 0) (result : Option P) : Type 0 where
+    pub value : option_map numbers result ≡ first_where (λ e. test (cmp k (key_of e))) a.entries
+    pub finds : IfSome result (λ p. IsSomeAnd (pair_of a (numbers p)) (λ e. Passes (cmp k e.0)))
+    pub none : IfNone result (All (λ e. Fails (cmp k (key_of e))) a.entries)
     pub sound : IsSound cmp most a
 
-  -- the first entry whose key is at least this one
-  pub record FindsLowerBound : Type 0 where
-    pub value : option_map numbers result ≡ first_where (λ e. is_le (cmp k (key_of e))) a.entries
-    pub finds : IfSome result (λ p. IsSomeAnd (pair_of a (numbers p)) (λ e. cmp k e.0 ≢ Greater))
-    pub none : IfNone result (All (λ e. cmp k (key_of e) ≡ Greater) a.entries)
+  -- the first entry whose key equals this one, is at least this one, and is greater than this one
+  abbrev pub FindsFirstEqual : Option P → Type 0
+  FindsFirstEqual = FindsFirst is_eq (λ o. o ≡ Equal) (λ o. o ≢ Equal)
+
+  abbrev pub FindsLowerBound : Option P → Type 0
+  FindsLowerBound = FindsFirst is_le (λ o. o ≢ Greater) (λ o. o ≡ Greater)
+
+  abbrev pub FindsUpperBound : Option P → Type 0
+  FindsUpperBound = FindsFirst is_lt (λ o. o ≡ Less) (λ o. o ≢ Less)
+
+-- A search among n entries that counts those that it visits: what it finds, and that it visits few.
+pub record IsCountedSearch (n c : ℕ) (Finds : Type 0) : Type 0 where
+  pub finds : Finds
+  pub visits : IsWithinRankedBound n c
+
+-- Searches by place. The parameters: the order of keys, the greatest index of a pointer, the numbers of a pointer, the arena, the
+-- relation of keys that the place makes true, the numbers of the pointer there, and what was found.
+module _ {K V P : Type 0} (cmp : K → K → Ordering) (most : ℕ) (numbers : P → ℕ × ℕ) (a : Sorted K V) (R : K → K → Type 0)
+    (place : Option (ℕ × ℕ)) (result : Option P) where
+  -- the entry at an end of the list, whose key has the relation to each key
+  pub record FindsEnd : Type 0 where
+    pub value : option_map numbers result ≡ place
+    pub extreme : IfSome result (λ p. IsSomeAnd (pair_of a (numbers p)) (λ own. All (λ e. R own.0 (key_of e)) a.entries))
+    pub none : IfNone result (count a ≡ 0)
     pub sound : IsSound cmp most a
 
-  -- the first entry whose key is greater than this one
-  pub record FindsUpperBound : Type 0 where
-    pub value : option_map numbers result ≡ first_where (λ e. is_lt (cmp k (key_of e))) a.entries
-    pub finds : IfSome result (λ p. IsSomeAnd (pair_of a (numbers p)) (λ e. cmp k e.0 ≡ Less))
-    pub none : IfNone result (All (λ e. cmp k (key_of e) ≢ Less) a.entries)
+  -- the entry beside that of a pointer, whose key has the relation to the neighbour's
+  pub record FindsNeighbour (p : ℕ × ℕ) : Type 0 where
+    pub value : option_map numbers result ≡ place
+    pub named : IfSome result (λ q. IsSome (pair_of a (numbers q)))
+    pub in_order : IfSome result (λ q. IsSomeAnd (pair_of a p) (λ own. IsSomeAnd (pair_of a (numbers q)) (λ other. R own.0 other.0)))
     pub sound : IsSound cmp most a

@@ -1,5 +1,5 @@
 -- Where an iterator over a sorted arena stands (layout).
-use Rattle.std.specs.Prelude.{ℕ, ◌+◌, ◌-◌, ◌≤◌, Bool, true, false, List, Option, Some, None, take, drop, length}
+use Rattle.std.specs.Prelude.{ℕ, ◌+◌, ◌-◌, ◌≤◌, ◌<◌, ◌^◌, Bool, true, false, List, Option, Some, None, take, drop, length}
 use Rattle.triple_ord.specs.Chain.{Entry}
 use Rattle.sorted_arena.specs.{Layout.AreNumbered, Stretch.stretch, Stretch.IsStretch}
 
@@ -14,7 +14,7 @@ module _ {T : Type 0} where
   left_at es true first end from left = take left (drop from es)
   left_at es false first end from left = stretch es first end
 
-  -- there are so many entries, which have the indexes from 1 on; or the list is cut at these indexes
+  -- There are so many entries, fewer than 2 ^ 64, and they have the indexes from 1 on; or the list is cut at these indexes.
   abbrev pub IsPlace : List (Entry T) → Bool → Option ℕ → Option ℕ → ℕ → ℕ → Type 0
-  IsPlace es true first end from left = AreNumbered 1 es × (from + left ≤ length es)
+  IsPlace es true first end from left = AreNumbered 1 es × (from + left ≤ length es) × (length es < 2 ^ 64)
   IsPlace es false first end from left = IsStretch es first end

@@ -1,11 +1,11 @@
 -- The entries whose keys are in a range, and what iterators over entries give.
-use Rattle.std.specs.Prelude.{ℕ, ◌<◌, ◌^◌, List, filter, not, length}
+use Rattle.std.specs.Prelude.{◌≡◌, ℕ, ◌<◌, ◌^◌, List, filter, not, length}
 use Rattle.std.specs.Borrow.{Bor}
 use Rattle.std.specs.Iterator.{YieldsFirstBy, YieldsLastBy, Runs.EveryRun, Runs.ItemsMapTo, Runs.ItemsMapToReversed}
 use Rattle.std.specs.declared.{cmp.Ordering.Ordering, ops.Bound.Bound}
 use Rattle.std.specs.BTreeMap.Range.{range_contains}
 use Rattle.triple_ord.specs.Chain.{Entry}
-use Rattle.sorted_arena.specs.Sorted.{key_of}
+use Rattle.sorted_arena.specs.Sorted.{Sorted, key_of, IsSound}
 
 -- the entries whose keys are between two bounds, in order
 abbrev pub entries_between : {K V : Type 0} → (K → K → Ordering) → Bound K → Bound K → List (Entry (K × V)) → List (Entry (K × V))
@@ -35,8 +35,22 @@ module _ {A X : Type 0} (shows : A → X) where
   abbrev pub GivesInReverse : Type 0
   GivesInReverse = EveryRun (YieldsLastBy shows (λ left. left)) (λ p. ItemsMapToReversed p shows p.from)
 
-  -- An iterator for chains of iterators: each run of it shows what is left, from either end, and it gives fewer than 2 ^ 64 items.
+  -- What a chain of iterators needs of an iterator over these items: each run from either end shows what was left, and there are fewer
+  -- than 2 ^ 64 items.
   pub record IsChainable {T : Type 0} (given : List T) : Type 0 where
     pub runs : GivesInOrder
     pub runs_back : GivesInReverse
     pub fits : length given < 2 ^ 64
+
+  -- The same of an iterator over parts of these items: it gives as many.
+  pub record IsChainableAs {T U : Type 0} (given : List T) (parts : List U) : Type 0 where
+    pub runs : GivesInOrder
+    pub runs_back : GivesInReverse
+    pub fits : length parts ≡ length given
+
+-- A call that returns an iterator over entries of a sorted arena: which entries, that the arena is sound, and what chains need.
+pub record IteratesOver {P K V : Type 0} (cmp : K → K → Ordering) (most : ℕ) (numbers : P → ℕ × ℕ) (a : Sorted K V)
+    (given : List (Entry (K × V))) (Which : Type 0) : Type 0 where
+  pub entries : Which
+  pub sound : IsSound cmp most a
+  pub chains : IsChainable (shown_entry {K = K} {V = V} numbers) given

@@ -136,8 +136,6 @@ impl<K: Ord, V, P: BasePtr, A: Allocator> SortedArena<K, V, P, A> {
         ensures kept { ChangesCapacity self.old self.new }
         ensures capacity { self.new.capacity ≡ greatest_index self.old.entries }
     {
-        // For the prover: the list is sound.
-        let _ = self.pairs.len();
         let _ = self.pairs.reallocate_min_capacity(0);
     }
 

@@ -9,9 +9,10 @@ ghost use Rattle.triple_ord.specs.Insertion.{InsertsNew};
 ghost use Rattle.triple_ord.specs.declared.growth.Growth.TheVariants.{Reallocating};
 ghost use Rattle.triple_ord.specs.{PastEquals.order_past_equals, Search.FindsSimilar};
 ghost use Rattle.triple_ord.specs.Place.{aim_of, behind_key, kind_now};
-ghost use Rattle.sorted_arena.specs.Layout.{item_key, pointer_among};
+ghost use Rattle.sorted_arena.specs.Find.{IsCountedSearch};
+ghost use Rattle.sorted_arena.specs.Layout.{item_key, pointer_among, FindsPointer};
 ghost use Rattle.sorted_arena.specs.Stretch.{first_index};
-ghost use Rattle.sorted_arena.specs.Sorted.{AreSorted, key_of, first_where, next_of, prev_of, IsWithinRankedBound};
+ghost use Rattle.sorted_arena.specs.Sorted.{AreSorted, key_of, first_where, next_of, prev_of};
 
 use std::alloc::Allocator;
 use std::cmp::Ordering;
@@ -55,6 +56,7 @@ pub(crate) fn put<K: Ord + Drop, V: Drop, P: BasePtr, A: Allocator>(
         → length pairs.old.list.entries ≡ pairs.old.list.capacity }
     ensures err { OnErr result (pairs.new ≡ pairs.old) }
     ensures sound { IsSound P.Inx.most P.Gen.greatest pairs.old.list }
+    ensures still_sound { IsSound P.Inx.most P.Gen.greatest pairs.new.list }
 {
     // For the prover: the list is sound.
     let _ = pairs.len();
@@ -63,6 +65,7 @@ pub(crate) fn put<K: Ord + Drop, V: Drop, P: BasePtr, A: Allocator>(
         Ok(entry) => {
             let p = entry.ptr().any();
             let _ = entry.insert(OrdPair::new(k, v));
+            // For the prover: the list is still sound.
             let _ = pairs.len();
             Ok(p)
         }
@@ -107,7 +110,8 @@ pub(crate) fn next_in<K: Ord, V, P: BasePtr, A: Allocator>(
     pairs: &Pairs<K, V, P, A>,
     p: P,
 ) -> Option<P>
-    ensures { option_map P.numbers result ≡ next_of pairs.now.list.entries (P.numbers p) }
+    ensures { FindsPointer P.Inx.most P.Gen.greatest P.numbers pairs.now
+        (next_of pairs.now.list.entries (P.numbers p)) result }
 {
     // For the prover: the list is sound.
     let _ = pairs.len();
@@ -123,7 +127,8 @@ pub(crate) fn prev_in<K: Ord, V, P: BasePtr, A: Allocator>(
     pairs: &Pairs<K, V, P, A>,
     p: P,
 ) -> Option<P>
-    ensures { option_map P.numbers result ≡ prev_of pairs.now.list.entries (P.numbers p) }
+    ensures { FindsPointer P.Inx.most P.Gen.greatest P.numbers pairs.now
+        (prev_of pairs.now.list.entries (P.numbers p)) result }
 {
     // For the prover: the list is sound.
     let _ = pairs.len();
@@ -140,13 +145,11 @@ fn lower_bound_by<K: Ord, V, P: BasePtr, A: Allocator>(
     pairs: &Pairs<K, V, P, A>,
     met: Option<(P, Ordering)>,
 ) -> Option<P>
-    requires { AreSorted K.cmp pairs.now.list.entries }
-    ensures { (k : K) (visits : ℕ) → FindsSimilar item_key K.cmp pairs.now.list.entries k
+    ensures { (k : K) (visits : ℕ) → AreSorted K.cmp pairs.now.list.entries
+        → FindsSimilar item_key K.cmp pairs.now.list.entries k
         (option_map (λ a. (P.numbers a.0, a.1)) met) visits → option_map P.numbers result
         ≡ first_where (λ e. is_le (K.cmp k (key_of e))) pairs.now.list.entries }
 {
-    // For the prover: the list is sound.
-    let _ = pairs.len();
     let (p, order) = met?;
     match order {
         Ordering::Greater => next_in(pairs, p),
@@ -160,10 +163,9 @@ pub(crate) fn lower_bound_in<K: Ord, V, P: BasePtr, A: Allocator>(
     pairs: &Pairs<K, V, P, A>,
     k: &K,
 ) -> (Option<P>, Visits)
-    requires { AreSorted K.cmp pairs.now.list.entries }
-    ensures bound { option_map P.numbers result.0
-        ≡ first_where (λ e. is_le (K.cmp k.now (key_of e))) pairs.now.list.entries }
-    ensures visits { IsWithinRankedBound (length pairs.now.list.entries) result.1 }
+    ensures { IsCountedSearch (length pairs.now.list.entries) result.1
+        (AreSorted K.cmp pairs.now.list.entries → option_map P.numbers result.0
+        ≡ first_where (λ e. is_le (K.cmp k.now (key_of e))) pairs.now.list.entries) }
 {
     let met = pairs.find_similar_key_counted(k);
     (lower_bound_by(pairs, met.0), met.1)
@@ -175,13 +177,11 @@ fn upper_bound_by<K: Ord, V, P: BasePtr, A: Allocator>(
     pairs: &Pairs<K, V, P, A>,
     met: Option<(P, Ordering)>,
 ) -> Option<P>
-    requires { AreSorted K.cmp pairs.now.list.entries }
-    ensures { (k : K) (visits : ℕ) → FindsSimilar item_key (order_past_equals K.cmp) pairs.now.list.entries k
+    ensures { (k : K) (visits : ℕ) → AreSorted K.cmp pairs.now.list.entries
+        → FindsSimilar item_key (order_past_equals K.cmp) pairs.now.list.entries k
         (option_map (λ a. (P.numbers a.0, a.1)) met) visits → option_map P.numbers result
         ≡ first_where (λ e. is_lt (K.cmp k (key_of e))) pairs.now.list.entries }
 {
-    // For the prover: the list is sound.
-    let _ = pairs.len();
     let (p, order) = met?;
     match order {
         Ordering::Less => Some(p),
@@ -195,10 +195,9 @@ pub(crate) fn upper_bound_in<K: Ord, V, P: BasePtr, A: Allocator>(
     pairs: &Pairs<K, V, P, A>,
     k: &K,
 ) -> (Option<P>, Visits)
-    requires { AreSorted K.cmp pairs.now.list.entries }
-    ensures bound { option_map P.numbers result.0
-        ≡ first_where (λ e. is_lt (K.cmp k.now (key_of e))) pairs.now.list.entries }
-    ensures visits { IsWithinRankedBound (length pairs.now.list.entries) result.1 }
+    ensures { IsCountedSearch (length pairs.now.list.entries) result.1
+        (AreSorted K.cmp pairs.now.list.entries → option_map P.numbers result.0
+        ≡ first_where (λ e. is_lt (K.cmp k.now (key_of e))) pairs.now.list.entries) }
 {
     let met = pairs.find_behind_key_counted(k);
     (upper_bound_by(pairs, met.0), met.1)

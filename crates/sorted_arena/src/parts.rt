@@ -1,7 +1,7 @@
 //! The keys, the values, or both, of the entries that an iterator gives.
 ghost use Rattle.std.specs.Prelude.{◌≡◌, map, reverse, length};
 ghost use Rattle.std.specs.Iterator.{YieldsFirstBy, YieldsLastBy, item_count};
-ghost use Rattle.sorted_arena.specs.Range.{shown_item, target_of, GivesInOrder, GivesInReverse, IsChainable};
+ghost use Rattle.sorted_arena.specs.Range.{shown_item, target_of, GivesInOrder, IsChainable, IsChainableAs};
 ghost use Rattle.sorted_arena.specs.Sorted.{key_of, value_of, item_of};
 
 use crate::arena::SortedArena;
@@ -74,10 +74,7 @@ impl<'a, K: Ord, V, P: BasePtr, A: Allocator> Range<'a, K, V, P, A> {
     /// Returns an iterator over the keys of these entries.
     pub fn keys(self) -> Keys<'a, K, V, P, A>
         ensures keys { result ≡ map key_of self.entry }
-        // for chains of iterators
-        ensures runs { GivesInOrder (target_of {T = K}) }
-        ensures runs_back { GivesInReverse (target_of {T = K}) }
-        ensures fits { length result ≡ length self.entry }
+        ensures chains { IsChainableAs (target_of {T = K}) self.entry result }
     {
         Keys { range: self }
     }
@@ -85,10 +82,7 @@ impl<'a, K: Ord, V, P: BasePtr, A: Allocator> Range<'a, K, V, P, A> {
     /// Returns an iterator over the values of these entries.
     pub fn values(self) -> Values<'a, K, V, P, A>
         ensures values { result ≡ map value_of self.entry }
-        // for chains of iterators
-        ensures runs { GivesInOrder (target_of {T = V}) }
-        ensures runs_back { GivesInReverse (target_of {T = V}) }
-        ensures fits { length result ≡ length self.entry }
+        ensures chains { IsChainableAs (target_of {T = V}) self.entry result }
     {
         Values { range: self }
     }
@@ -96,10 +90,7 @@ impl<'a, K: Ord, V, P: BasePtr, A: Allocator> Range<'a, K, V, P, A> {
     /// Returns an iterator over the keys and the values of these entries.
     pub fn items(self) -> Items<'a, K, V, P, A>
         ensures items { result ≡ map item_of self.entry }
-        // for chains of iterators
-        ensures runs { GivesInOrder (shown_item {K = K} {V = V}) }
-        ensures runs_back { GivesInReverse (shown_item {K = K} {V = V}) }
-        ensures fits { length result ≡ length self.entry }
+        ensures chains { IsChainableAs (shown_item {K = K} {V = V}) self.entry result }
     {
         Items { range: self }
     }

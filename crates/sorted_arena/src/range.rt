@@ -1,11 +1,11 @@
 //! `Range`: entries in order, from both ends.
-ghost use Rattle.std.specs.Prelude.{◌≡◌, ◌<◌, true, false, Some, length, slice_get};
+ghost use Rattle.std.specs.Prelude.{◌≡◌, ◌<◌, ◌^◌, true, false, Some, length, slice_get};
 ghost use Rattle.std.specs.Iterator.{YieldsFirstBy, YieldsLastBy, item_count};
 ghost use Rattle.std.specs.{Option.option_map, Option.option_and_then, Range.Bound.bound_map};
 ghost use Rattle.std.specs.BTreeMap.Range.{is_from_start, is_past_end};
 ghost use Rattle.std.specs.declared.ops.Bound.TheVariants.{Included, Unbounded};
-ghost use Rattle.sorted_arena.specs.Range.{entries_between, shown_entry, IsChainable};
-ghost use Rattle.sorted_arena.specs.Sorted.{pair_of, first_where, key_of, IsSound};
+ghost use Rattle.sorted_arena.specs.Range.{entries_between, shown_entry, IteratesOver};
+ghost use Rattle.sorted_arena.specs.Sorted.{pair_of, first_where, key_of};
 ghost use Rattle.sorted_arena.specs.Stretch.{stretch, is_forward, IsStretch};
 ghost use Rattle.sorted_arena.specs.{Layout.AreNumbered, Place.position_of};
 
@@ -59,8 +59,6 @@ impl<'a, K: Ord, V, P: BasePtr, A: Allocator> Iterator for Range<'a, K, V, P, A>
             if self.left == 0 {
                 return None;
             }
-            // For the prover: the list is sound.
-            let _ = self.pairs.len();
             let position = self.from;
             self.from = position + 1;
             self.left -= 1;
@@ -86,8 +84,6 @@ impl<'a, K: Ord, V, P: BasePtr, A: Allocator> DoubleEndedIterator for Range<'a, 
             if self.left == 0 {
                 return None;
             }
-            // For the prover: the list is sound.
-            let _ = self.pairs.len();
             self.left -= 1;
             return Some(entry_at(self.pairs, self.from + self.left));
         }
@@ -172,12 +168,9 @@ fn is_key_from<K: Ord>(from: Bound<&K>, k: &K) -> bool
 impl<K: Ord, V, P: BasePtr, A: Allocator> SortedArena<K, V, P, A> {
     /// Returns an iterator over all entries in order, from both ends.
     pub fn iter(&self) -> Range<'_, K, V, P, A>
-        ensures entries { result ≡ self.now.entries }
-        ensures sound { IsSound K.cmp P.Inx.most self.now }
-        ensures chains { IsChainable (shown_entry {K = K} {V = V} P.numbers) result }
+        ensures { IteratesOver K.cmp P.Inx.most P.numbers self.now result
+            (result ≡ self.now.entries) }
     {
-        // For the prover: the arena is sound.
-        let _ = self.len();
         self.from_until(self.first(), None)
     }
 
@@ -185,20 +178,18 @@ impl<K: Ord, V, P: BasePtr, A: Allocator> SortedArena<K, V, P, A> {
     ///
     /// A range that runs backwards has no entries.
     pub fn range<R: RangeBounds<K> + Drop>(&self, range: R) -> Range<'_, K, V, P, A>
-        ensures entries { R.has_bounds range → result
-            ≡ entries_between K.cmp (R.start_bound range) (R.end_bound range) self.now.entries }
-        ensures sound { IsSound K.cmp P.Inx.most self.now }
-        ensures chains { IsChainable (shown_entry {K = K} {V = V} P.numbers) result }
+        ensures { IteratesOver K.cmp P.Inx.most P.numbers self.now result
+            (R.has_bounds range → result ≡ entries_between K.cmp
+            (R.start_bound range) (R.end_bound range) self.now.entries) }
     {
         self.between(range.start_bound(), range.end_bound())
     }
 
     /// The entries between two bounds.
     pub(crate) fn between(&self, from: Bound<&K>, until: Bound<&K>) -> Range<'_, K, V, P, A>
-        ensures entries { result ≡ entries_between K.cmp (bound_map (λ k. k.now) from.entry)
-            (bound_map (λ k. k.now) until.entry) self.now.entries }
-        ensures sound { IsSound K.cmp P.Inx.most self.now }
-        ensures chains { IsChainable (shown_entry {K = K} {V = V} P.numbers) result }
+        ensures { IteratesOver K.cmp P.Inx.most P.numbers self.now result
+            (result ≡ entries_between K.cmp (bound_map (λ k. k.now) from.entry)
+            (bound_map (λ k. k.now) until.entry) self.now.entries) }
     {
         // For the prover: the arena is sound.
         let _ = self.len();
@@ -211,9 +202,10 @@ impl<K: Ord, V, P: BasePtr, A: Allocator> SortedArena<K, V, P, A> {
     fn from_until(&self, first: Option<P>, end: Option<P>) -> Range<'_, K, V, P, A>
         requires { IsStretch self.now.entries (option_map (λ q. q.0) (option_map P.numbers first))
             (option_map (λ q. q.0) (option_map P.numbers end)) }
-        ensures { result ≡ stretch self.now.entries
+        ensures entries { result ≡ stretch self.now.entries
             (option_map (λ q. q.0) (option_map P.numbers first))
             (option_map (λ q. q.0) (option_map P.numbers end)) }
+        ensures few { length self.now.entries < 2 ^ 64 }
     {
         let count = self.len();
         let from = position(first, count);

@@ -1,10 +1,10 @@
 -- An ordered arena as its callers see it: what pointers find in it, and its entries in order. A pointer is the pair of its index and its
 -- generation.
-use Rattle.std.specs.{Prelude.◌≡◌, Prelude.◌≢◌, Prelude.ℕ, Prelude.◌+◌, Prelude.List, Prelude.max, Prelude.nat_lt, Prelude.if◌then◌else◌, Prelude.Option, Prelude.None, Prelude.IsSomeAnd, Prelude.Result, Prelude.OnErr, Prelude.length, Prelude.map, Prelude.slice_get, declared.cmp.Ordering.Ordering}
+use Rattle.std.specs.{Prelude.◌≡◌, Prelude.◌≢◌, Prelude.ℕ, Prelude.◌+◌, Prelude.List, Prelude.max, Prelude.nat_lt, Prelude.if◌then◌else◌, Prelude.Option, Prelude.None, Prelude.IfSome, Prelude.IsSomeAnd, Prelude.length, Prelude.map, Prelude.slice_get, declared.cmp.Ordering.Ordering, declared.cmp.Ordering.TheVariants.Equal, Option.option_map}
 use Rattle.ord_tree.specs.PlainArena.{doubled_capacity}
 use Rattle.ord_tree.specs.Chain.{Chain, chain_limit, with_capacity, entry_at as entry_among, item_of as item_among}
 use Rattle.ord_tree.specs.Tree.{Tree}
-use Rattle.triple_ord.specs.Search.{pointer}
+use Rattle.triple_ord.specs.Search.{pointer, FindsKey, FindsSimilar}
 
 module _ {T : Type 0} where
   -- the item that the pointer names, if any
@@ -57,10 +57,9 @@ module _ {T : Type 0} where
     pub outside : (k : ℕ) → item_of a (0, k) ≡ None
     pub ended : IsOfGeneration a g
 
-  -- What a call does that changes at most the capacity or its limit: every pointer finds what it found. A failed call changes nothing.
-  pub record KeepsEntries {X E : Type 0} (result : Result X E) (old new : Tree T) : Type 0 where
+  -- What a call does that changes at most the capacity or its limit: every pointer finds what it found.
+  pub record KeepsEntries (old new : Tree T) : Type 0 where
     pub found : FindSame old new
-    pub err : OnErr result (new ≡ old)
     pub count : count new ≡ count old
 
   -- no pointer finds anything
@@ -70,3 +69,16 @@ module _ {T : Type 0} where
 -- the pointer finds an item, and `order` is the order of k to its key
 abbrev pub FindsBy : {T K : Type 0} → (T → K) → (K → K → Ordering) → Tree T → K → ℕ × ℕ → Ordering → Type 0
 FindsBy key cmp a k p order = IsSomeAnd (item_of a p) (λ item. cmp k (key item) ≡ order)
+
+-- What a search by key returned: a pointer, or nothing. The parameters: the key of an item, the order of keys, the numbers of a pointer, the
+-- arena, and the key.
+module _ {T K P : Type 0} (key : T → K) (cmp : K → K → Ordering) (numbers : P → ℕ × ℕ) (a : Tree T) (k : K) where
+  -- a search for an equal key, with some number of visits
+  pub record FindsEqual (result : Option P) : Type 0 where
+    pub finds : IfSome result (λ p. FindsBy key cmp a k (numbers p) Equal)
+    pub found : (visits : ℕ) × FindsKey key cmp a.list.entries k (option_map numbers result) visits
+
+  -- a search for a similar key, with some number of visits
+  pub record FindsNearest (result : Option (P × Ordering)) : Type 0 where
+    pub finds : IfSome result (λ x. FindsBy key cmp a k (numbers x.0) x.1)
+    pub found : (visits : ℕ) × FindsSimilar key cmp a.list.entries k (option_map (λ x. (numbers x.0, x.1)) result) visits

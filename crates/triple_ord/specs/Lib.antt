@@ -40,6 +40,7 @@ pub use Rattle.ord_tree.specs.PlainArena
 pub use Rattle.ord_tree.specs.ArenaCompression
 pub use Rattle.ord_tree.specs.Generation
 pub use Rattle.ord_tree.specs.Invalidation
+pub use Rattle.ord_tree.specs.Room
 pub use Rattle.ord_tree.specs.ReallocationError
 pub use Rattle.ord_tree.specs.InvalidationResult
 pub use Rattle.ord_tree.specs.Chain

@@ -12,17 +12,17 @@ pub record Rekeys {T K : Type 0} (key : T → K) (cmp : K → K → Ordering) (o
   pub kept : new.list ≡ record old.list { entries = new.list.entries }
   pub shape : (new.shape ≡ old.shape) ⊎ IsRearranged old.shape new.shape
 
+-- The same, by a search for the gap with c visits, which has seen the keys of the entries beside the gap.
+pub record RekeysCounted {T K : Type 0} (key : T → K) (cmp : K → K → Ordering) (old : Tree T) (p : ℕ × ℕ) (item : T) (c : ℕ) (new : Tree T) : Type 0 where
+  pub rekeys : Rekeys key cmp old p item new
+  pub seen : neighbour_count rekeys.gap ≤ c
+
 -- What a call does that moves the entry of p, or gives back what it was given if p names no entry. Nothing changes then.
 pub record MovesOrReturns {T A B : Type 0} (old : Tree T) (p : ℕ × ℕ) (given : B) (result : Result A B) (new : Tree T) : Type 0 where
   pub stale : OnErr result (item_of old p ≡ None)
   pub back : IfErr result (λ back. back ≡ given)
   pub refused : OnErr result (new ≡ old)
   pub count : count new ≡ count old
-
--- The same, by a search for the gap with c visits, which has seen the keys of the entries beside the gap.
-pub record RekeysCounted {T K : Type 0} (key : T → K) (cmp : K → K → Ordering) (old : Tree T) (p : ℕ × ℕ) (item : T) (c : ℕ) (new : Tree T) : Type 0 where
-  pub rekeys : Rekeys key cmp old p item new
-  pub seen : neighbour_count rekeys.gap ≤ c
 
 -- If the other entries are in the order of their keys, all entries are afterwards, whatever key the entry had. This also holds if the
 -- item of the entry was written over since all entries were in order.

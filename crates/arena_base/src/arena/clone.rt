@@ -1,7 +1,8 @@
 //! Clones of other arenas, with their pointers.
-ghost use Rattle.std.specs.Prelude.{◌≡◌, ◌<◌, ◌≤◌, ◌↔◌, ◌⊎◌, [], max, vec_len, vec_capacity, OnOk, OnErr};
+ghost use Rattle.std.specs.Prelude.{◌≡◌, ◌≤◌, [], max, vec_len, vec_capacity, OnOk, OnErr};
 ghost use Rattle.arena_base.specs.Arena.{arena_limit, arena_capacity, greatest_occupied, IsFresh};
 ghost use Rattle.arena_base.specs.Clone.{Grants, HasSamePointers, IsClone, IsRefusedClone, IsShown, StopsAtRefusal};
+ghost use Rattle.arena_base.specs.Room.{Reallocates, ClonesOrFails};
 ghost use Rattle.arena_base.specs.SlotMoves.{ClonesSlots};
 ghost use Rattle.arena_base.specs.Walk.{entries_rising};
 
@@ -35,15 +36,12 @@ impl<P: BasePtr, T: Drop, A: Allocator> Arena<P, T, A> {
         map: F,
     ) -> Result<(), ReallocationError>
         requires { F.IsAlwaysCallable map }
-        ensures ok { OnOk result ((last : F) × IsClone P.numbers (IsShown F.step) map
-            (S.content source.now) self.old self.new last) }
+        ensures clones { Reallocates (arena_limit P.Inx.most self.old) (arena_capacity self.old)
+            (greatest_occupied (S.content source.now).slots) result
+            ((last : F) × IsClone P.numbers (IsShown F.step) map
+            (S.content source.now) self.old self.new last) (self.new ≡ self.old) }
         ensures pointers { OnOk result (HasSamePointers self.new (S.content source.now)) }
         ensures fresh { OnOk result (IsFresh self.new) }
-        ensures beyond { (result ≡ Err ReallocationError.BeyondMaxCapacity)
-            ↔ (arena_limit P.Inx.most self.old < greatest_occupied (S.content source.now).slots) }
-        ensures memory { result ≡ Err ReallocationError.AllocError
-            → arena_capacity self.old < greatest_occupied (S.content source.now).slots }
-        ensures err { OnErr result (self.new ≡ self.old) }
     {
         let mut calls = Calls { f: map };
         self.clone_by(source, &mut calls)
@@ -62,20 +60,15 @@ impl<P: BasePtr, T: Drop, A: Allocator> Arena<P, T, A> {
         F: FnMut(P, &U) -> Result<T, AllocError> + Drop,
     >(&mut self, source: &S, map: F) -> Result<(), ReallocationError>
         requires { F.IsAlwaysCallable map }
-        ensures ok { OnOk result
+        ensures clones { ClonesOrFails (arena_limit P.Inx.most self.old) (arena_capacity self.old)
+            (greatest_occupied (S.content source.now).slots) result
             ((last : F) × IsClone P.numbers (Grants P.numbers (IsShown F.step)) map
+            (S.content source.now) self.old self.new last)
+            (self.new ≡ self.old)
+            ((last : F) × IsRefusedClone P.numbers (IsShown F.step) map
             (S.content source.now) self.old self.new last) }
         ensures pointers { OnOk result (HasSamePointers self.new (S.content source.now)) }
         ensures fresh { OnOk result (IsFresh self.new) }
-        ensures beyond { (result ≡ Err ReallocationError.BeyondMaxCapacity)
-            ↔ (arena_limit P.Inx.most self.old < greatest_occupied (S.content source.now).slots) }
-        ensures beyond_kept { result ≡ Err ReallocationError.BeyondMaxCapacity
-            → self.new ≡ self.old }
-        ensures memory { result ≡ Err ReallocationError.AllocError
-            → ((arena_capacity self.old < greatest_occupied (S.content source.now).slots)
-            × (self.new ≡ self.old))
-            ⊎ ((last : F) × IsRefusedClone P.numbers (IsShown F.step) map
-            (S.content source.now) self.old self.new last) }
     {
         let mut calls = TryCalls { f: map };
         self.clone_by(source, &mut calls)
@@ -92,19 +85,15 @@ impl<P: BasePtr, T: Drop, A: Allocator> Arena<P, T, A> {
     ) -> Result<(), ReallocationError>
         requires { M.callable map.old }
         ensures callable { M.callable map.new }
-        ensures ok { OnOk result (IsClone P.numbers (Grants P.numbers M.step) map.old
+        ensures clones { ClonesOrFails (arena_limit P.Inx.most self.old) (arena_capacity self.old)
+            (greatest_occupied (S.content source.now).slots) result
+            (IsClone P.numbers (Grants P.numbers M.step) map.old
+            (S.content source.now) self.old self.new map.new)
+            ((self.new ≡ self.old) × (map.new ≡ map.old))
+            (IsRefusedClone P.numbers M.step map.old
             (S.content source.now) self.old self.new map.new) }
         ensures pointers { OnOk result (HasSamePointers self.new (S.content source.now)) }
         ensures fresh { OnOk result (IsFresh self.new) }
-        ensures beyond { (result ≡ Err ReallocationError.BeyondMaxCapacity)
-            ↔ (arena_limit P.Inx.most self.old < greatest_occupied (S.content source.now).slots) }
-        ensures beyond_kept { result ≡ Err ReallocationError.BeyondMaxCapacity
-            → (self.new ≡ self.old) × (map.new ≡ map.old) }
-        ensures memory { result ≡ Err ReallocationError.AllocError
-            → ((arena_capacity self.old < greatest_occupied (S.content source.now).slots)
-            × (self.new ≡ self.old) × (map.new ≡ map.old))
-            ⊎ IsRefusedClone P.numbers M.step map.old
-            (S.content source.now) self.old self.new map.new }
     {
         let needed = greatest_occupied(source);
         self.raise_capacity(needed)?;
@@ -116,12 +105,9 @@ impl<P: BasePtr, T: Drop, A: Allocator> Arena<P, T, A> {
 
     // Raises the capacity to `n` if it is less.
     fn raise_capacity(&mut self, n: usize) -> Result<(), ReallocationError>
-        ensures capacity { OnOk result (arena_capacity self.new ≡ max (arena_capacity self.old) n) }
-        ensures maximum { OnOk result (self.new.maximum ≡ self.old.maximum) }
-        ensures beyond { (result ≡ Err ReallocationError.BeyondMaxCapacity)
-            ↔ (arena_limit P.Inx.most self.old < n) }
-        ensures memory { result ≡ Err ReallocationError.AllocError → arena_capacity self.old < n }
-        ensures err { OnErr result (self.new ≡ self.old) }
+        ensures { Reallocates (arena_limit P.Inx.most self.old) (arena_capacity self.old) n result
+            ((arena_capacity self.new ≡ max (arena_capacity self.old) n)
+            × (self.new.maximum ≡ self.old.maximum)) (self.new ≡ self.old) }
     {
         if n > self.limit() {
             return Err(ReallocationError::BeyondMaxCapacity);

@@ -1,9 +1,8 @@
 //! Compression: all entries move to the least indexes.
 ghost use Rattle.std.specs.Prelude.{◌≡◌, ◌≤◌, vec_len, vec_capacity};
-ghost use Rattle.arena_base.specs.Arena.{HoldsSame, IsFresh, IsSound};
-ghost use Rattle.arena_base.specs.Compression.{compressed, compressed_generation, compression_overflows, items_rising, IsCompression};
+ghost use Rattle.arena_base.specs.Arena.{HoldsSame, IsFresh};
+ghost use Rattle.arena_base.specs.Compression.{compressed, items_rising, IsCompression, Restarts};
 ghost use Rattle.arena_base.specs.SlotMoves.{CompressesSlots};
-ghost use Rattle.arena_base.specs.Invalidation.{is_overflow};
 
 use super::Arena;
 use super::get::pointer;
@@ -26,11 +25,9 @@ impl<P: BasePtr, T, A: Allocator> Arena<P, T, A> {
         f: F,
     ) -> InvalidationOption<()>
         requires { F.IsAlwaysCallable f }
-        ensures after { IsCompression P.numbers F.step
-            (compressed_generation P.Gen.greatest reset self.old.generation) f self.old self.new }
+        ensures restarts { Restarts P.Gen.greatest reset self.old.generation result
+            (λ g. IsCompression P.numbers F.step g f self.old self.new) }
         ensures fresh { IsFresh self.new }
-        ensures overflow { is_overflow result
-            ≡ compression_overflows P.Gen.greatest reset self.old.generation }
     {
         self.compress_by(reset, Calls { f })
     }
@@ -42,11 +39,9 @@ impl<P: BasePtr, T, A: Allocator> Arena<P, T, A> {
         map: M,
     ) -> InvalidationOption<()>
         requires { M.callable map }
-        ensures after { IsCompression P.numbers M.step
-            (compressed_generation P.Gen.greatest reset self.old.generation) map self.old self.new }
+        ensures restarts { Restarts P.Gen.greatest reset self.old.generation result
+            (λ g. IsCompression P.numbers M.step g map self.old self.new) }
         ensures fresh { IsFresh self.new }
-        ensures overflow { is_overflow result
-            ≡ compression_overflows P.Gen.greatest reset self.old.generation }
     {
         let overflow = self.restart(reset);
         move_down::<P, T, A, M>(&mut self.slots, self.generation, map);
@@ -57,23 +52,17 @@ impl<P: BasePtr, T, A: Allocator> Arena<P, T, A> {
 
     /// Moves all entries to the indexes from 1 on, as `compress_with` does. Each keeps its item.
     pub fn compress(&mut self, reset: bool) -> InvalidationOption<()>
-        ensures after { HoldsSame self.new (compressed self.old
-            (compressed_generation P.Gen.greatest reset self.old.generation)
-            (items_rising self.old)) }
+        ensures restarts { Restarts P.Gen.greatest reset self.old.generation result
+            (λ g. HoldsSame self.new (compressed self.old g (items_rising self.old))) }
         ensures fresh { IsFresh self.new }
-        ensures overflow { is_overflow result
-            ≡ compression_overflows P.Gen.greatest reset self.old.generation }
     {
         self.compress_with(reset, |_old, item, _new| item)
     }
 
     // Resets the generation to the first, or raises it.
     fn restart(&mut self, reset: bool) -> InvalidationOption<()>
-        ensures after { self.new ≡ record self.old {
-          generation = compressed_generation P.Gen.greatest reset self.old.generation;
-        } }
-        ensures overflow { is_overflow result
-            ≡ compression_overflows P.Gen.greatest reset self.old.generation }
+        ensures { Restarts P.Gen.greatest reset self.old.generation result
+            (λ g. self.new ≡ record self.old { generation = g }) }
     {
         if reset {
             self.set_generation(P::Gen::two());

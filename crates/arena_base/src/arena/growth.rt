@@ -1,8 +1,8 @@
 //! New arenas, and changes of the capacity.
-ghost use Rattle.std.specs.Prelude.{◌≡◌, ◌≢◌, ◌+◌, ◌-◌, ◌<◌, ◌≤◌, ◌↔◌, ◌++◌, ◌⊎◌, ℕ, map, max, reverse, take, replicate, length, vec_len, vec_capacity, slice_index_or, is_none, IsOk, IsErr, IfOk, OnOk, OnErr, MatchResult};
-ghost use Rattle.arena_base.specs.Arena.{doubled_capacity, IsOccupied, slot, arena_len, arena_capacity, arena_limit, new_arena, with_capacity, cleared, emptied, greatest_occupied};
-ghost use Rattle.arena_base.specs.Generation.{overflows_after};
-ghost use Rattle.arena_base.specs.Invalidation.{is_overflow};
+ghost use Rattle.std.specs.Prelude.{◌≡◌, ◌≢◌, ◌-◌, ◌<◌, ◌≤◌, ◌++◌, ◌⊎◌, ℕ, Some, map, max, reverse, take, replicate, length, vec_len, vec_capacity, slice_index_or, is_none, IsErr, OnOk, OnErr};
+ghost use Rattle.arena_base.specs.Arena.{doubled_capacity, IsOccupied, arena_capacity, arena_limit, new_arena, with_capacity, cleared, emptied, greatest_occupied};
+ghost use Rattle.arena_base.specs.Invalidation.{Raises};
+ghost use Rattle.arena_base.specs.Room.{Allocates, Reallocates, LimitsCapacity};
 ghost use Rattle.arena_base.specs.Slot.{vacant_slots, slot_entry, AllVacantFrom};
 
 use super::Arena;
@@ -43,9 +43,8 @@ impl<P: BasePtr, T, A: Allocator> Arena<P, T, A> {
     pub fn with_min_capacity(alloc: A, n: usize) -> Result<Self, AllocError>
     where
         A: Copy,
-        ensures ok { IfOk result (λ a. a ≡ with_capacity (new_arena P.Gen.greatest) n) }
-        ensures beyond { P.Inx.most < n → IsErr result }
-        ensures none { n ≡ 0 → IsOk result }
+        ensures { Allocates P.Inx.most n result
+            (λ a. a ≡ with_capacity (new_arena P.Gen.greatest) n) }
     {
         if n > P::Inx::limit() {
             return Err(AllocError);
@@ -74,12 +73,9 @@ impl<P: BasePtr, T, A: Allocator> Arena<P, T, A> {
     #[cold]
     #[inline(never)]
     pub fn reallocate_min_capacity(&mut self, n: usize) -> Result<(), ReallocationError>
-        ensures ok { OnOk result
-            (self.new ≡ with_capacity self.old (max n (greatest_occupied self.old.slots))) }
-        ensures beyond { (result ≡ Err ReallocationError.BeyondMaxCapacity)
-            ↔ (arena_limit P.Inx.most self.old < n) }
-        ensures memory { result ≡ Err ReallocationError.AllocError → arena_capacity self.old < n }
-        ensures err { OnErr result (self.new ≡ self.old) }
+        ensures { Reallocates (arena_limit P.Inx.most self.old) (arena_capacity self.old) n result
+            (self.new ≡ with_capacity self.old (max n (greatest_occupied self.old.slots)))
+            (self.new ≡ self.old) }
     {
         if n > self.limit() {
             return Err(ReallocationError::BeyondMaxCapacity);
@@ -100,9 +96,8 @@ impl<P: BasePtr, T, A: Allocator> Arena<P, T, A> {
     ///
     /// The arena is unchanged: its capacity is already greater than `n`.
     pub fn set_max_capacity(&mut self, n: usize) -> Result<(), MaxCapacityReductionError>
-        ensures ok { OnOk result (self.new ≡ record self.old { maximum = Some n }) }
-        ensures refused { IsErr result ↔ (n < arena_capacity self.old) }
-        ensures err { OnErr result (self.new ≡ self.old) }
+        ensures { LimitsCapacity (arena_capacity self.old) n result
+            (self.new ≡ record self.old { maximum = Some n }) (self.new ≡ self.old) }
     {
         if n < self.capacity() {
             return Err(MaxCapacityReductionError);
@@ -116,8 +111,8 @@ impl<P: BasePtr, T, A: Allocator> Arena<P, T, A> {
     pub fn clear(&mut self) -> InvalidationOption<()>
     where
         T: Drop,
-        ensures after { self.new ≡ cleared P.Gen.greatest self.old }
-        ensures overflow { is_overflow result ≡ overflows_after P.Gen.greatest self.old.generation }
+        ensures { Raises P.Gen.greatest self.old.generation result
+            (self.new ≡ cleared P.Gen.greatest self.old) }
     {
         self.vacate();
         self.inc_generation()

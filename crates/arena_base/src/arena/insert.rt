@@ -1,6 +1,7 @@
 //! Insertions.
-ghost use Rattle.std.specs.Prelude.{◌≡◌, ◌<◌, ◌≤◌, ◌↔◌, ◌⊎◌, [], is_some, length, IsSome, IsOk, IsErr, IfOk, OnOk, IfErr, OnErr};
-ghost use Rattle.arena_base.specs.Arena.{arena_len, arena_capacity, arena_limit, next_index, grown_capacity, with_room, IsInsertion, IsSound};
+ghost use Rattle.std.specs.Prelude.{◌≡◌, ◌<◌, ◌≤◌, [], length, IfOk, OnOk};
+ghost use Rattle.arena_base.specs.Arena.{arena_len, arena_capacity, arena_limit, with_room, IsInsertion, IsSound};
+ghost use Rattle.arena_base.specs.Room.{FailsIfFull, FailsOnlyIfFull};
 
 use super::Arena;
 use super::get::position_at;
@@ -21,9 +22,8 @@ impl<P: BasePtr, T: Drop, A: Allocator> Arena<P, T, A> {
     pub fn insert_within_capacity(&mut self, item: T) -> Result<P, InsertionError>
         ensures ok { IfOk result
             (λ p. IsInsertion self.old self.new item (P.numbers p).0 (P.numbers p).1) }
-        ensures full { IsErr result ↔ (arena_len self.old ≡ arena_capacity self.old) }
-        ensures refusal { IfErr result (λ e. e ≡ InsertionError.NotWithinCapacity) }
-        ensures err { OnErr result (self.new ≡ self.old) }
+        ensures refused { FailsIfFull (arena_len self.old) (arena_capacity self.old) result
+            (self.new ≡ self.old) }
         ensures sound { IsSound P.Inx.most P.Gen.greatest self.new }
         ensures room { arena_capacity self.new ≡ arena_capacity self.old }
     {
@@ -46,13 +46,8 @@ impl<P: BasePtr, T: Drop, A: Allocator> Arena<P, T, A> {
         ensures ok { IfOk result
             (λ p. IsInsertion (with_room P.Inx.most self.old) self.new item
             (P.numbers p).0 (P.numbers p).1) }
-        ensures beyond { (result ≡ Err InsertionError.BeyondMaxCapacity)
-            ↔ (arena_len self.old ≡ arena_limit P.Inx.most self.old) }
-        ensures memory { result ≡ Err InsertionError.AllocError
-            → arena_len self.old ≡ arena_capacity self.old }
-        ensures refusal { IfErr result
-            (λ e. (e ≡ InsertionError.BeyondMaxCapacity) ⊎ (e ≡ InsertionError.AllocError)) }
-        ensures err { OnErr result (self.new ≡ self.old) }
+        ensures refused { FailsOnlyIfFull (arena_len self.old) (arena_capacity self.old)
+            (arena_limit P.Inx.most self.old) result (self.new ≡ self.old) }
         ensures sound { IsSound P.Inx.most P.Gen.greatest self.new }
         ensures room { arena_capacity self.old ≤ arena_capacity self.new }
     {
@@ -67,11 +62,8 @@ impl<P: BasePtr, T: Drop, A: Allocator> Arena<P, T, A> {
         requires { self.old.vacant ≡ [] }
         ensures ok { OnOk result (self.new ≡ with_room P.Inx.most self.old) }
         ensures room { OnOk result (0 < length self.new.vacant) }
-        ensures beyond { (result ≡ Err InsertionError.BeyondMaxCapacity)
-            ↔ (arena_len self.old ≡ arena_limit P.Inx.most self.old) }
-        ensures refusal { IfErr result
-            (λ e. (e ≡ InsertionError.BeyondMaxCapacity) ⊎ (e ≡ InsertionError.AllocError)) }
-        ensures err { OnErr result (self.new ≡ self.old) }
+        ensures refused { FailsOnlyIfFull (arena_len self.old) (arena_capacity self.old)
+            (arena_limit P.Inx.most self.old) result (self.new ≡ self.old) }
     {
         let capacity = self.capacity();
         let limit = self.limit();

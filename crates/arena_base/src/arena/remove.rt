@@ -2,8 +2,7 @@
 ghost use Rattle.std.specs.Prelude.{◌≡◌, ◌<◌, Some, is_some};
 ghost use Rattle.std.specs.Option.{option_map};
 ghost use Rattle.arena_base.specs.Arena.{slot, item_of, freed, with_slot, removed, renewed, IsOccupied};
-ghost use Rattle.arena_base.specs.Generation.{overflows_after};
-ghost use Rattle.arena_base.specs.Invalidation.{valid_value, IsRemoval, IsRenewal, allowed_value, is_overflow};
+ghost use Rattle.arena_base.specs.Invalidation.{valid_value, allowed_value, IsRemoval, IsRenewal, IsSureRemoval};
 
 use super::Arena;
 use crate::invalidation::{InvalidationOption, InvalidationResult};
@@ -49,10 +48,10 @@ impl<P: BasePtr, T, A: Allocator> Arena<P, T, A> {
     /// insertion takes its slot.
     pub fn remove_entry(&mut self, i: P::Inx) -> InvalidationOption<(P::Gen, T)>
         requires { IsOccupied self.old (P.Inx.number i) }
-        ensures value { slot self.old (P.Inx.number i)
-            ≡ Some (P.Gen.number (allowed_value result).0, (allowed_value result).1) }
-        ensures overflow { is_overflow result ≡ overflows_after P.Gen.greatest self.old.generation }
-        ensures removed { self.new ≡ removed P.Gen.greatest self.old (P.Inx.number i) }
+        ensures { IsSureRemoval P.Gen.greatest self.old.generation result
+            (P.Gen.number (allowed_value result).0, (allowed_value result).1)
+            (slot self.old (P.Inx.number i))
+            (self.new ≡ removed P.Gen.greatest self.old (P.Inx.number i)) }
     {
         let entry = self.take_entry(i);
         match self.inc_generation() {

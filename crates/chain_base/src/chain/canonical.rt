@@ -1,8 +1,7 @@
 //! Canonical order: each entry gets the index of its position in the list.
 ghost use Rattle.std.specs.Prelude.{◌≡◌};
 ghost use Rattle.std.specs.Option.{option_map};
-ghost use Rattle.arena_base.specs.Compression.{compressed_generation, compression_overflows};
-ghost use Rattle.arena_base.specs.Invalidation.{is_overflow};
+ghost use Rattle.arena_base.specs.Compression.{Restarts};
 ghost use Rattle.chain_base.specs.Chain.{IsOccupied};
 ghost use Rattle.chain_base.specs.Compression.{canonical};
 ghost use Rattle.chain_base.specs.Exchange.{exchanged, exchanged_index, index_before, IsEven};
@@ -20,10 +19,8 @@ impl<P: BasePtr, T, A: Allocator> ChainArena<P, T, A> {
     /// Reports an overflow if the next generation comes after the greatest. The capacity stays, and the free list is ascending, as if no
     /// slot had been used. No memory, and one more pass over the list than `compress`.
     pub fn compress_canonical(&mut self, reset: bool) -> InvalidationOption<()>
-        ensures after { self.new
-            ≡ canonical self.old (compressed_generation P.Gen.greatest reset self.old.generation) }
-        ensures overflow { is_overflow result
-            ≡ compression_overflows P.Gen.greatest reset self.old.generation }
+        ensures { Restarts P.Gen.greatest reset self.old.generation result
+            (λ g. self.new ≡ canonical self.old g) }
     {
         let len = self.len();
         let overflow = self.compress(reset);

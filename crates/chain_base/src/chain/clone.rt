@@ -1,6 +1,7 @@
 //! Clones of other chains, with their pointers and their order.
-ghost use Rattle.std.specs.Prelude.{◌≡◌, ◌<◌, ◌↔◌, ◌⊎◌, OnOk, OnErr};
+ghost use Rattle.std.specs.Prelude.{◌≡◌};
 ghost use Rattle.arena_base.specs.Clone.{Grants};
+ghost use Rattle.arena_base.specs.Room.{Reallocates, ClonesOrFails};
 ghost use Rattle.chain_base.specs.Chain.{chain_limit, greatest_index};
 ghost use Rattle.chain_base.specs.Clone.{IsClone, IsRefusedClone, ShowsLink};
 
@@ -28,13 +29,10 @@ impl<P: BasePtr, T: Drop, A: Allocator> ChainArena<P, T, A> {
         F: FnMut(P, &U, (Option<P::Inx>, Option<P::Inx>)) -> T + Drop,
     >(&mut self, source: &ChainArena<P, U, B>, map: F) -> Result<(), ReallocationError>
         requires { F.IsAlwaysCallable map }
-        ensures ok { OnOk result ((last : F) × IsClone P.numbers (ShowsLink P.Inx.number F.step) map
-            source.now self.old self.new last) }
-        ensures beyond { (result ≡ Err ReallocationError.BeyondMaxCapacity)
-            ↔ (chain_limit P.Inx.most self.old < greatest_index source.now.entries) }
-        ensures memory { result ≡ Err ReallocationError.AllocError
-            → self.old.capacity < greatest_index source.now.entries }
-        ensures err { OnErr result (self.new ≡ self.old) }
+        ensures { Reallocates (chain_limit P.Inx.most self.old) self.old.capacity
+            (greatest_index source.now.entries) result
+            ((last : F) × IsClone P.numbers (ShowsLink P.Inx.number F.step) map
+            source.now self.old self.new last) (self.new ≡ self.old) }
     {
         let mut calls = ShowLink { f: map };
         self.clone_by(source, &mut calls)
@@ -53,16 +51,12 @@ impl<P: BasePtr, T: Drop, A: Allocator> ChainArena<P, T, A> {
         F: FnMut(P, &U, (Option<P::Inx>, Option<P::Inx>)) -> Result<T, AllocError> + Drop,
     >(&mut self, source: &ChainArena<P, U, B>, map: F) -> Result<(), ReallocationError>
         requires { F.IsAlwaysCallable map }
-        ensures ok { OnOk result ((last : F)
-            × IsClone P.numbers (Grants P.numbers (ShowsLink P.Inx.number F.step)) map
-            source.now self.old self.new last) }
-        ensures beyond { (result ≡ Err ReallocationError.BeyondMaxCapacity)
-            ↔ (chain_limit P.Inx.most self.old < greatest_index source.now.entries) }
-        ensures beyond_kept { result ≡ Err ReallocationError.BeyondMaxCapacity
-            → self.new ≡ self.old }
-        ensures memory { result ≡ Err ReallocationError.AllocError
-            → ((self.old.capacity < greatest_index source.now.entries) × (self.new ≡ self.old))
-            ⊎ ((last : F) × IsRefusedClone P.numbers (ShowsLink P.Inx.number F.step) map
+        ensures { ClonesOrFails (chain_limit P.Inx.most self.old) self.old.capacity
+            (greatest_index source.now.entries) result
+            ((last : F) × IsClone P.numbers (Grants P.numbers (ShowsLink P.Inx.number F.step)) map
+            source.now self.old self.new last)
+            (self.new ≡ self.old)
+            ((last : F) × IsRefusedClone P.numbers (ShowsLink P.Inx.number F.step) map
             source.now self.old self.new last) }
     {
         let mut calls = TryShowLink { f: map };
@@ -80,16 +74,11 @@ impl<P: BasePtr, T: Drop, A: Allocator> ChainArena<P, T, A> {
     ) -> Result<(), ReallocationError>
         requires { M.callable map.old }
         ensures callable { M.callable map.new }
-        ensures ok { OnOk result (IsClone P.numbers (Grants P.numbers M.step) map.old
-            source.now self.old self.new map.new) }
-        ensures beyond { (result ≡ Err ReallocationError.BeyondMaxCapacity)
-            ↔ (chain_limit P.Inx.most self.old < greatest_index source.now.entries) }
-        ensures beyond_kept { result ≡ Err ReallocationError.BeyondMaxCapacity
-            → (self.new ≡ self.old) × (map.new ≡ map.old) }
-        ensures memory { result ≡ Err ReallocationError.AllocError
-            → ((self.old.capacity < greatest_index source.now.entries)
-            × (self.new ≡ self.old) × (map.new ≡ map.old))
-            ⊎ IsRefusedClone P.numbers M.step map.old source.now self.old self.new map.new }
+        ensures clones { ClonesOrFails (chain_limit P.Inx.most self.old) self.old.capacity
+            (greatest_index source.now.entries) result
+            (IsClone P.numbers (Grants P.numbers M.step) map.old source.now self.old self.new map.new)
+            ((self.new ≡ self.old) × (map.new ≡ map.old))
+            (IsRefusedClone P.numbers M.step map.old source.now self.old self.new map.new) }
     {
         // For the prover: each index of the source's list is above 0.
         let _ = source.len();

@@ -2,8 +2,7 @@
 ghost use Rattle.std.specs.Prelude.{◌≡◌};
 ghost use Rattle.std.specs.Option.{option_map, ForSome};
 ghost use Rattle.arena_base.specs.Arena.{IsFresh, IsOccupied};
-ghost use Rattle.arena_base.specs.Compression.{compressed_generation, compression_overflows};
-ghost use Rattle.arena_base.specs.Invalidation.{is_overflow};
+ghost use Rattle.arena_base.specs.Compression.{Restarts};
 ghost use Rattle.arena_base.specs.Pointer.{named_of};
 ghost use Rattle.chain_base.specs.Compression.{relocated, IsCompression};
 ghost use Rattle.chain_base.specs.Naming.{CompressesItems, neighbour_on, linked_facing, IsPaired, NamesCompressedIndexes};
@@ -26,20 +25,16 @@ impl<P: BasePtr, T, A: Allocator> ChainArena<P, T, A> {
         f: F,
     ) -> InvalidationOption<()>
         requires { F.IsAlwaysCallable f }
-        ensures after { IsCompression P.numbers F.step
-            (compressed_generation P.Gen.greatest reset self.old.generation) f self.old self.new }
-        ensures overflow { is_overflow result
-            ≡ compression_overflows P.Gen.greatest reset self.old.generation }
+        ensures { Restarts P.Gen.greatest reset self.old.generation result
+            (λ g. IsCompression P.numbers F.step g f self.old self.new) }
     {
         self.compress_by(reset, Calls { f })
     }
 
     /// Moves all entries to the indexes from 1 on, as `compress_with` does. Each keeps its item.
     pub fn compress(&mut self, reset: bool) -> InvalidationOption<()>
-        ensures after { self.new
-            ≡ relocated self.old (compressed_generation P.Gen.greatest reset self.old.generation) }
-        ensures overflow { is_overflow result
-            ≡ compression_overflows P.Gen.greatest reset self.old.generation }
+        ensures { Restarts P.Gen.greatest reset self.old.generation result
+            (λ g. self.new ≡ relocated self.old g) }
     {
         // For the prover: each index of the list is within the capacity.
         let _ = self.len();
@@ -53,10 +48,8 @@ impl<P: BasePtr, T, A: Allocator> ChainArena<P, T, A> {
         map: M,
     ) -> InvalidationOption<()>
         requires { M.callable map }
-        ensures after { IsCompression P.numbers M.step
-            (compressed_generation P.Gen.greatest reset self.old.generation) map self.old self.new }
-        ensures overflow { is_overflow result
-            ≡ compression_overflows P.Gen.greatest reset self.old.generation }
+        ensures { Restarts P.Gen.greatest reset self.old.generation result
+            (λ g. IsCompression P.numbers M.step g map self.old self.new) }
     {
         let first = name_compressed_indexes(&mut self.arena, Side::Before);
         let overflow = compress_items(&mut self.arena, reset, map);
@@ -73,11 +66,9 @@ fn compress_items<P: BasePtr, T, A: Allocator, M: MapEntry<P, T> + Drop>(
     map: M,
 ) -> InvalidationOption<()>
     requires { M.callable map }
-    ensures after { CompressesItems P.numbers M.step
-        (compressed_generation P.Gen.greatest reset arena.old.generation) map arena.old arena.new }
+    ensures restarts { Restarts P.Gen.greatest reset arena.old.generation result
+        (λ g. CompressesItems P.numbers M.step g map arena.old arena.new) }
     ensures fresh { IsFresh arena.new }
-    ensures overflow { is_overflow result
-        ≡ compression_overflows P.Gen.greatest reset arena.old.generation }
 {
     arena.compress_by(reset, MapItem { map })
 }

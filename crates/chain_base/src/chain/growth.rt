@@ -1,7 +1,7 @@
 //! New chain arenas, and changes of the capacity.
-ghost use Rattle.std.specs.Prelude.{◌≡◌, ◌<◌, ◌≤◌, ◌↔◌, ◌⊎◌, max, length, IsSome, IsOk, IsErr, IfOk, OnOk, IfErr, OnErr};
-ghost use Rattle.arena_base.specs.Generation.{overflows_after};
-ghost use Rattle.arena_base.specs.Invalidation.{is_overflow};
+ghost use Rattle.std.specs.Prelude.{◌≡◌, ◌<◌, ◌≤◌, Some, max, length, IsSome, OnOk};
+ghost use Rattle.arena_base.specs.Invalidation.{Raises};
+ghost use Rattle.arena_base.specs.Room.{Allocates, Reallocates, LimitsCapacity, FailsOnlyIfFull};
 ghost use Rattle.chain_base.specs.Chain.{new_chain, with_capacity, with_room, cleared, greatest_index, next_index, chain_limit};
 
 use super::ChainArena;
@@ -33,9 +33,8 @@ impl<P: BasePtr, T, A: Allocator> ChainArena<P, T, A> {
     pub fn with_min_capacity(alloc: A, n: usize) -> Result<Self, AllocError>
     where
         A: Copy,
-        ensures ok { IfOk result (λ c. c ≡ with_capacity (new_chain P.Gen.greatest) n) }
-        ensures beyond { P.Inx.most < n → IsErr result }
-        ensures none { n ≡ 0 → IsOk result }
+        ensures { Allocates P.Inx.most n result
+            (λ c. c ≡ with_capacity (new_chain P.Gen.greatest) n) }
     {
         Ok(ChainArena {
             arena: Arena::with_min_capacity(alloc, n)?,
@@ -55,12 +54,9 @@ impl<P: BasePtr, T, A: Allocator> ChainArena<P, T, A> {
     #[cold]
     #[inline(never)]
     pub fn reallocate_min_capacity(&mut self, n: usize) -> Result<(), ReallocationError>
-        ensures ok { OnOk result
-            (self.new ≡ with_capacity self.old (max n (greatest_index self.old.entries))) }
-        ensures beyond { (result ≡ Err ReallocationError.BeyondMaxCapacity)
-            ↔ (chain_limit P.Inx.most self.old < n) }
-        ensures memory { result ≡ Err ReallocationError.AllocError → self.old.capacity < n }
-        ensures err { OnErr result (self.new ≡ self.old) }
+        ensures { Reallocates (chain_limit P.Inx.most self.old) self.old.capacity n result
+            (self.new ≡ with_capacity self.old (max n (greatest_index self.old.entries)))
+            (self.new ≡ self.old) }
     {
         self.arena.reallocate_min_capacity(n)
     }
@@ -82,13 +78,8 @@ impl<P: BasePtr, T, A: Allocator> ChainArena<P, T, A> {
         ensures next { OnOk result (IsSome (next_index self.new)) }
         ensures kept { self.new.entries ≡ self.old.entries }
         ensures capacity { self.old.capacity ≤ self.new.capacity }
-        ensures beyond { (result ≡ Err InsertionError.BeyondMaxCapacity)
-            ↔ (length self.old.entries ≡ chain_limit P.Inx.most self.old) }
-        ensures memory { result ≡ Err InsertionError.AllocError
-            → length self.old.entries ≡ self.old.capacity }
-        ensures refusal { IfErr result
-            (λ e. (e ≡ InsertionError.BeyondMaxCapacity) ⊎ (e ≡ InsertionError.AllocError)) }
-        ensures err { OnErr result (self.new ≡ self.old) }
+        ensures refused { FailsOnlyIfFull (length self.old.entries) self.old.capacity
+            (chain_limit P.Inx.most self.old) result (self.new ≡ self.old) }
     {
         let capacity = self.capacity();
         if self.len() < capacity {
@@ -120,9 +111,8 @@ impl<P: BasePtr, T, A: Allocator> ChainArena<P, T, A> {
     ///
     /// The chain is unchanged: its capacity is already greater than `n`.
     pub fn set_max_capacity(&mut self, n: usize) -> Result<(), MaxCapacityReductionError>
-        ensures ok { OnOk result (self.new ≡ record self.old { maximum = Some n }) }
-        ensures refused { IsErr result ↔ (n < self.old.capacity) }
-        ensures err { OnErr result (self.new ≡ self.old) }
+        ensures { LimitsCapacity self.old.capacity n result
+            (self.new ≡ record self.old { maximum = Some n }) (self.new ≡ self.old) }
     {
         self.arena.set_max_capacity(n)
     }
@@ -132,8 +122,8 @@ impl<P: BasePtr, T, A: Allocator> ChainArena<P, T, A> {
     pub fn clear(&mut self) -> InvalidationOption<()>
     where
         T: Drop,
-        ensures after { self.new ≡ cleared P.Gen.greatest self.old }
-        ensures overflow { is_overflow result ≡ overflows_after P.Gen.greatest self.old.generation }
+        ensures { Raises P.Gen.greatest self.old.generation result
+            (self.new ≡ cleared P.Gen.greatest self.old) }
     {
         self.first = None;
         self.last = None;

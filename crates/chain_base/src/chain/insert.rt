@@ -1,6 +1,7 @@
 //! Insertions.
-ghost use Rattle.std.specs.Prelude.{◌≡◌, ◌≤◌, ◌↔◌, ◌⊎◌, ◌++◌, ◌∷◌, [], Some, IsErr, IfOk, IfErr, OnErr, length};
+ghost use Rattle.std.specs.Prelude.{◌≡◌, ◌≤◌, ◌++◌, ◌∷◌, [], IfOk, length};
 ghost use Rattle.std.specs.Option.{option_map};
+ghost use Rattle.arena_base.specs.Room.{FailsIfFull, FailsOnlyIfFull};
 ghost use Rattle.chain_base.specs.Chain.{chain_limit, with_room};
 ghost use Rattle.chain_base.specs.Insert.{placed, CanPlace, IsInsertion, PutsBetween};
 
@@ -38,9 +39,8 @@ impl<P: BasePtr, T: Drop, A: Allocator> ChainArena<P, T, A> {
         requires { CanPlace P.Inx.number kind self.old }
         ensures ok { IfOk result (λ p. IsInsertion self.old self.new
             (placed P.Inx.number kind self.old.entries) t (P.numbers p).0 (P.numbers p).1) }
-        ensures full { IsErr result ↔ (length self.old.entries ≡ self.old.capacity) }
-        ensures refusal { IfErr result (λ e. e ≡ InsertionError.NotWithinCapacity) }
-        ensures err { OnErr result (self.new ≡ self.old) }
+        ensures refused { FailsIfFull (length self.old.entries) self.old.capacity result
+            (self.new ≡ self.old) }
     {
         let (prev, next) = self.neighbours(kind);
         let p = self
@@ -69,9 +69,8 @@ impl<P: BasePtr, T: Drop, A: Allocator> ChainArena<P, T, A> {
     pub fn push_back_within_capacity(&mut self, t: T) -> Result<P, InsertionError>
         ensures ok { IfOk result (λ p. IsInsertion self.old self.new
             (λ e. self.old.entries ++ e ∷ []) t (P.numbers p).0 (P.numbers p).1) }
-        ensures full { IsErr result ↔ (length self.old.entries ≡ self.old.capacity) }
-        ensures refusal { IfErr result (λ e. e ≡ InsertionError.NotWithinCapacity) }
-        ensures err { OnErr result (self.new ≡ self.old) }
+        ensures refused { FailsIfFull (length self.old.entries) self.old.capacity result
+            (self.new ≡ self.old) }
     {
         let last = self.last;
         let p = self
@@ -107,14 +106,9 @@ impl<P: BasePtr, T: Drop, A: Allocator> ChainArena<P, T, A> {
         requires { CanPlace P.Inx.number kind self.old }
         ensures ok { IfOk result (λ p. IsInsertion (with_room P.Inx.most self.old) self.new
             (placed P.Inx.number kind self.old.entries) t (P.numbers p).0 (P.numbers p).1) }
-        ensures beyond { (result ≡ Err InsertionError.BeyondMaxCapacity)
-            ↔ (length self.old.entries ≡ chain_limit P.Inx.most self.old) }
-        ensures memory { result ≡ Err InsertionError.AllocError
-            → length self.old.entries ≡ self.old.capacity }
-        ensures refusal { IfErr result
-            (λ e. (e ≡ InsertionError.BeyondMaxCapacity) ⊎ (e ≡ InsertionError.AllocError)) }
         ensures room { self.old.capacity ≤ self.new.capacity }
-        ensures err { OnErr result (self.new ≡ self.old) }
+        ensures refused { FailsOnlyIfFull (length self.old.entries) self.old.capacity
+            (chain_limit P.Inx.most self.old) result (self.new ≡ self.old) }
     {
         self.make_room()?;
         self.insert_within_capacity(kind, t)

@@ -1,8 +1,7 @@
 //! Removals, and renewals of pointers.
-ghost use Rattle.std.specs.Prelude.{◌≡◌, Some, is_some};
+ghost use Rattle.std.specs.Prelude.{◌≡◌, is_some};
 ghost use Rattle.std.specs.Option.{option_map};
-ghost use Rattle.arena_base.specs.Generation.{overflows_after};
-ghost use Rattle.arena_base.specs.Invalidation.{valid_value, IsRemoval, IsRenewal, allowed_value, is_overflow};
+ghost use Rattle.arena_base.specs.Invalidation.{valid_value, allowed_value, IsRemoval, IsRenewal, IsSureRemoval};
 ghost use Rattle.chain_base.specs.Chain.{IsOccupied, link_at, item_of, removed, renewed};
 
 use super::ChainArena;
@@ -35,10 +34,10 @@ impl<P: BasePtr, T, A: Allocator> ChainArena<P, T, A> {
     /// entry's generation and the link that it had. The next insertion takes its slot. No memory.
     pub fn remove_entry(&mut self, i: P::Inx) -> InvalidationOption<(P::Gen, LinkNoGen<P, T>)>
         requires { IsOccupied self.old (P.Inx.number i) }
-        ensures value { link_at self.old.entries (P.Inx.number i)
-            ≡ Some (P.Gen.number (allowed_value result).0, (allowed_value result).1) }
-        ensures overflow { is_overflow result ≡ overflows_after P.Gen.greatest self.old.generation }
-        ensures removed { self.new ≡ removed P.Gen.greatest self.old (P.Inx.number i) }
+        ensures { IsSureRemoval P.Gen.greatest self.old.generation result
+            (P.Gen.number (allowed_value result).0, (allowed_value result).1)
+            (link_at self.old.entries (P.Inx.number i))
+            (self.new ≡ removed P.Gen.greatest self.old (P.Inx.number i)) }
     {
         let (prev, next) = self.arena.entry(i).1.prev_next();
         let taken = self.arena.remove_entry(i);

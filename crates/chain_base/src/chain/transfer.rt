@@ -1,11 +1,12 @@
 //! Transfers: all entries move into another chain.
-ghost use Rattle.std.specs.Prelude.{◌≡◌, ◌<◌, ◌≤◌, ◌↔◌, List, [], ◌∷◌, ◌++◌, OnOk, OnErr, length, max};
+ghost use Rattle.std.specs.Prelude.{◌≡◌, ◌<◌, ◌≤◌, List, [], ◌∷◌, ◌++◌, length, max};
 ghost use Rattle.std.specs.Option.{option_map};
 ghost use Rattle.arena_base.specs.Generation.{IsLawfulGeneration};
 ghost use Rattle.arena_base.specs.Invalidation.{valid_value, has_overflowed};
+ghost use Rattle.arena_base.specs.Room.{Reallocates};
 ghost use Rattle.chain_base.specs.Chain.{Chain, chain_limit};
 ghost use Rattle.chain_base.specs.Compression.{IsTransfer};
-ghost use Rattle.chain_base.specs.Transfer.{filled_with, last_index_of, place_behind, TakesOut, HasTaken};
+ghost use Rattle.chain_base.specs.Transfer.{filled_with, last_index_of, place_behind, TakesFirst, HasTaken};
 
 use super::ChainArena;
 use super::insert::LinkInsertKind;
@@ -42,14 +43,11 @@ impl<P: BasePtr, T, A: Allocator> ChainArena<P, T, A> {
         T: Drop,
         requires lawful { IsLawfulGeneration P.Gen.greatest (P.Gen.number new_generation) }
         requires callable { F.IsAlwaysCallable f }
-        ensures ok { OnOk result (IsTransfer Q.numbers P.numbers Q.Gen.greatest F.step
-            (P.Gen.number new_generation) f source.old source.new self.old self.new) }
-        ensures beyond { (result ≡ Err ReallocationError.BeyondMaxCapacity)
-            ↔ (chain_limit P.Inx.most self.old < length source.old.entries) }
-        ensures memory { result ≡ Err ReallocationError.AllocError
-            → self.old.capacity < length source.old.entries }
-        ensures err { OnErr result (self.new ≡ self.old) }
-        ensures err_source { OnErr result (source.new ≡ source.old) }
+        ensures { Reallocates (chain_limit P.Inx.most self.old) self.old.capacity
+            (length source.old.entries) result
+            (IsTransfer Q.numbers P.numbers Q.Gen.greatest F.step
+            (P.Gen.number new_generation) f source.old source.new self.old self.new)
+            ((self.new ≡ self.old) × (source.new ≡ source.old)) }
     {
         self.transfer_by(new_generation, source, Calls { f })
     }
@@ -65,14 +63,11 @@ impl<P: BasePtr, T, A: Allocator> ChainArena<P, T, A> {
         T: Drop,
         requires lawful { IsLawfulGeneration P.Gen.greatest (P.Gen.number new_generation) }
         requires callable { M.callable map }
-        ensures ok { OnOk result (IsTransfer Q.numbers P.numbers Q.Gen.greatest M.step
-            (P.Gen.number new_generation) map source.old source.new self.old self.new) }
-        ensures beyond { (result ≡ Err ReallocationError.BeyondMaxCapacity)
-            ↔ (chain_limit P.Inx.most self.old < length source.old.entries) }
-        ensures memory { result ≡ Err ReallocationError.AllocError
-            → self.old.capacity < length source.old.entries }
-        ensures err { OnErr result (self.new ≡ self.old) }
-        ensures err_source { OnErr result (source.new ≡ source.old) }
+        ensures { Reallocates (chain_limit P.Inx.most self.old) self.old.capacity
+            (length source.old.entries) result
+            (IsTransfer Q.numbers P.numbers Q.Gen.greatest M.step
+            (P.Gen.number new_generation) map source.old source.new self.old self.new)
+            ((self.new ≡ self.old) × (source.new ≡ source.old)) }
     {
         raise_capacity(self, source.len())?;
         let _ = self.clear();
@@ -88,12 +83,9 @@ fn raise_capacity<P: BasePtr, T, A: Allocator>(
     chain: &mut ChainArena<P, T, A>,
     n: usize,
 ) -> Result<(), ReallocationError>
-    ensures capacity { OnOk result (chain.new.capacity ≡ max chain.old.capacity n) }
-    ensures maximum { OnOk result (chain.new.maximum ≡ chain.old.maximum) }
-    ensures beyond { (result ≡ Err ReallocationError.BeyondMaxCapacity)
-        ↔ (chain_limit P.Inx.most chain.old < n) }
-    ensures memory { result ≡ Err ReallocationError.AllocError → chain.old.capacity < n }
-    ensures err { OnErr result (chain.new ≡ chain.old) }
+    ensures { Reallocates (chain_limit P.Inx.most chain.old) chain.old.capacity n result
+        ((chain.new.capacity ≡ max chain.old.capacity n) × (chain.new.maximum ≡ chain.old.maximum))
+        (chain.new ≡ chain.old) }
 {
     prove!(chain.len() <= chain.capacity());
     if n <= chain.capacity() {
@@ -134,7 +126,7 @@ fn take_first<Q: BasePtr, U, B: Allocator>(
     source: &mut ChainArena<Q, U, B>,
 ) -> (Q, InvalidationOption<U>)
     requires { 0 < length source.old.entries }
-    ensures { TakesOut Q.numbers Q.Gen.greatest source.old source.new result.0 result.1 }
+    ensures { TakesFirst Q.numbers Q.Gen.greatest source.old source.new result.0 result.1 }
 {
     let from = source.first().unwrap();
     let taken = item_taken(source.remove_inx_link_no_gen(from.inx()));

@@ -1,11 +1,11 @@
 //! Cloning another tree: its pointers, its order and its shape.
 
-ghost use Rattle.std.specs.Prelude.{◌≡◌, ◌<◌, ◌↔◌, ◌⊎◌, OnOk};
+ghost use Rattle.std.specs.Prelude.{◌≡◌};
 ghost use Rattle.chain_base.specs.Chain.{chain_limit, greatest_index};
 ghost use Rattle.chain_base.specs.Clone.{IsClone as IsClonedList};
 ghost use Rattle.chain_base.specs.ArenaClone.{IsShown};
+ghost use Rattle.chain_base.specs.Room.{Reallocates, ClonesOrFails};
 ghost use Rattle.ord_tree.specs.Clone.{IsClone, IsRefusedClone, ShowsItem};
-ghost use Rattle.ord_tree.specs.Tree.{Reallocates};
 
 use super::OrdTree;
 use crate::node::SimpleOrdArenaNode;
@@ -36,16 +36,11 @@ impl<P: BasePtr, T: Drop, A: Allocator> OrdTree<P, T, A> {
         F: FnMut(P, &U) -> Result<T, AllocError> + Drop,
     >(&mut self, source: &OrdTree<P, U, B>, map: F) -> Result<(), ReallocationError>
         requires { F.IsAlwaysCallable map }
-        ensures ok { OnOk result ((last : F)
-            × IsClone P.numbers (IsShown F.step) map source.now self.old self.new last) }
-        ensures beyond { (result ≡ Err ReallocationError.BeyondMaxCapacity)
-            ↔ (chain_limit P.Inx.most self.old.list < greatest_index source.now.list.entries) }
-        ensures beyond_kept { result ≡ Err ReallocationError.BeyondMaxCapacity
-            → self.new ≡ self.old }
-        ensures memory { result ≡ Err ReallocationError.AllocError
-            → ((self.old.list.capacity < greatest_index source.now.list.entries)
-            × (self.new ≡ self.old))
-            ⊎ ((last : F)
+        ensures { ClonesOrFails (chain_limit P.Inx.most self.old.list) self.old.list.capacity
+            (greatest_index source.now.list.entries) result
+            ((last : F) × IsClone P.numbers (IsShown F.step) map source.now self.old self.new last)
+            (self.new ≡ self.old)
+            ((last : F)
             × IsRefusedClone P.numbers (IsShown F.step) map source.now self.old self.new last) }
     {
         let mut calls = TryCalls { f: map };
@@ -63,16 +58,11 @@ impl<P: BasePtr, T: Drop, A: Allocator> OrdTree<P, T, A> {
     ) -> Result<(), ReallocationError>
         requires { M.callable map.old }
         ensures callable { M.callable map.new }
-        ensures ok { OnOk result
-            (IsClone P.numbers M.step map.old source.now self.old self.new map.new) }
-        ensures beyond { (result ≡ Err ReallocationError.BeyondMaxCapacity)
-            ↔ (chain_limit P.Inx.most self.old.list < greatest_index source.now.list.entries) }
-        ensures beyond_kept { result ≡ Err ReallocationError.BeyondMaxCapacity
-            → (self.new ≡ self.old) × (map.new ≡ map.old) }
-        ensures memory { result ≡ Err ReallocationError.AllocError
-            → ((self.old.list.capacity < greatest_index source.now.list.entries)
-            × (self.new ≡ self.old) × (map.new ≡ map.old))
-            ⊎ IsRefusedClone P.numbers M.step map.old source.now self.old self.new map.new }
+        ensures clones { ClonesOrFails (chain_limit P.Inx.most self.old.list) self.old.list.capacity
+            (greatest_index source.now.list.entries) result
+            (IsClone P.numbers M.step map.old source.now self.old self.new map.new)
+            ((self.new ≡ self.old) × (map.new ≡ map.old))
+            (IsRefusedClone P.numbers M.step map.old source.now self.old self.new map.new) }
     {
         // For the prover: the source's list is sound, so each of its indexes is above 0.
         let _ = source.chain.len();
@@ -112,7 +102,8 @@ impl<P: BasePtr, T, A: Allocator + Copy> OrdTree<P, T, A> {
         map: F,
     ) -> Result<(), ReallocationError>
         requires { F.IsAlwaysCallable map }
-        ensures { Reallocates P.Inx.most chain.old (greatest_index self.now.list.entries) result
+        ensures { Reallocates (chain_limit P.Inx.most chain.old) chain.old.capacity
+            (greatest_index self.now.list.entries) result
             ((last : F) × IsClonedList P.numbers (ShowsItem F.step) map
             self.now.list chain.old chain.new last) (chain.new ≡ chain.old) }
     {

@@ -1,9 +1,9 @@
 //! Creating a tree, and changing its capacity.
 
-ghost use Rattle.std.specs.Prelude.{◌≡◌, ◌<◌, ◌↔◌, max, length, IsSome, IsOk, IsErr, IfOk, OnOk, OnErr};
-ghost use Rattle.chain_base.specs.Chain.{new_chain, with_capacity, with_room, greatest_index, next_index};
+ghost use Rattle.std.specs.Prelude.{◌≡◌, ◌<◌, Some, max, length, IsSome, OnOk};
+ghost use Rattle.chain_base.specs.Chain.{new_chain, chain_limit, with_capacity, with_room, greatest_index, next_index};
+ghost use Rattle.chain_base.specs.Room.{Allocates, Reallocates, LimitsCapacity, FailsOnlyIfFull};
 ghost use Rattle.ord_tree.specs.Shape.{missing};
-ghost use Rattle.ord_tree.specs.Tree.{FailsOnlyIfFull, Reallocates};
 
 use super::OrdTree;
 use arena_base::{BasePtr, InsertionError, MaxCapacityReductionError, ReallocationError};
@@ -27,14 +27,12 @@ impl<P: BasePtr, T, A: Allocator> OrdTree<P, T, A> {
     pub fn with_min_capacity(alloc: A, n: usize) -> Result<Self, AllocError>
     where
         A: Copy,
-        ensures ok { IfOk result
+        ensures { Allocates P.Inx.most n result
             (λ t. t ≡ record {
               list = with_capacity
                   (new_chain P.Gen.greatest) n;
               shape = missing;
             }) }
-        ensures beyond { P.Inx.most < n → IsErr result }
-        ensures none { n ≡ 0 → IsOk result }
     {
         Ok(OrdTree {
             chain: ChainArena::with_min_capacity(alloc, n)?,
@@ -51,7 +49,7 @@ impl<P: BasePtr, T, A: Allocator> OrdTree<P, T, A> {
     /// - `BeyondMaxCapacity`: `n` is beyond the maximum or the greatest index.
     /// - `AllocError`: growing failed.
     pub fn reallocate_min_capacity(&mut self, n: usize) -> Result<(), ReallocationError>
-        ensures { Reallocates P.Inx.most self.old.list n result
+        ensures { Reallocates (chain_limit P.Inx.most self.old.list) self.old.list.capacity n result
             (self.new ≡ record self.old {
               list = with_capacity self.old.list (max n (greatest_index self.old.list.entries));
             }) (self.new ≡ self.old) }
@@ -77,17 +75,17 @@ impl<P: BasePtr, T, A: Allocator> OrdTree<P, T, A> {
         ensures next { OnOk result (IsSome (next_index self.new.list)) }
         ensures entries { self.new.list.entries ≡ self.old.list.entries }
         ensures shape { self.new.shape ≡ self.old.shape }
-        ensures refused { FailsOnlyIfFull P.Inx.most self.old self.new result }
+        ensures refused { FailsOnlyIfFull (length self.old.list.entries) self.old.list.capacity
+            (chain_limit P.Inx.most self.old.list) result (self.new ≡ self.old) }
     {
         self.chain.make_room()
     }
 
     /// Sets a maximum for the capacity. On `Err` the capacity is already greater, and the tree is unchanged.
     pub fn set_max_capacity(&mut self, n: usize) -> Result<(), MaxCapacityReductionError>
-        ensures ok { OnOk result
-            (self.new ≡ record self.old { list = record self.old.list { maximum = Some n } }) }
-        ensures refused { IsErr result ↔ (n < self.old.list.capacity) }
-        ensures err { OnErr result (self.new ≡ self.old) }
+        ensures { LimitsCapacity self.old.list.capacity n result
+            (self.new ≡ record self.old { list = record self.old.list { maximum = Some n } })
+            (self.new ≡ self.old) }
     {
         self.chain.set_max_capacity(n)
     }

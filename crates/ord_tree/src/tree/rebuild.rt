@@ -1,13 +1,12 @@
 //! Moving all entries, and rebuilding the tree over the list.
 
-ghost use Rattle.std.specs.Prelude.{◌≡◌, ◌<◌, ◌↔◌, OnOk, OnErr, length};
+ghost use Rattle.std.specs.Prelude.{◌≡◌, length};
 ghost use Rattle.std.specs.Option.{option_map};
 ghost use Rattle.chain_base.specs.Generation.{IsLawfulGeneration};
 ghost use Rattle.chain_base.specs.Chain.{chain_limit};
 ghost use Rattle.chain_base.specs.Compression.{canonical, relocated, IsCompression, IsTransfer};
-ghost use Rattle.ord_tree.specs.Shape.{missing};
-ghost use Rattle.ord_tree.specs.Half.{IsRebuilt};
-ghost use Rattle.ord_tree.specs.Tree.{Compresses};
+ghost use Rattle.chain_base.specs.Room.{Reallocates};
+ghost use Rattle.ord_tree.specs.Tree.{Compresses, TransfersTree};
 ghost use Rattle.ord_tree.specs.Layout.{RebuildsChain};
 
 use super::OrdTree;
@@ -90,17 +89,12 @@ impl<P: BasePtr, T, A: Allocator> OrdTree<P, T, A> {
         T: Drop,
         requires lawful { IsLawfulGeneration P.Gen.greatest (P.Gen.number new_generation) }
         requires callable { F.IsAlwaysCallable f }
-        ensures ok { OnOk result (IsTransfer Q.numbers P.numbers Q.Gen.greatest F.step
+        ensures { Reallocates (chain_limit P.Inx.most self.old.list) self.old.list.capacity
+            (length source.old.list.entries) result
+            (TransfersTree source.new self.new (IsTransfer Q.numbers P.numbers Q.Gen.greatest F.step
             (P.Gen.number new_generation) f
-            source.old.list source.new.list self.old.list self.new.list) }
-        ensures shape { OnOk result (IsRebuilt self.new.shape) }
-        ensures left { OnOk result (source.new.shape ≡ missing) }
-        ensures beyond { (result ≡ Err ReallocationError.BeyondMaxCapacity)
-            ↔ (chain_limit P.Inx.most self.old.list < length source.old.list.entries) }
-        ensures memory { result ≡ Err ReallocationError.AllocError
-            → self.old.list.capacity < length source.old.list.entries }
-        ensures err { OnErr result (self.new ≡ self.old) }
-        ensures err_source { OnErr result (source.new ≡ source.old) }
+            source.old.list source.new.list self.old.list self.new.list))
+            ((self.new ≡ self.old) × (source.new ≡ source.old)) }
     {
         let map = MapNode { map: Calls { f } };
         self.chain

@@ -1,12 +1,11 @@
 //! Removing entries and invalidating pointers.
 
-ghost use Rattle.std.specs.Prelude.{◌≡◌, Some, OnSome, is_some};
+ghost use Rattle.std.specs.Prelude.{◌≡◌, OnSome, is_some};
 ghost use Rattle.std.specs.Option.{option_map};
-ghost use Rattle.chain_base.specs.Generation.{overflows_after};
-ghost use Rattle.chain_base.specs.Invalidation.{valid_value, IsRemoval, IsRenewal, allowed_value, is_overflow};
+ghost use Rattle.chain_base.specs.Invalidation.{valid_value, allowed_value, is_overflow, IsRemoval, IsRenewal, IsSureRemoval, Raises};
 ghost use Rattle.chain_base.specs.Chain.{IsOccupied, entry_at, item_of, removed, renewed, cleared};
 ghost use Rattle.ord_tree.specs.Shape.{missing};
-ghost use Rattle.ord_tree.specs.Tree.{IsShrunk, Raises};
+ghost use Rattle.ord_tree.specs.Tree.{IsShrunk};
 
 use super::OrdTree;
 use super::insert::neighbour;
@@ -50,11 +49,10 @@ impl<P: BasePtr, T, A: Allocator> OrdTree<P, T, A> {
     /// O(log n), and no memory. At most nine nodes get a new parent. The amortized number of rank changes is at most 9.
     pub fn remove_entry(&mut self, i: P::Inx) -> InvalidationOption<(P::Gen, T)>
         requires { IsOccupied self.old.list (P.Inx.number i) }
-        ensures value { entry_at self.old.list.entries (P.Inx.number i)
-            ≡ Some (P.Gen.number (allowed_value result).0, (allowed_value result).1) }
-        ensures overflow { is_overflow result
-            ≡ overflows_after P.Gen.greatest self.old.list.generation }
-        ensures removed { self.new.list ≡ removed P.Gen.greatest self.old.list (P.Inx.number i) }
+        ensures removal { IsSureRemoval P.Gen.greatest self.old.list.generation result
+            (P.Gen.number (allowed_value result).0, (allowed_value result).1)
+            (entry_at self.old.list.entries (P.Inx.number i))
+            (self.new.list ≡ removed P.Gen.greatest self.old.list (P.Inx.number i)) }
         ensures shape { IsShrunk self.old.shape self.new.shape }
     {
         // For the prover: the list is sound.

@@ -1,8 +1,9 @@
 //! Entries that come from another arena.
 
-ghost use Rattle.std.specs.Prelude.{◌≡◌, ◌↔◌, ◌+◌, ◌<◌, [], map, Err, Some, OnOk, OnErr};
+ghost use Rattle.std.specs.Prelude.{◌≡◌, ◌↔◌, ◌+◌, ◌<◌, [], map, Ok, Err, OnOk, OnErr};
+ghost use Rattle.sorted_arena.specs.Change.{InsertsPair};
 ghost use Rattle.sorted_arena.specs.Merge.{merged};
-ghost use Rattle.sorted_arena.specs.Sorted.{count, item_of, with_rest, Inserts, IsSound, Keeps, Updates};
+ghost use Rattle.sorted_arena.specs.Sorted.{count, item_of, with_rest, Keeps};
 
 use super::SortedArena;
 use std::alloc::Allocator;
@@ -48,14 +49,10 @@ impl<K: Ord + Drop, V: Drop, P: BasePtr, A: Allocator> SortedArena<K, V, P, A> {
     // Inserts an entry where one has room.
     pub(super) fn insert_in_room(&mut self, k: K, v: V) -> P
         requires { count self.old < self.old.capacity }
-        ensures inserts { Inserts K.cmp P.Inx.most self.old (P.numbers result) k v self.new }
-        ensures updates { Updates self.old self.new (P.numbers result) (Some (k, v)) }
-        ensures count { count self.new ≡ count self.old + 1 }
+        ensures inserts { InsertsPair {E = Unit {0}} K.cmp P.Inx.most P.numbers
+            self.old k v (Ok result) self.new }
         ensures capacity { self.new.capacity ≡ self.old.capacity }
-        ensures sound { IsSound K.cmp P.Inx.most self.new }
     {
-        // For the prover: the arena is sound.
-        let _ = self.len();
         match self.insert(k, v) {
             Ok(p) => p,
             // there is room

@@ -7,7 +7,7 @@ ghost use Rattle.std.specs.Vec.{vec_capacity};
 ghost use Rattle.triple_ord.specs.Gap.{first_of};
 ghost use Rattle.sorted_arena.specs.Change.{DrainsInto, RemovesEntries};
 ghost use Rattle.sorted_arena.specs.Range.{entries_between, entries_outside};
-ghost use Rattle.sorted_arena.specs.Sorted.{count, pointer_of, item_of, with_rest};
+ghost use Rattle.sorted_arena.specs.Sorted.{count, pointer_of, item_of, with_rest, IsSound};
 ghost use Rattle.sorted_arena.specs.Taking.{IsCutAt, TakesOut};
 
 use super::SortedArena;
@@ -64,15 +64,14 @@ impl<K: Ord + Drop, V: Drop, P: BasePtr, A: Allocator> SortedArena<K, V, P, A> {
         until: Bound<&K>,
         drained: &mut Vec<(K, V), B>,
     ) -> Result<(), AllocError>
-        ensures { DrainsInto P.Gen.greatest self.old
+        ensures drains { DrainsInto P.Gen.greatest self.old
             (entries_between K.cmp (bound_map (λ k. k.now) from.entry)
             (bound_map (λ k. k.now) until.entry) self.old.entries)
             (entries_outside K.cmp (bound_map (λ k. k.now) from.entry)
             (bound_map (λ k. k.now) until.entry) self.old.entries)
             drained.old drained.new result self.new }
+        ensures was_sound { IsSound K.cmp P.Inx.most self.old }
     {
-        // For the prover: the arena is sound.
-        let _ = self.len();
         let (first, count) = self.run_between(from, until);
         drained.reserve(count)?;
         let mut next = first;
@@ -92,9 +91,8 @@ impl<K: Ord + Drop, V: Drop, P: BasePtr, A: Allocator> SortedArena<K, V, P, A> {
         ensures removes { RemovesEntries P.Gen.greatest self.old
             (entries_outside K.cmp (bound_map (λ k. k.now) from.entry)
             (bound_map (λ k. k.now) until.entry) self.old.entries) result self.new }
+        ensures was_sound { IsSound K.cmp P.Inx.most self.old }
     {
-        // For the prover: the arena is sound.
-        let _ = self.len();
         let (first, count) = self.run_between(from, until);
         let mut next = first;
         for _ in 0..count {
@@ -114,6 +112,7 @@ impl<K: Ord, V, P: BasePtr, A: Allocator> SortedArena<K, V, P, A> {
         ensures count { result.1 ≡ length (entries_between K.cmp
             (bound_map (λ k. k.now) from.entry) (bound_map (λ k. k.now) until.entry)
             self.now.entries) }
+        ensures sound { IsSound K.cmp P.Inx.most self.now }
     {
         let mut run = self.between(from, until);
         match run.next() {
@@ -125,12 +124,11 @@ impl<K: Ord, V, P: BasePtr, A: Allocator> SortedArena<K, V, P, A> {
     // Removes the entry at `next`, and returns its key and value, and the pointer of its successor.
     pub(super) fn take(&mut self, next: Option<P>) -> ((K, V), Option<P>)
         requires { IsCutAt self.old.entries (option_map P.numbers next) }
-        ensures { (at : IsCutAt self.old.entries (option_map P.numbers next))
+        ensures takes { (at : IsCutAt self.old.entries (option_map P.numbers next))
             → TakesOut P.Gen.greatest self.old (option_map P.numbers next) at result.0 self.new
             (option_map P.numbers result.1) }
+        ensures sound { IsSound K.cmp P.Inx.most self.new }
     {
-        // For the prover: the arena is sound.
-        let _ = self.len();
         let p = next.unwrap();
         let after = self.next(p);
         let pair = self.remove(p).unwrap();

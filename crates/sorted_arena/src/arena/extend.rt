@@ -99,8 +99,6 @@ impl<K: Ord + Drop, V: Drop, P: BasePtr, A: Allocator> SortedArena<K, V, P, A> {
         ensures kept { Keeps self.old self.new }
         ensures generation { self.new.generation ≡ self.old.generation }
     {
-        // For the prover: the list is sound.
-        let _ = self.pairs.len();
         let _ = self.pairs.append_pairs_within_capacity(pairs);
     }
 
@@ -129,8 +127,6 @@ impl<K: Ord + Drop, V: Drop, P: BasePtr, A: Allocator> SortedArena<K, V, P, A> {
         ensures { result
             ≡ option_map_or (λ x. is_gt (K.cmp x.0 k.now)) (last_item self.now.entries) false }
     {
-        // For the prover: the arena is sound.
-        let _ = self.len();
         let Some(p) = self.last() else {
             return false;
         };

@@ -32,8 +32,6 @@ impl<K: Ord + Drop, V: Drop, P: BasePtr, A: Allocator> SortedArena<K, V, P, A> {
     {
         let p = put(&mut self.pairs, k, v)?;
         self.is_compact = self.is_compact && is_last_in(&self.pairs, p);
-        // For the prover: the arena is sound.
-        let _ = self.len();
         Ok(p)
     }
 

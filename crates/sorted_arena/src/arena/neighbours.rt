@@ -1,11 +1,10 @@
 //! The first and the last entry, and the neighbours of an entry.
 
-ghost use Rattle.std.specs.Prelude.{◌≡◌, ◌≢◌, IfSome, IfNone, IsSome, IsSomeAnd};
-ghost use Rattle.std.specs.List.{All};
-ghost use Rattle.std.specs.Option.{option_map};
+ghost use Rattle.std.specs.Prelude.{◌≢◌};
 ghost use Rattle.std.specs.declared.cmp.Ordering.TheVariants.{Greater};
 ghost use Rattle.triple_ord.specs.Chain.{first_pointer, last_pointer};
-ghost use Rattle.sorted_arena.specs.Sorted.{pair_of, count, key_of, next_of, prev_of, IsSound};
+ghost use Rattle.sorted_arena.specs.Find.{FindsEnd, FindsNeighbour};
+ghost use Rattle.sorted_arena.specs.Sorted.{next_of, prev_of};
 
 use super::SortedArena;
 use crate::pairs::{next_in, prev_in};
@@ -15,11 +14,8 @@ use triple_ord::BasePtr;
 impl<K: Ord, V, P: BasePtr, A: Allocator> SortedArena<K, V, P, A> {
     /// Returns the pointer of the first entry, which has the smallest key, in O(1).
     pub fn first(&self) -> Option<P>
-        ensures value { option_map P.numbers result ≡ first_pointer self.now.entries }
-        ensures least { IfSome result (λ p. IsSomeAnd (pair_of self.now (P.numbers p))
-            (λ least. All (λ e. K.cmp least.0 (key_of e) ≢ Greater) self.now.entries)) }
-        ensures none { IfNone result (count self.now ≡ 0) }
-        ensures sound { IsSound K.cmp P.Inx.most self.now }
+        ensures { FindsEnd K.cmp P.Inx.most P.numbers self.now (λ k l. K.cmp k l ≢ Greater)
+            (first_pointer self.now.entries) result }
     {
         // For the prover: the arena is sound.
         let _ = self.len();
@@ -28,14 +24,10 @@ impl<K: Ord, V, P: BasePtr, A: Allocator> SortedArena<K, V, P, A> {
 
     /// Returns the pointer of the last entry, which has the greatest key, in O(1).
     pub fn last(&self) -> Option<P>
-        ensures value { option_map P.numbers result ≡ last_pointer self.now.entries }
-        ensures greatest { IfSome result (λ p. IsSomeAnd (pair_of self.now (P.numbers p))
-            (λ greatest. All (λ e. K.cmp (key_of e) greatest.0 ≢ Greater) self.now.entries)) }
-        ensures none { IfNone result (count self.now ≡ 0) }
-        ensures sound { IsSound K.cmp P.Inx.most self.now }
+        ensures { FindsEnd K.cmp P.Inx.most P.numbers self.now (λ k l. K.cmp l k ≢ Greater)
+            (last_pointer self.now.entries) result }
     {
-        // For the prover: the arena and its list are sound.
-        let _ = self.pairs.len();
+        // For the prover: the arena is sound.
         let _ = self.len();
         self.pairs.last()
     }
@@ -44,13 +36,9 @@ impl<K: Ord, V, P: BasePtr, A: Allocator> SortedArena<K, V, P, A> {
     ///
     /// The key of the successor is at least that of the entry.
     pub fn next(&self, p: P) -> Option<P>
-        ensures value { option_map P.numbers result ≡ next_of self.now.entries (P.numbers p) }
-        ensures named { IfSome result (λ q. IsSome (pair_of self.now (P.numbers q))) }
-        ensures in_order { IfSome result (λ q. IsSomeAnd (pair_of self.now (P.numbers p))
-            (λ e. IsSomeAnd (pair_of self.now (P.numbers q)) (λ f. K.cmp e.0 f.0 ≢ Greater))) }
+        ensures { FindsNeighbour K.cmp P.Inx.most P.numbers self.now (λ k l. K.cmp k l ≢ Greater)
+            (next_of self.now.entries (P.numbers p)) result (P.numbers p) }
     {
-        // For the prover: the list is sound.
-        let _ = self.pairs.len();
         next_in(&self.pairs, p)
     }
 
@@ -58,13 +46,9 @@ impl<K: Ord, V, P: BasePtr, A: Allocator> SortedArena<K, V, P, A> {
     ///
     /// The key of the predecessor is at most that of the entry.
     pub fn prev(&self, p: P) -> Option<P>
-        ensures value { option_map P.numbers result ≡ prev_of self.now.entries (P.numbers p) }
-        ensures named { IfSome result (λ q. IsSome (pair_of self.now (P.numbers q))) }
-        ensures in_order { IfSome result (λ q. IsSomeAnd (pair_of self.now (P.numbers p))
-            (λ e. IsSomeAnd (pair_of self.now (P.numbers q)) (λ d. K.cmp d.0 e.0 ≢ Greater))) }
+        ensures { FindsNeighbour K.cmp P.Inx.most P.numbers self.now (λ k l. K.cmp l k ≢ Greater)
+            (prev_of self.now.entries (P.numbers p)) result (P.numbers p) }
     {
-        // For the prover: the list is sound.
-        let _ = self.pairs.len();
         prev_in(&self.pairs, p)
     }
 }

@@ -26,10 +26,9 @@ impl<K: Ord, V, P: BasePtr, A: Allocator> SortedArena<K, V, P, A> {
         ensures stale { OnErr result (pair_of self.old (P.numbers p) ≡ None) }
         ensures back { IfErr result (λ back. back ≡ k) }
     {
-        // For the prover: the list is sound.
-        let _ = self.pairs.len();
         let rekeyed = self.pairs.rekey_pair(p, k);
         self.is_compact = self.is_compact && rekeyed.is_err();
+        // For the prover: the arena is sound.
         let _ = self.len();
         rekeyed
     }

@@ -25,11 +25,12 @@ impl<K: Ord, V, P: BasePtr, A: Allocator> SortedArena<K, V, P, A> {
         ensures removes { RemovesEntry K.cmp P.Inx.most self.old
             (without P.Gen.greatest self.old (P.numbers p)) result self.new }
     {
-        // For the prover: the list is sound.
-        let _ = self.pairs.len();
+        // For the prover: the arena is sound.
+        let _ = self.len();
         let stays_compact = self.is_compact && is_last_in(&self.pairs, p);
         let pair = self.pairs.remove(p).allow()?;
         self.is_compact = stays_compact;
+        // For the prover: the arena is still sound.
         let _ = self.len();
         Some(pair.into_k_v())
     }
@@ -66,8 +67,6 @@ impl<K: Ord, V, P: BasePtr, A: Allocator> SortedArena<K, V, P, A> {
         ensures removes { RemovesEntry K.cmp P.Inx.most self.old
             (with_left P.Gen.greatest self.old (before_last self.old.entries)) result self.new }
     {
-        // For the prover: the list is sound.
-        let _ = self.len();
         let last = self.last()?;
         self.remove(last)
     }
@@ -83,8 +82,6 @@ impl<K: Ord, V, P: BasePtr, A: Allocator> SortedArena<K, V, P, A> {
         ensures left { IfNone result
             (All (λ e. K.cmp (key_of e) until.now ≡ Greater) self.new.entries) }
     {
-        // For the prover: the list is sound.
-        let _ = self.len();
         let first = self.first()?;
         let (k, _) = self.get(first)?;
         if k.cmp(until).is_gt() {
@@ -104,8 +101,6 @@ impl<K: Ord, V, P: BasePtr, A: Allocator> SortedArena<K, V, P, A> {
         ensures removes { RemovesEntry K.cmp P.Inx.most self.old
             (with_left P.Gen.greatest self.old (behind_first self.old.entries)) result self.new }
     {
-        // For the prover: the list is sound.
-        let _ = self.len();
         let first = self.first()?;
         let (k, v) = self.get(first)?;
         if !f(k, v) {
@@ -134,8 +129,6 @@ impl<K: Ord, V, P: BasePtr, A: Allocator> SortedArena<K, V, P, A> {
         ensures left { OnOk result
             (All (λ e. K.cmp (key_of e) until.now ≡ Greater) self.new.entries) }
     {
-        // For the prover: the arena is sound.
-        let _ = self.len();
         let from: Bound<&'k K> = Bound::Unbounded;
         self.drain_between(from, Bound::Included(until), popped)
     }
@@ -149,8 +142,6 @@ impl<K: Ord, V, P: BasePtr, A: Allocator> SortedArena<K, V, P, A> {
             (entries_above K.cmp until.now self.old.entries) result self.new }
         ensures left { All (λ e. K.cmp (key_of e) until.now ≡ Greater) self.new.entries }
     {
-        // For the prover: the arena is sound.
-        let _ = self.len();
         let from: Bound<&'k K> = Bound::Unbounded;
         self.remove_between(from, Bound::Included(until))
     }

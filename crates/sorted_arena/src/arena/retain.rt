@@ -27,8 +27,6 @@ impl<K: Ord + Drop, V: Drop, P: BasePtr, A: Allocator> SortedArena<K, V, P, A> {
         while let Some(p) = next {
             next = self.ask(p, &mut f);
         }
-        // For the prover: the arena is sound.
-        let _ = self.len();
     }
 
     // Asks for the entry at `p`, removes it if the answer is `false`, and returns the pointer of its successor.
@@ -46,9 +44,7 @@ impl<K: Ord + Drop, V: Drop, P: BasePtr, A: Allocator> SortedArena<K, V, P, A> {
         if self.is_kept(p, f) {
             return self.next(p);
         }
-        let next = self.take(Some(p)).1;
-        let _ = self.len();
-        next
+        self.take(Some(p)).1
     }
 
     // What the test answers for the entry at `p`.

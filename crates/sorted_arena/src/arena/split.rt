@@ -32,8 +32,6 @@ impl<K: Ord + Drop, V: Drop, P: BasePtr, A: Allocator> SortedArena<K, V, P, A> {
             → IsOk result }
         ensures err { OnErr result (self.new ≡ self.old) }
     {
-        // For the prover: the arena is sound.
-        let _ = self.len();
         let until: Bound<&'k K> = Bound::Unbounded;
         let (first, count) = self.run_between(Bound::Included(from), until);
         let mut moved = SortedArena::new(alloc);

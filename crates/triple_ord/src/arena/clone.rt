@@ -1,6 +1,7 @@
 //! Clones of an arena: the same pointers, in the same order and in a tree of the same shape.
-ghost use Rattle.std.specs.Prelude.{◌≡◌, ◌<◌, ◌↔◌, ◌⊎◌, IfOk, IsOk, OnOk};
+ghost use Rattle.std.specs.Prelude.{◌≡◌, IfOk, IsOk, OnOk};
 ghost use Rattle.ord_tree.specs.Chain.{new_chain, chain_limit, greatest_index};
+ghost use Rattle.ord_tree.specs.Room.{ClonesOrFails};
 ghost use Rattle.ord_tree.specs.Shape.{missing};
 ghost use Rattle.triple_ord.specs.Arena.{count, FindSame};
 ghost use Rattle.triple_ord.specs.Clone.{cloned, refused_clone, FindsFallible};
@@ -26,15 +27,11 @@ impl<P: BasePtr, T: Clone + Drop, A: Allocator + Copy> SimpleOrdArena<P, T, A> {
         requires clones { (x y : T) → T.is_clone x y → y ≡ x }
         ensures found { OnOk result (FindSame source.now self.new) }
         ensures count { OnOk result (count self.new ≡ count source.now) }
-        ensures ok { OnOk result (self.new ≡ cloned source.now self.old) }
-        ensures beyond { (result ≡ Err ReallocationError.BeyondMaxCapacity)
-            ↔ (chain_limit P.Inx.most self.old.list < greatest_index source.now.list.entries) }
-        ensures beyond_kept { result ≡ Err ReallocationError.BeyondMaxCapacity
-            → self.new ≡ self.old }
-        ensures memory { result ≡ Err ReallocationError.AllocError
-            → ((self.old.list.capacity < greatest_index source.now.list.entries)
-            × (self.new ≡ self.old))
-            ⊎ (FindsFallible T.is_infallible source.now
+        ensures clones { ClonesOrFails (chain_limit P.Inx.most self.old.list)
+            self.old.list.capacity (greatest_index source.now.list.entries) result
+            (self.new ≡ cloned source.now self.old)
+            (self.new ≡ self.old)
+            (FindsFallible T.is_infallible source.now
             × (self.new ≡ refused_clone source.now self.old)) }
     {
         // For the prover: the list is sound.

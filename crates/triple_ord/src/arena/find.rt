@@ -1,9 +1,8 @@
 //! Searches by key.
-ghost use Rattle.std.specs.Prelude.{◌≡◌, ℕ, IfSome};
+ghost use Rattle.std.specs.Prelude.{◌≡◌};
 ghost use Rattle.std.specs.Option.{option_map};
 ghost use Rattle.triple_ord.specs.ClosureSearch.{where_equal};
-ghost use Rattle.std.specs.declared.cmp.Ordering.TheVariants.{Equal};
-ghost use Rattle.triple_ord.specs.Arena.{FindsBy};
+ghost use Rattle.triple_ord.specs.Arena.{FindsEqual, FindsNearest};
 ghost use Rattle.triple_ord.specs.PastEquals.{order_past_equals};
 ghost use Rattle.triple_ord.specs.Search.{FindsKey, FindsSimilar};
 ghost use Rattle.triple_ord.specs.Ties.{taken};
@@ -27,10 +26,7 @@ impl<P: BasePtr, T: SimpleOrdItem, A: Allocator> SimpleOrdArena<P, T, A> {
     /// greater one. If the keys are in order, no entry has an equal key then. O(log n).
     #[inline(always)]
     pub fn find_key(&self, k: &T::Key) -> Option<P>
-        ensures finds { IfSome result
-            (λ p. FindsBy T.key_of T.Key.cmp self.now k.now (P.numbers p) Equal) }
-        ensures found { (visits : ℕ) × FindsKey T.key_of T.Key.cmp self.now.list.entries k.now
-            (option_map P.numbers result) visits }
+        ensures { FindsEqual T.key_of T.Key.cmp P.numbers self.now k.now result }
     {
         // For the prover: the list is sound.
         prove!(self.len() <= usize::MAX);
@@ -54,10 +50,7 @@ impl<P: BasePtr, T: SimpleOrdItem, A: Allocator> SimpleOrdArena<P, T, A> {
     /// A gap fits if the entry before it, if any, has a smaller key, and the one after it, if any, a greater one. O(log n).
     #[inline(always)]
     pub fn find_similar_key(&self, k: &T::Key) -> Option<(P, Ordering)>
-        ensures finds { IfSome result
-            (λ a. FindsBy T.key_of T.Key.cmp self.now k.now (P.numbers a.0) a.1) }
-        ensures found { (visits : ℕ) × FindsSimilar T.key_of T.Key.cmp
-            self.now.list.entries k.now (option_map (λ a. (P.numbers a.0, a.1)) result) visits }
+        ensures { FindsNearest T.key_of T.Key.cmp P.numbers self.now k.now result }
     {
         // For the prover: the list is sound.
         prove!(self.len() <= usize::MAX);
@@ -81,11 +74,8 @@ impl<P: BasePtr, T: SimpleOrdItem, A: Allocator> SimpleOrdArena<P, T, A> {
     /// entries. If the keys are in order, this finds the upper bound of `k`. O(log n).
     #[inline(always)]
     pub fn find_behind_key(&self, k: &T::Key) -> Option<(P, Ordering)>
-        ensures finds { IfSome result
-            (λ a. FindsBy T.key_of (order_past_equals T.Key.cmp) self.now k.now
-            (P.numbers a.0) a.1) }
-        ensures found { (visits : ℕ) × FindsSimilar T.key_of (order_past_equals T.Key.cmp)
-            self.now.list.entries k.now (option_map (λ a. (P.numbers a.0, a.1)) result) visits }
+        ensures { FindsNearest T.key_of (order_past_equals T.Key.cmp) P.numbers
+            self.now k.now result }
     {
         // For the prover: the list is sound.
         prove!(self.len() <= usize::MAX);

@@ -1,11 +1,10 @@
 //! Searches by key from a hint, which is an entry near which the key may be.
-ghost use Rattle.std.specs.Prelude.{◌≡◌, ℕ, IfSome, length, IfNone};
+ghost use Rattle.std.specs.Prelude.{◌≡◌, length, IfNone};
 ghost use Rattle.std.specs.Option.{option_map};
 ghost use Rattle.ord_tree.specs.Chain.{item_of};
 ghost use Rattle.triple_ord.specs.Hint.{AnswersNear, SearchesNear};
-ghost use Rattle.std.specs.declared.cmp.Ordering.TheVariants.{Equal};
-ghost use Rattle.triple_ord.specs.Arena.{FindsBy};
-ghost use Rattle.triple_ord.specs.Search.{FindsKey, FindsSimilar};
+ghost use Rattle.triple_ord.specs.Arena.{FindsEqual, FindsNearest};
+ghost use Rattle.triple_ord.specs.Search.{FindsKey};
 ghost use Rattle.triple_ord.specs.Ties.{taken};
 ghost use Rattle.triple_ord.specs.VisitBounds.{IsWithinBounds, IsWithinHintedBounds};
 
@@ -29,10 +28,7 @@ impl<P: BasePtr, T: SimpleOrdItem, A: Allocator> SimpleOrdArena<P, T, A> {
     /// met by steps needn't be the first of its group. It follows at once if `p_init` names no entry. So a hint saves nothing here, and
     /// the result doesn't depend on it; with near keys, `find_similar_key_linear` gains.
     pub fn find_key_linear(&self, p_init: P, num: usize, k: &T::Key) -> Option<P>
-        ensures finds { IfSome result
-            (λ p. FindsBy T.key_of T.Key.cmp self.now k.now (P.numbers p) Equal) }
-        ensures found { (visits : ℕ) × FindsKey T.key_of T.Key.cmp self.now.list.entries k.now
-            (option_map P.numbers result) visits }
+        ensures { FindsEqual T.key_of T.Key.cmp P.numbers self.now k.now result }
     {
         // For the prover: the list is sound.
         prove!(self.len() <= usize::MAX);
@@ -72,10 +68,7 @@ impl<P: BasePtr, T: SimpleOrdItem, A: Allocator> SimpleOrdArena<P, T, A> {
         num: usize,
         k: &T::Key,
     ) -> Option<(P, Ordering)>
-        ensures finds { IfSome result
-            (λ a. FindsBy T.key_of T.Key.cmp self.now k.now (P.numbers a.0) a.1) }
-        ensures found { (visits : ℕ) × FindsSimilar T.key_of T.Key.cmp
-            self.now.list.entries k.now (option_map (λ a. (P.numbers a.0, a.1)) result) visits }
+        ensures finds { FindsNearest T.key_of T.Key.cmp P.numbers self.now k.now result }
         ensures answers { AnswersNear T.key_of T.Key.cmp self.now.list.entries k.now
             (P.Inx.number p_init) num (option_map (λ a. (P.numbers a.0, a.1)) result) }
     {

@@ -1,7 +1,8 @@
 //! Creating an arena, and changing its capacity.
-ghost use Rattle.std.specs.Prelude.{◌≡◌, ◌+◌, ◌≤◌, ◌<◌, ◌↔◌, Some, Err, max, IsOk, IsErr, IfOk, OnOk};
+ghost use Rattle.std.specs.Prelude.{◌≡◌, ◌+◌, ◌≤◌, Some, max, OnOk};
 ghost use Rattle.ord_tree.specs.PlainArena.{capacity_for};
 ghost use Rattle.ord_tree.specs.Chain.{new_chain, with_capacity, greatest_index, chain_limit};
+ghost use Rattle.ord_tree.specs.Room.{Allocates, Reallocates, LimitsCapacity};
 ghost use Rattle.ord_tree.specs.Shape.{missing};
 ghost use Rattle.triple_ord.specs.Arena.{count, with_room_for, KeepsEntries};
 
@@ -27,13 +28,11 @@ impl<P: BasePtr, T, A: Allocator> SimpleOrdArena<P, T, A> {
     pub fn with_min_capacity(alloc: A, n: usize) -> Result<Self, AllocError>
     where
         A: Copy,
-        ensures ok { IfOk result
+        ensures { Allocates P.Inx.most n result
             (λ a. a ≡ record {
               list = with_capacity (new_chain P.Gen.greatest) n;
               shape = missing;
             }) }
-        ensures beyond { P.Inx.most < n → IsErr result }
-        ensures none { n ≡ 0 → IsOk result }
     {
         Ok(SimpleOrdArena {
             tree: OrdTree::with_min_capacity(alloc, n)?,
@@ -49,14 +48,12 @@ impl<P: BasePtr, T, A: Allocator> SimpleOrdArena<P, T, A> {
     /// - `BeyondMaxCapacity`: `n` is beyond the maximum or the greatest index of the pointers.
     /// - `AllocError`: growing failed.
     pub fn reallocate_min_capacity(&mut self, n: usize) -> Result<(), ReallocationError>
-        ensures kept { KeepsEntries result self.old self.new }
-        ensures ok { OnOk result (self.new ≡ record self.old {
-          list = with_capacity self.old.list (max n (greatest_index self.old.list.entries));
-        }) }
-        ensures beyond { (result ≡ Err ReallocationError.BeyondMaxCapacity)
-            ↔ (chain_limit P.Inx.most self.old.list < n) }
-        ensures memory { result ≡ Err ReallocationError.AllocError
-            → self.old.list.capacity < n }
+        ensures kept { KeepsEntries self.old self.new }
+        ensures reallocates { Reallocates (chain_limit P.Inx.most self.old.list)
+            self.old.list.capacity n result
+            (self.new ≡ record self.old {
+              list = with_capacity self.old.list (max n (greatest_index self.old.list.entries));
+            }) (self.new ≡ self.old) }
     {
         self.tree.reallocate_min_capacity(n)
     }
@@ -71,10 +68,12 @@ impl<P: BasePtr, T, A: Allocator> SimpleOrdArena<P, T, A> {
     /// - `BeyondMaxCapacity`: there would be more entries than the maximum, or than pointers have indexes.
     /// - `AllocError`: growing failed.
     pub fn reserve(&mut self, additional: usize) -> Result<(), ReallocationError>
-        ensures kept { KeepsEntries result self.old self.new }
-        ensures ok { OnOk result (self.new ≡ record self.old {
-          list = with_room_for P.Inx.most self.old.list (count self.old + additional);
-        }) }
+        ensures kept { KeepsEntries self.old self.new }
+        ensures reallocates { Reallocates (chain_limit P.Inx.most self.old.list)
+            self.old.list.capacity (count self.old + additional) result
+            (self.new ≡ record self.old {
+              list = with_room_for P.Inx.most self.old.list (count self.old + additional);
+            }) (self.new ≡ self.old) }
         ensures entries { self.new.list.entries ≡ self.old.list.entries }
         ensures generation { self.new.list.generation ≡ self.old.list.generation }
         ensures maximum { self.new.list.maximum ≡ self.old.list.maximum }
@@ -83,10 +82,6 @@ impl<P: BasePtr, T, A: Allocator> SimpleOrdArena<P, T, A> {
         ensures capacity { OnOk result (self.new.list.capacity
             ≡ capacity_for (chain_limit P.Inx.most self.old.list) self.old.list.capacity
             (count self.old + additional)) }
-        ensures beyond { (result ≡ Err ReallocationError.BeyondMaxCapacity)
-            ↔ (chain_limit P.Inx.most self.old.list < count self.old + additional) }
-        ensures memory { result ≡ Err ReallocationError.AllocError
-            → self.old.list.capacity < count self.old + additional }
     {
         // For the prover: the list is sound.
         let Some(needed) = self.len().checked_add(additional) else {
@@ -102,10 +97,10 @@ impl<P: BasePtr, T, A: Allocator> SimpleOrdArena<P, T, A> {
 
     /// Sets a maximum for the capacity, in O(1). On `Err` the capacity is already greater, and the arena is unchanged.
     pub fn set_max_capacity(&mut self, n: usize) -> Result<(), MaxCapacityReductionError>
-        ensures kept { KeepsEntries result self.old self.new }
-        ensures ok { OnOk result
-            (self.new ≡ record self.old { list = record self.old.list { maximum = Some n } }) }
-        ensures refused { IsErr result ↔ (n < self.old.list.capacity) }
+        ensures kept { KeepsEntries self.old self.new }
+        ensures sets { LimitsCapacity self.old.list.capacity n result
+            (self.new ≡ record self.old { list = record self.old.list { maximum = Some n } })
+            (self.new ≡ self.old) }
     {
         self.tree.set_max_capacity(n)
     }

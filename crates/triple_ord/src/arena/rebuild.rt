@@ -1,12 +1,12 @@
 //! Moving all entries to the least indexes, or over from another arena. Afterwards the tree is rebuilt: no search visits more entries
 //! than their number has binary digits.
-ghost use Rattle.std.specs.Prelude.{◌≡◌, ◌<◌, ◌↔◌, OnOk, OnErr, map};
+ghost use Rattle.std.specs.Prelude.{◌≡◌, OnOk, map};
 ghost use Rattle.ord_tree.specs.ArenaCompression.{compressed_generation};
 ghost use Rattle.ord_tree.specs.Generation.{IsLawfulGeneration};
 ghost use Rattle.ord_tree.specs.Chain.{chain_limit};
 ghost use Rattle.ord_tree.specs.ChainCompression.{canonical, relocated, IsCompression, IsTransfer};
-ghost use Rattle.ord_tree.specs.Half.{IsRebuilt};
-ghost use Rattle.ord_tree.specs.Shape.{missing};
+ghost use Rattle.ord_tree.specs.Room.{Reallocates};
+ghost use Rattle.ord_tree.specs.Tree.{TransfersTree};
 ghost use Rattle.triple_ord.specs.Arena.{items, count, IsNumbered, FindsNothing};
 ghost use Rattle.triple_ord.specs.Renumbering.{Renumbers};
 ghost use Rattle.triple_ord.specs.Order.{KeepsKeys};
@@ -32,10 +32,8 @@ impl<P: BasePtr, T, A: Allocator> SimpleOrdArena<P, T, A> {
         f: F,
     ) -> InvalidationOption<()>
         requires { F.IsAlwaysCallable f }
-        ensures renumbers { Renumbers P.Gen.greatest reset self.old result self.new }
-        ensures after { IsCompression P.numbers F.step
-            (compressed_generation P.Gen.greatest reset self.old.list.generation)
-            f self.old.list self.new.list }
+        ensures { Renumbers P.Gen.greatest reset self.old result self.new
+            (λ g. IsCompression P.numbers F.step g f self.old.list self.new.list) }
     {
         self.tree.compress_with(reset, f)
     }
@@ -43,9 +41,8 @@ impl<P: BasePtr, T, A: Allocator> SimpleOrdArena<P, T, A> {
     /// Moves all entries to the indexes from 1 as `compress_with` does; each keeps its item.
     pub fn compress(&mut self, reset: bool) -> InvalidationOption<()>
         ensures items { items self.new ≡ items self.old }
-        ensures renumbers { Renumbers P.Gen.greatest reset self.old result self.new }
-        ensures after { self.new.list ≡ relocated self.old.list
-            (compressed_generation P.Gen.greatest reset self.old.list.generation) }
+        ensures renumbers { Renumbers P.Gen.greatest reset self.old result self.new
+            (λ g. self.new.list ≡ relocated self.old.list g) }
     {
         self.tree.compress(reset)
     }
@@ -55,11 +52,10 @@ impl<P: BasePtr, T, A: Allocator> SimpleOrdArena<P, T, A> {
     /// The capacity stays, and the free list is ascending, as if no slot had been used. O(capacity). Takes no memory.
     pub fn compress_canonical(&mut self, reset: bool) -> InvalidationOption<()>
         ensures items { items self.new ≡ items self.old }
-        ensures renumbers { Renumbers P.Gen.greatest reset self.old result self.new }
         ensures found { IsNumbered self.new
             (compressed_generation P.Gen.greatest reset self.old.list.generation) (items self.old) }
-        ensures after { self.new.list ≡ canonical self.old.list
-            (compressed_generation P.Gen.greatest reset self.old.list.generation) }
+        ensures renumbers { Renumbers P.Gen.greatest reset self.old result self.new
+            (λ g. self.new.list ≡ canonical self.old.list g) }
     {
         self.tree.compress_canonical(reset)
     }
@@ -96,17 +92,12 @@ impl<P: BasePtr, T, A: Allocator> SimpleOrdArena<P, T, A> {
             (IsNumbered self.new (P.Gen.number new_generation) (items self.new)) }
         ensures count { OnOk result (count self.new ≡ count source.old) }
         ensures emptied { OnOk result (FindsNothing source.new) }
-        ensures ok { OnOk result (IsTransfer Q.numbers P.numbers Q.Gen.greatest F.step
+        ensures transfers { Reallocates (chain_limit P.Inx.most self.old.list)
+            self.old.list.capacity (count source.old) result
+            (TransfersTree source.new self.new (IsTransfer Q.numbers P.numbers Q.Gen.greatest F.step
             (P.Gen.number new_generation) f
-            source.old.list source.new.list self.old.list self.new.list) }
-        ensures shape { OnOk result (IsRebuilt self.new.shape) }
-        ensures left { OnOk result (source.new.shape ≡ missing) }
-        ensures beyond { (result ≡ Err ReallocationError.BeyondMaxCapacity)
-            ↔ (chain_limit P.Inx.most self.old.list < count source.old) }
-        ensures memory { result ≡ Err ReallocationError.AllocError
-            → self.old.list.capacity < count source.old }
-        ensures err { OnErr result (self.new ≡ self.old) }
-        ensures err_source { OnErr result (source.new ≡ source.old) }
+            source.old.list source.new.list self.old.list self.new.list))
+            ((self.new ≡ self.old) × (source.new ≡ source.old)) }
     {
         self.tree
             .transfer_canonical_reallocating(new_generation, &mut source.tree, f)?;
@@ -124,10 +115,8 @@ impl<P: BasePtr, T: SimpleOrdItem, A: Allocator> SimpleOrdArena<P, T, A> {
         requires callable { F.IsAlwaysCallable f }
         requires keeps { KeepsKeys T.key_of F.step }
         ensures keys { map T.key_of (items self.new) ≡ map T.key_of (items self.old) }
-        ensures renumbers { Renumbers P.Gen.greatest reset self.old result self.new }
-        ensures after { IsCompression P.numbers F.step
-            (compressed_generation P.Gen.greatest reset self.old.list.generation)
-            f self.old.list self.new.list }
+        ensures renumbers { Renumbers P.Gen.greatest reset self.old result self.new
+            (λ g. IsCompression P.numbers F.step g f self.old.list self.new.list) }
     {
         // For the prover: the list is sound.
         let _ = self.len();

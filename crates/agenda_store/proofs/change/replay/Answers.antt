@@ -18,12 +18,10 @@ loop-bytes-preserved c =
     let longer : contents (take (i + 1) records) ≡ before ++ c.deref.result.now ∷ [] =
     map_more (λ v. v.items) records i c.bytes-item.result c.loop-bytes-test.true
     ∙ ap (λ v. before ++ v.items ∷ []) (sym c.bytes-item.is) ∙ ap (λ (l : List ℕ). before ++ l ∷ []) (sym c.deref.ensures.value) in
-    let old = plan_of c.loop-bytes.planner in
-    let new = plan_of c.replay_one.new.planner in
     record {
       linked = done.linked;
-      replayed = subst (λ (rs : List (List ℕ)). IsReplayed rs new) (sym longer)
-          (one_more before c.deref.result.now old new c.loop-bytes.invariant.replayed done.replayed);
+      replayed = subst (λ (rs : List (List ℕ)). IsReplayed rs (plan_of c.replay_one.new.planner)) (sym longer)
+          (one_more c.loop-bytes.invariant.replayed done.replayed);
     }
 
 pub returns-in_err-replay_one-clause-refused : goal.returns-in_err-replay_one-clause-refused

@@ -1,4 +1,4 @@
-use Rattle.std.proofs.Common.{◌≡◌, ◌∙◌, ◌≤◌, ◌++◌, ◌∷◌, [], List, ℕ, Vec, length, map, sym, ap, subst}
+use Rattle.std.proofs.Common.{◌∙◌, ◌≤◌, ◌++◌, ◌∷◌, [], List, ℕ, Vec, length, sym, ap, subst}
 use Rattle.std.specs.List.{AllByRecursion}
 use Rattle.std.specs.declared.alloc.Global.{Global}
 use Rattle.std.proofs.lemmas.List.{map_push}
@@ -12,7 +12,7 @@ use Rattle.agenda_store.specs.declared.store.TheConstants.{MAX_BYTES}
 use Rattle.agenda_store.proofs.Entries.{Entries}
 use Rattle.agenda_store.proofs.Snapshots.{IsSpelled, none_spelled, one_spelled, all_spelled, its_turn, snapshot_replayed, snapshot_fits}
 use Rattle.agenda_store.proofs.change.snapshot_of.Goals as goal
-use Rattle.agenda_store.proofs.change.snapshot_of.Goals.{In-Some, In-None}
+use Rattle.agenda_store.proofs.change.snapshot_of.Goals.{In-Some}
 
 -- the entry whose turn it is
 abbrev turn : In-Some → Scheduled Entry
@@ -24,15 +24,6 @@ before c =
     let planner = c.args.planner.now in
     subst (λ (l : Entries). IsSpelled planner.next planner.agenda.jobs l (contents c.loop-deadline.records.items))
     c.in-Some.ensures.steps c.loop-deadline.invariant
-
--- At the end the records are those of the snapshot.
-all : (c : In-None) → (contents c.loop-deadline.records.items ≡ map spelling (snapshot (plan_of c.args.planner.now)))
-    × AllByRecursion IsWritten (snapshot (plan_of c.args.planner.now))
-all c =
-    let planner = c.args.planner.now in
-    let records = contents c.loop-deadline.records.items in
-    all_spelled planner.next planner.agenda.jobs records
-    (subst (λ (l : Entries). IsSpelled planner.next planner.agenda.jobs l records) c.in-None.ensures.steps.0 c.loop-deadline.invariant)
 
 pub loop-deadline-init : goal.loop-deadline-init
 loop-deadline-init c =
@@ -67,15 +58,15 @@ loop-deadline-preserved c =
     subst (λ (l : List (List ℕ)). IsSpelled planner.next planner.agenda.jobs c.next.new.self l) (sym items)
     (one_spelled planner.next planner.agenda.jobs x c.next.new.self records last.items (before here) is written)
 
-pub returns-clause-spelled : goal.returns-clause-spelled
-returns-clause-spelled c = (all c).0
-
-pub returns-clause-replayed : goal.returns-clause-replayed
-returns-clause-replayed c =
-    let plan = plan_of c.args.planner.now in
-    subst (λ (l : List (List ℕ)). IsReplayed l plan) (sym (all c).0) (snapshot_replayed plan (c.len.ensures.lawful c.requires) (all c).1)
-
-pub returns-clause-fit : goal.returns-clause-fit
-returns-clause-fit c =
-    let plan = plan_of c.args.planner.now in
-    subst (λ (l : List (List ℕ)). AllByRecursion Fits l) (sym (all c).0) (snapshot_fits (snapshot plan) (all c).1)
+pub returns : goal.returns
+returns c =
+    let planner = c.args.planner.now in
+    let plan = plan_of planner in
+    let records = contents c.loop-deadline.records.items in
+    let all = all_spelled planner.next planner.agenda.jobs records
+    (subst (λ (l : Entries). IsSpelled planner.next planner.agenda.jobs l records) c.in-None.ensures.steps.0 c.loop-deadline.invariant) in
+    record {
+      spelled = all.0;
+      replayed = subst (λ (l : List (List ℕ)). IsReplayed l plan) (sym all.0) (snapshot_replayed plan (c.len.ensures.lawful c.requires) all.1);
+      fit = subst (λ (l : List (List ℕ)). AllByRecursion Fits l) (sym all.0) (snapshot_fits (snapshot plan) all.1);
+    }

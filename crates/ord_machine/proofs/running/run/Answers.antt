@@ -21,9 +21,8 @@ loop-command-preserved g c =
     let items : c.push.new.self.items ≡ c.loop-command.replies.items ++ c.step-reply.result ∷ [] = grind (arith, common_steps) in
     record {
       cut = cut_more _ _ _ _ _ c.loop-command.invariant.cut c.in-Some.ensures.steps.0;
-      callable = c.step-reply.ensures.runs.callable;
-      runs = rw items (RunsBetween-more _ _ _ _ _ _ _ _ _ _
-          (record { does = c.step-reply.ensures.runs.does; lawful = c.step-reply.ensures.lawful; sound = c.step-reply.ensures.sound }) _ _ c.loop-command.invariant.runs);
+      callable = c.step-reply.ensures.callable;
+      runs = rw items (RunsBetween-more _ _ _ _ _ _ _ _ _ _ c.step-reply.ensures.step _ _ c.loop-command.invariant.runs);
       count = grind (arith, common_steps);
       room = grind (arith, common_steps);
     }

@@ -45,24 +45,15 @@ loop-preserved g c =
       room = grind (arith, common_steps, so_far.room);
     }
 
-pub returns-clause-pairs : goal.returns-clause-pairs
-returns-clause-pairs g c =
-    let all = c.args.arena.now.list.entries in
-    let before = map (entry_of g.P.BasePtr.numbers) c.loop.pairs.items in
-    let least : c.min-count.result ≡ min c.args.num (length all) = grind (arith, common_steps) in
-    let so_far = c.loop.invariant in
-    let reached : length before ≡ min c.args.num (length all) = omega (arith, least, so_far.count, so_far.within, c.loop-test.false, length-map c.loop.pairs.items (entry_of g.P.BasePtr.numbers)) in
-    sym (first_are c.args.num all before c.loop.drain.arena.now.list.entries so_far.cut reached)
-
-pub returns-clause-drained : goal.returns-clause-drained
-returns-clause-drained g c =
-    let all = c.args.arena.now.list.entries in
+pub returns : goal.returns
+returns g c =
+    let whole = c.args.arena.now.list in
+    let all = whole.entries in
     let before = map (entry_of g.P.BasePtr.numbers) c.loop.pairs.items in
     let least : c.min-count.result ≡ min c.args.num (length all) = grind (arith, common_steps) in
     let so_far = c.loop.invariant in
     let reached : length before ≡ min c.args.num (length all) = omega (arith, least, so_far.count, so_far.within, c.loop-test.false, length-map c.loop.pairs.items (entry_of g.P.BasePtr.numbers)) in
     let first : take c.args.num all ≡ before = first_are c.args.num all before c.loop.drain.arena.now.list.entries so_far.cut reached in
-    let whole = c.args.arena.now.list in
     let gone : c.drop.new.self.0
     ≡ record {
       list = cleared g.P.Gen.BasePtrGen.greatest (removed_each g.P.Gen.BasePtrGen.greatest whole (take c.args.num all));
@@ -70,4 +61,4 @@ returns-clause-drained g c =
     } =
     c.drop.ensures ∙ rw (so_far.taken, first) refl in
     let lender = so_far.lender in
-    search (rules, gone, lender)
+    record { pairs = sym first; drained = search (rules, gone, lender); refused = tt; err = tt }

@@ -6,7 +6,8 @@ pub returns-in_err-rest : goal.returns-in_err-rest
 returns-in_err-rest c = rw c.from_residual.ensures (words_none c.args.line.now c.in_err-rest.ensures)
 
 pub returns-in-Some : goal.returns-in-Some
-returns-in-Some c = simp take_rest (words_some c.args.line.now c.in_ok-rest.field-0 c.in-Some.end c.in_ok-rest.ensures (rw take_rest at c.in-Some.ensures))
+returns-in-Some c =
+    simp take_rest (words_some c.args.line.now c.in_ok-rest.field-0 c.in_ok-rest.ensures c.in-Some.end (rw take_rest at c.in-Some.ensures))
 
 pub returns-in-None : goal.returns-in-None
 returns-in-None c =

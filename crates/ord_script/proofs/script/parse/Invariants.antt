@@ -1,8 +1,11 @@
-use Rattle.std.proofs.Common.{◌≡◌, ◌+◌, ◌≤◌, length}
+use Rattle.std.proofs.Common.{◌≡◌, ◌+◌, ◌≤◌, List, ◌++◌, length}
 use Rattle.std.specs.Str.Lines.{lines}
-use Rattle.ord_script.specs.Script.{script_from, script_of}
-use Rattle.ord_script.proofs.ScriptLemmas.{in_front}
+use Rattle.ord_script.specs.{Pairs.PairCommand, Script.Script, Script.script_from, Script.script_of}
 use Rattle.ord_script.proofs.script.parse.Given as goal
+
+-- commands in front of a script
+abbrev pub in_front : List PairCommand → Script → Script
+in_front commands script = record { commands = commands ++ script.commands; fault = script.fault }
 
 -- the commands so far, followed by the script of the lines that are left
 abbrev pub invariant-loop-line : goal.invariant-loop-line

@@ -1,5 +1,4 @@
 use Rattle.std.proofs.{Common.arith, Common.sym, Common.◌∙◌, lemmas.Grind.common_steps}
-use Rattle.ord_script.proofs.Endings.{Ends-part}
 use Rattle.ord_script.proofs.serving.serve.Goals as goal
 
 pub returns-clause-served : goal.returns-clause-served
@@ -13,7 +12,7 @@ returns-clause-served g c =
       written = output.written;
       reads = input.consumes;
       writes = output.appends;
-      ends = Ends-part _ c.deref.result.now _ _ output.rest same input.input.1 c.in-Ok-answer_to.ensures.text parts output.whole;
+      ends = (output.rest, output.whole, rw (← parts, same) c.in-Ok-answer_to.ensures.text, input.input.1);
     }
 
 pub returns-in-Err-TooLong-clause-served : goal.returns-in-Err-TooLong-clause-served

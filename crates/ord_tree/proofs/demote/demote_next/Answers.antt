@@ -1,5 +1,5 @@
-use Rattle.ord_tree.proofs.Demoting.{demoted_occupied, parent_occupied, demoted_branch}
-use Rattle.ord_tree.proofs.DemotionAccount.{lowered_branch}
+use Rattle.ord_tree.proofs.Demoting.{demoted_occupied, parent_occupied, demoted_next}
+use Rattle.ord_tree.proofs.Steps.{repairs}
 use Rattle.ord_tree.proofs.demote.demote_next.Goals as goal
 
 pub branch_of-requires-clause-occupied : goal.branch_of-requires-clause-occupied
@@ -9,10 +9,7 @@ pub branch_of-requires-clause-parent : goal.branch_of-requires-clause-parent
 branch_of-requires-clause-parent g c = parent_occupied (c.if-not-demote.ensures.after c.requires.0 c.requires.1)
 
 pub returns : goal.returns
-returns g c = record {
-  after = λ order fallen.
-      demoted_branch (c.if-not-demote.ensures.after order fallen) g.N.Nodes.number c.branch_of.result (record { parent = c.branch_of.ensures.parent; side = c.branch_of.ensures.side });
-  account = λ order fallen.
-      lowered_branch (c.if-not-demote.ensures.account order fallen) g.N.Nodes.number c.branch_of.result (record { parent = c.branch_of.ensures.parent; side = c.branch_of.ensures.side });
-  kept = cc;
-}
+returns g c =
+    repairs (cc) (λ order fallen.
+    demoted_next (c.if-not-demote.ensures.after order fallen) g.N.Nodes.number (c.if-not-demote.ensures.account order fallen) c.branch_of.result
+    (record { parent = c.branch_of.ensures.parent; side = c.branch_of.ensures.side }))

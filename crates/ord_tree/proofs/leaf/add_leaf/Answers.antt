@@ -1,5 +1,4 @@
-use Rattle.ord_tree.proofs.{NewLeaf.y_occupied, NewLeaf.IsRising-attached, NewLeaf.backs-attached, Promoting.IsRepaired-after}
-use Rattle.ord_tree.proofs.PromotionAccount.{IsSpelledWithin-leaf}
+use Rattle.ord_tree.proofs.{NewLeaf.y_occupied, NewLeaf.IsRising-attached, NewLeaf.attached, Steps.repairs}
 use Rattle.ord_tree.specs.Leaf.{beside}
 use Rattle.ord_tree.proofs.leaf.add_leaf.Goals as goal
 
@@ -12,15 +11,10 @@ promote_all-requires g c =
     (beside c.args.side (g.N.Nodes.number c.args.y) (g.N.Nodes.number c.args.x) r.0, r.1, IsRising-attached r.2 (g.N.Nodes.at c.set_child.new.self) c.set_child.ensures.here c.set_child.ensures.elsewhere)
 
 pub returns : goal.returns
-returns g c = record {
-  after = λ o bud.
-      let number = g.N.Nodes.number in
-      IsRepaired-after (backs-attached bud (g.N.Nodes.at c.set_child.new.self) c.set_child.ensures.here c.set_child.ensures.elsewhere)
-      (c.promote_all.ensures.after (beside c.args.side (number c.args.y) (number c.args.x) o.0, o.1) (IsRising-attached bud (g.N.Nodes.at c.set_child.new.self) c.set_child.ensures.here c.set_child.ensures.elsewhere));
-  account = λ o bud.
-      let number = g.N.Nodes.number in
-      let hung = g.N.Nodes.at c.set_child.new.self in
-      IsSpelledWithin-leaf bud hung c.set_child.ensures.here c.set_child.ensures.elsewhere
-      (c.promote_all.ensures.account (beside c.args.side (number c.args.y) (number c.args.x) o.0, o.1) (IsRising-attached bud hung c.set_child.ensures.here c.set_child.ensures.elsewhere));
-  kept = cc;
-}
+returns g c =
+    let number = g.N.Nodes.number in
+    let hung = g.N.Nodes.at c.set_child.new.self in
+    repairs (cc) (λ o bud.
+    let rising = IsRising-attached bud hung c.set_child.ensures.here c.set_child.ensures.elsewhere in
+    let order = beside c.args.side (number c.args.y) (number c.args.x) o.0 in
+    attached bud hung c.set_child.ensures.here c.set_child.ensures.elsewhere (c.promote_all.ensures.after (order, o.1) rising, c.promote_all.ensures.account (order, o.1) rising))

@@ -1,7 +1,7 @@
 use Rattle.std.proofs.Common.{arith, ◌≡◌, ◌≢◌, Some, Option, ℕ, refl, sym, ap, option_map, ⊎_elim}
 use Rattle.std.proofs.{lemmas.Bool.cases_eq, lemmas.Grind.common_steps}
 use Rattle.ord_tree.specs.{TreeLinks.as_numbers, Slots.back_at}
-use Rattle.ord_tree.proofs.Entries.{back-with_child}
+use Rattle.ord_tree.proofs.Forks.{back-with_child}
 use Rattle.ord_tree.proofs.nodes.replace_child.Goals as goal
 
 pub returns-in-Some : goal.returns-in-Some

@@ -1,4 +1,4 @@
-use Rattle.std.proofs.Common.{◌∙◌, ap, length, arith}
+use Rattle.std.proofs.Common.{◌∙◌, arith}
 use Rattle.ord_tree.proofs.rebuild.close.Goals as goal
 
 pub close_one-requires : goal.close_one-requires
@@ -22,6 +22,3 @@ returns-clause-step g c = λ top.
       after = λ s todo plan finished. last.after s todo (c.loop-middle.invariant.plan s top plan) (c.loop-middle.invariant.finished s top todo plan finished);
       kept = last.kept ∙ c.loop-middle.invariant.kept;
     }
-
-pub returns-clause-few : goal.returns-clause-few
-returns-clause-few g c = omega (arith, ap (λ stack. length stack.items) c.in_default.ensures.fewer, c.loop-middle.invariant.few)

@@ -1,4 +1,4 @@
-use Rattle.std.proofs.Common.{ℕ, Some, ◌-◌, arith, ◌∙◌, ap, option_map, length, length-append, [], ◌∷◌}
+use Rattle.std.proofs.Common.{ℕ, ◌-◌, arith, ◌∙◌, ap, option_map, length, length-append, [], ◌∷◌}
 use Rattle.ord_tree.specs.Half.{half_rank}
 use Rattle.ord_tree.specs.declared.tree_links.TreeLinks.{TreeLinks}
 use Rattle.ord_tree.proofs.Rebuilding.{IsPlan-kept, next-run, next-room, next-some, next-there, next-link-there, bare-met, IsUnopened-met}
@@ -23,26 +23,17 @@ pub returns-clause-step : goal.returns-clause-step
 returns-clause-step g c = record {
   plan = λ s plan. IsPlan-kept (λ j. c.hang.ensures.occupied j ∙ c.set_links.ensures.occupied j) plan;
   after = λ s todo plan ready.
-      let at = g.N.Nodes.at in
       let popped = rw c.unwrap-frame.ensures at c.pop.ensures.items in
       let rank_is = c.rank_over-rank.ensures ∙ ap (half_rank c.unwrap-frame.result.len) (c.saturating_sub.ensures ∙ ap (λ (d : ℕ). c.args.top - d) c.len.ensures.value) in
-      rw c.number_of.ensures
-      (IsUnopened-met (next-run plan ready _ _ popped) (at c.set_links.new.self) (at c.hang.new.nodes) c.rank_over-rank.result rank_is
-      c.set_links.ensures.here c.set_links.ensures.elsewhere c.hang.ensures.here c.hang.ensures.elsewhere);
+      rw c.number_of.ensures (IsUnopened-met (next-run plan ready _ _ popped) rank_is c.set_links.ensures c.hang.ensures);
   kept = cc;
 }
 
-pub returns-clause-middle : goal.returns-clause-middle
-returns-clause-middle g c = ap Some c.number_of.ensures
-
 pub returns-clause-bare : goal.returns-clause-bare
 returns-clause-bare g c =
-    let at = g.N.Nodes.at in
     let popped = rw c.unwrap-frame.ensures at c.pop.ensures.items in
     let rank_is = c.rank_over-rank.ensures ∙ ap (half_rank c.unwrap-frame.result.len) (c.saturating_sub.ensures ∙ ap (λ (d : ℕ). c.args.top - d) c.len.ensures.value) in
-    ap (option_map (λ (n : TreeLinks ℕ). n.greater))
-    (bare-met (next-run c.requires.2 c.requires.3 _ _ popped) (at c.set_links.new.self) (at c.hang.new.nodes) c.rank_over-rank.result rank_is
-    c.set_links.ensures.here c.set_links.ensures.elsewhere c.hang.ensures.here c.hang.ensures.elsewhere)
+    ap (option_map (λ (n : TreeLinks ℕ). n.greater)) (bare-met (next-run c.requires.2 c.requires.3 _ _ popped) rank_is c.set_links.ensures c.hang.ensures)
 
 pub returns-clause-some : goal.returns-clause-some
 returns-clause-some g c =

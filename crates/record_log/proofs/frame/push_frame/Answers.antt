@@ -1,12 +1,9 @@
-use Rattle.std.proofs.Common.{◌++◌, List, ℕ, ◌∙◌, ap}
-use Rattle.std.specs.Int.{w32, to_be_bytes}
-use Rattle.record_log.proofs.Frames.{pushed}
+use Rattle.std.proofs.Common.{append_assoc}
+use Rattle.record_log.specs.Format.{frame}
 use Rattle.record_log.proofs.frame.push_frame.Goals as goal
 
 pub returns : goal.returns
+unfolding frame
 returns c =
-    let sum = c.to_be_bytes-2.ensures ∙ ap (λ (n : ℕ). to_be_bytes w32 n) c.checksum_of.ensures in
-    pushed c.args.to.now.items c.args.bytes.now c.extend_from_slice.new.self.items c.extend_from_slice-2.new.self.items c.extend_from_slice-3.new.self.items
-    (c.in_ok-extend_from_slice.ensures.items ∙ ap (λ (l : List ℕ). c.args.to.now.items ++ l) c.to_be_bytes.ensures)
-    (c.in_ok-extend_from_slice-2.ensures.items ∙ ap (λ (l : List ℕ). c.extend_from_slice.new.self.items ++ l) sum)
-    c.in_ok-extend_from_slice-3.ensures.items
+    rw (c.in_ok-extend_from_slice-3.ensures.items, c.in_ok-extend_from_slice-2.ensures.items, c.in_ok-extend_from_slice.ensures.items)
+    (rw (c.to_be_bytes.ensures, c.to_be_bytes-2.ensures, c.checksum_of.ensures) (simp append_assoc))

@@ -1,6 +1,5 @@
 use Rattle.std.proofs.Common.{◌≤◌, List, ℕ, IfOk, IfErr, length, ap, subst, arith}
 use Rattle.std.proofs.lemmas.Result.{IfOk-weaker}
-use Rattle.record_log.specs.Format.{Holds}
 use Rattle.record_log.specs.Log.{contents, LaysOut, IsRefused}
 use Rattle.record_log.proofs.Header.{laid_out_holds, short_holds}
 use Rattle.record_log.proofs.CallerLemmas.{weaker}
@@ -12,8 +11,7 @@ returns-then-bytes-le8-clause-step g c = λ true.
     let short : length seen ≤ 8 = omega (arith, ap length (c.requires true).holds) in
     record {
       durable = (c.begin.ensures.step true).durable;
-      any_moment = weaker g.D.Device.moment g.D.Device.left_since c.args.device.now c.begin.new.device (λ f. length f ≤ 8) (λ f. (records : List (List ℕ)) → Holds seen records → Holds f records) (c.begin.ensures.step true).any_moment
-          (λ f shorter records holds. short_holds seen f records short shorter holds);
+      any_moment = weaker (c.begin.ensures.step true).any_moment (λ f shorter records holds. short_holds seen f records short shorter holds);
       cause = (c.begin.ensures.step true).cause;
     }
 

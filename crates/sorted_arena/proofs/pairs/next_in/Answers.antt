@@ -5,7 +5,10 @@ use Rattle.sorted_arena.proofs.pairs.next_in.Goals as goal
 
 pub returns-then-not-contains : goal.returns-then-not-contains
 returns-then-not-contains g c =
-    sym (next-absent c.args.pairs.now.list.entries (g.P.BasePtr.numbers c.args.p) c.len.ensures.sound.distinct (absent _ _ c.contains.ensures c.if-not-contains.true))
+    record {
+      value = sym (next-absent c.args.pairs.now.list.entries (g.P.BasePtr.numbers c.args.p) c.len.ensures.sound.distinct (absent _ _ c.contains.ensures c.if-not-contains.true));
+      sound = c.len.ensures.sound;
+    }
 
 pub returns-in_err-link : goal.returns-in_err-link
 returns-in_err-link g c =
@@ -14,6 +17,9 @@ returns-in_err-link g c =
 
 pub returns : goal.returns
 returns g c =
-    c.pointer_at.ensures ∙ ap (pointer_among c.args.pairs.now.list.entries) c.next.ensures.value
-    ∙ next-linked c.args.pairs.now.list.entries c.len.ensures.sound.distinct (g.P.BasePtr.numbers c.args.p) (there _ _ c.contains.ensures c.if-not-contains.false) _ _
-    (rw c.inx.ensures at c.in_ok-link.ensures)
+    record {
+      value = c.pointer_at.ensures ∙ ap (pointer_among c.args.pairs.now.list.entries) c.next.ensures.value
+          ∙ next-linked c.args.pairs.now.list.entries c.len.ensures.sound.distinct (g.P.BasePtr.numbers c.args.p) (there _ _ c.contains.ensures c.if-not-contains.false) _ _
+          (rw c.inx.ensures at c.in_ok-link.ensures);
+      sound = c.len.ensures.sound;
+    }

@@ -5,49 +5,40 @@ use Rattle.std.specs.Ordering.{nat_cmp}
 use Rattle.agenda_store.specs.Plan.{Job, told}
 use Rattle.agenda_store.specs.Planner.{taken, ticket_at, job_in}
 use Rattle.agenda_store.proofs.Entries.{Entries}
-use Rattle.agenda_store.proofs.Links.{absent, found, without_is, removed, alike, with_jobs, told_entry}
+use Rattle.agenda_store.proofs.Jobs.{with_jobs}
+use Rattle.agenda_store.proofs.Links.{absent, found, without_is, removed, alike, told_entry}
 use Rattle.agenda_store.proofs.planner.Planner.cancel.Goals as goal
 
-pub returns-in_err-ticket-clause-value : goal.returns-in_err-ticket-clause-value
-returns-in_err-ticket-clause-value c =
-    let none = absent c.args.self.now c.requires c.args.id (sym c.in_err-ticket.ensures.value) in
-    ap (λ o. option_map taken o) c.from_residual.ensures ∙ sym (ap (λ (o : Option Job). option_map told o) none.0)
-
-pub returns-in_err-ticket-clause-plan : goal.returns-in_err-ticket-clause-plan
-returns-in_err-ticket-clause-plan c =
+pub returns-in_err-ticket : goal.returns-in_err-ticket
+returns-in_err-ticket c =
     let old = c.args.self.now in
     let none = absent old c.requires c.args.id (sym c.in_err-ticket.ensures.value) in
-    record { linked = c.requires; plan_is = ap (with_jobs old.next) (sym none.1) }
+    record {
+      value = ap (λ o. option_map taken o) c.from_residual.ensures ∙ sym (ap (λ (o : Option Job). option_map told o) none.0);
+      plan = record { linked = c.requires; plan_is = ap (with_jobs old.next) (sym none.1) };
+    }
 
-pub returns-in_err-deadline-clause-value : goal.returns-in_err-deadline-clause-value
-returns-in_err-deadline-clause-value c =
+pub returns-in_err-deadline : goal.returns-in_err-deadline
+returns-in_err-deadline c =
     let ticket = c.in_ok-ticket.field-0.now in
     let here = found c.args.self.now c.requires c.args.id ticket c.len.ensures.sound.distinct (sym c.in_ok-ticket.ensures.value) in
     let e = c.in_err-deadline.ensures.takes.value ∙ here.job in absurd (cc)
 
-pub returns-in_err-deadline-clause-plan : goal.returns-in_err-deadline-clause-plan
-returns-in_err-deadline-clause-plan c =
-    let ticket = c.in_ok-ticket.field-0.now in
-    let here = found c.args.self.now c.requires c.args.id ticket c.len.ensures.sound.distinct (sym c.in_ok-ticket.ensures.value) in
-    let e = c.in_err-deadline.ensures.takes.value ∙ here.job in absurd (cc)
-
-pub returns-clause-value : goal.returns-clause-value
-returns-clause-value c =
-    let ticket = c.in_ok-ticket.field-0.now in
-    let here = found c.args.self.now c.requires c.args.id ticket c.len.ensures.sound.distinct (sym c.in_ok-ticket.ensures.value) in
-    ap (λ o. option_map told_entry o) (c.in_ok-deadline.ensures.takes.value ∙ here.job)
-    ∙ sym (ap (λ (o : Option Job). option_map told o) here.at)
-
-pub returns-clause-plan : goal.returns-clause-plan
-returns-clause-plan c =
+pub returns : goal.returns
+returns c =
     let old = c.args.self.now in
     let ticket = c.in_ok-ticket.field-0.now in
     let some = sym c.in_ok-ticket.ensures.value in
+    let here = found old c.requires c.args.id ticket c.len.ensures.sound.distinct some in
     let others = without_is old c.requires c.args.id ticket c.len.ensures.sound.distinct some in
     let gone = ap (λ a. a.jobs) c.in_ok-deadline.ensures.takes.gone in
     record {
-      linked = removed old c.requires c.args.id ticket c.len.ensures.sound.distinct some
-          (tree.get nat_cmp c.remove.new.self) c.cancel.new.self.jobs gone
-          (λ n. c.remove.ensures.updates.0 n ∙ ap (λ (b : Bool). cond b None (ticket_at old n)) (alike c.args.id n));
-      plan_is = ap (with_jobs old.next) (ap (λ (l : Entries). map job_in l) gone ∙ sym others);
+      value = ap (λ o. option_map told_entry o) (c.in_ok-deadline.ensures.takes.value ∙ here.job)
+          ∙ sym (ap (λ (o : Option Job). option_map told o) here.at);
+      plan = record {
+        linked = removed old c.requires c.args.id ticket c.len.ensures.sound.distinct some
+            (tree.get nat_cmp c.remove.new.self) c.cancel.new.self.jobs gone
+            (λ n. c.remove.ensures.updates.0 n ∙ ap (λ (b : Bool). cond b None (ticket_at old n)) (alike c.args.id n));
+        plan_is = ap (with_jobs old.next) (ap (λ (l : Entries). map job_in l) gone ∙ sym others);
+      };
     }

@@ -3,17 +3,12 @@ use Rattle.std.specs.Bool.{OnTrue}
 use Rattle.agenda.specs.Agenda.{MovesDeadline}
 use Rattle.agenda_store.specs.Plan.{Job, put_at, without}
 use Rattle.agenda_store.specs.Planner.{job_in}
-use Rattle.agenda_store.proofs.Links.{absent, found, relocated, move_is, with_jobs}
+use Rattle.agenda_store.proofs.Jobs.{with_jobs}
+use Rattle.agenda_store.proofs.Links.{absent, found, relocated, move_is}
 use Rattle.agenda_store.proofs.planner.Planner.move_to.Goals as goal
 
-pub returns-in-Some-clause-value : goal.returns-in-Some-clause-value
-returns-in-Some-clause-value c =
-    let old = c.args.self.now in
-    let here = found old c.requires c.args.id c.in-Some.ticket.now c.len.ensures.sound.distinct (sym c.in-Some.ensures.value) in
-    c.reschedule.ensures.gives.value ∙ ap is_some here.job ∙ sym (ap (λ (o : Option Job). is_some o) here.at)
-
-pub returns-in-Some-clause-plan : goal.returns-in-Some-clause-plan
-returns-in-Some-clause-plan c =
+pub returns-in-Some : goal.returns-in-Some
+returns-in-Some c =
     let old = c.args.self.now in
     let t = c.in-Some.ticket.now in
     let some = sym c.in-Some.ensures.value in
@@ -21,22 +16,23 @@ returns-in-Some-clause-plan c =
     let yes : c.reschedule.result ≡ true = c.reschedule.ensures.gives.value ∙ ap is_some here.job in
     let moves = subst (λ (b : Bool). OnTrue b (MovesDeadline old.agenda t c.args.deadline c.reschedule.new.self)) yes c.reschedule.ensures.moved in
     record {
-      linked = relocated old c.requires c.args.id t c.len.ensures.sound.distinct some c.args.deadline c.reschedule.new.self moves;
-      plan_is = ap (with_jobs old.next)
-          (move_is old c.requires c.args.id t c.len.ensures.sound.distinct some c.args.deadline c.reschedule.new.self moves);
+      value = yes ∙ sym (ap (λ (o : Option Job). is_some o) here.at);
+      plan = record {
+        linked = relocated old c.requires c.args.id t c.len.ensures.sound.distinct some c.args.deadline c.reschedule.new.self moves;
+        plan_is = ap (with_jobs old.next)
+            (move_is old c.requires c.args.id t c.len.ensures.sound.distinct some c.args.deadline c.reschedule.new.self moves);
+      };
     }
 
-pub returns-in-None-clause-value : goal.returns-in-None-clause-value
-returns-in-None-clause-value c =
-    let none = absent c.args.self.now c.requires c.args.id (sym c.in-None.ensures.value) in
-    sym (ap (λ (o : Option Job). is_some o) none.0)
-
-pub returns-in-None-clause-plan : goal.returns-in-None-clause-plan
-returns-in-None-clause-plan c =
+pub returns-in-None : goal.returns-in-None
+returns-in-None c =
     let old = c.args.self.now in
     let none = absent old c.requires c.args.id (sym c.in-None.ensures.value) in
     let others = without c.args.id (map job_in old.agenda.jobs) in
     record {
-      linked = c.requires;
-      plan_is = ap (with_jobs old.next) (sym none.1 ∙ ap (λ (o : Option Job). put_at c.args.deadline o others) (sym none.0));
+      value = sym (ap (λ (o : Option Job). is_some o) none.0);
+      plan = record {
+        linked = c.requires;
+        plan_is = ap (with_jobs old.next) (sym none.1 ∙ ap (λ (o : Option Job). put_at c.args.deadline o others) (sym none.0));
+      };
     }

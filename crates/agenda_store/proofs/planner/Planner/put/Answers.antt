@@ -2,7 +2,8 @@ use Rattle.std.proofs.Common.{◌∙◌, ap, cond, Bool, Some}
 use Rattle.std.specs.BTreeMap as tree
 use Rattle.std.specs.Ordering.{nat_cmp}
 use Rattle.agenda_store.specs.Planner.{ticket_at}
-use Rattle.agenda_store.proofs.Links.{inserted, put_is, alike, with_jobs}
+use Rattle.agenda_store.proofs.Jobs.{with_jobs}
+use Rattle.agenda_store.proofs.Links.{inserted, put_is, alike}
 use Rattle.agenda_store.proofs.planner.Planner.put.Goals as goal
 
 pub returns-clause-plan : goal.returns-clause-plan

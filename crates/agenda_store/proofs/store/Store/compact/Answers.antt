@@ -19,8 +19,7 @@ moments : (g : Over) (c : After-rewrite g) → IsTrue g.D.Device.is_modelled →
     (λ file. StandsFor file (plan_in c.args.self.now))
 moments g c true open-before =
     let kept = c.requires.consistent true open-before in
-    rewritten g.D.Device.moment g.D.Device.left_since (disk_of c.args.self.now) c.rewrite.new.self.device kept.records
-    (contents c.deref.result.now) (plan_in c.args.self.now) kept.replayed (replayed g c) (c.rewrite.ensures.any_moment true kept.records kept.keeps)
+    rewritten kept.replayed (replayed g c) (c.rewrite.ensures.any_moment true kept.records kept.keeps)
 
 pub returns-in_err-rewrite-clause-any_moment : goal.returns-in_err-rewrite-clause-any_moment
 returns-in_err-rewrite-clause-any_moment g c = moments g (goal.at.returns-in_err-rewrite-clause-any_moment g c).After-rewrite

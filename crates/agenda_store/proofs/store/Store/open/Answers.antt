@@ -8,18 +8,18 @@ use Rattle.agenda_store.proofs.store.Store.open.Goals as goal
 pub returns-in-Ok-replay-clause-any_moment : goal.returns-in-Ok-replay-clause-any_moment
 returns-in-Ok-replay-clause-any_moment g c = λ true plan stands.
     let opened = c.in-Ok.ensures in
-    the_same g.D.Device.moment g.D.Device.left_since c.args.device c.in-Ok.log.device (g.D.Device.seen c.args.device) plan stands (opened.any_moment true)
+    the_same stands (opened.any_moment true)
 
 pub returns-in-Ok-clause-any_moment_err : goal.returns-in-Ok-clause-any_moment_err
 returns-in-Ok-clause-any_moment_err g c = λ true plan stands.
     let opened = c.in-Ok.ensures in
     subst (λ d. LeavesOnly g.D.Device.moment g.D.Device.left_since c.args.device d (λ f. StandsFor f plan)) (sym c.into_device.ensures)
-    (the_same g.D.Device.moment g.D.Device.left_since c.args.device c.in-Ok.log.device (g.D.Device.seen c.args.device) plan stands (opened.any_moment true))
+    (the_same stands (opened.any_moment true))
 
 pub returns-clause-any_moment_err : goal.returns-clause-any_moment_err
 returns-clause-any_moment_err g c = λ true plan stands.
     let failed = c.in-Err.ensures in
-    the_same g.D.Device.moment g.D.Device.left_since c.args.device c.in-Err.device (g.D.Device.seen c.args.device) plan stands (failed.any_moment_err true)
+    the_same stands (failed.any_moment_err true)
 
 pub returns-in-Ok-clause-refused : goal.returns-in-Ok-clause-refused
 returns-in-Ok-clause-refused g c = λ true is plan stands.

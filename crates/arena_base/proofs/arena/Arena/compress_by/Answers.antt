@@ -13,10 +13,11 @@ invariant_of-self g c =
       omega (arith, c.move_down.ensures.len, c.list_vacant.ensures.capacity, c.self.invariant.1),
     )
 
-pub returns-clause-after : goal.returns-clause-after
-returns-clause-after g c =
-    compressed-after g.P.BasePtr.numbers g.P.Gen.BasePtrGen g.P.Inx.BasePtrInx _ c.self.inside c.move_down.new.slots.items c.list_vacant.new.vacant.items
-    c.args.map c.args.self.now _ (c.self.view_is ∙ c.restart-overflow.ensures.after) c.move_down.ensures.items
+pub returns-clause-restarts : goal.returns-clause-restarts
+returns-clause-restarts g c =
+    let after = compressed-after g.P.BasePtr.numbers g.P.Gen.BasePtrGen g.P.Inx.BasePtrInx _ c.self.inside c.move_down.new.slots.items c.list_vacant.new.vacant.items
+    c.args.map c.args.self.now _ (c.self.view_is ∙ c.restart-overflow.ensures.after) c.move_down.ensures.items in
+    record { after = after; overflow = c.restart-overflow.ensures.overflow }
 
 pub returns-clause-fresh : goal.returns-clause-fresh
 returns-clause-fresh g c =

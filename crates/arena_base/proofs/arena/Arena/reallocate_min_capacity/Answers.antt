@@ -3,6 +3,3 @@ use Rattle.arena_base.proofs.arena.Arena.reallocate_min_capacity.Goals as goal
 
 pub set_capacity-requires-clause-entries : goal.set_capacity-requires-clause-entries
 set_capacity-requires-clause-entries g c = grind (arith, common_steps)
-
-pub returns-in-Ok-clause-ok : goal.returns-in-Ok-clause-ok
-returns-in-Ok-clause-ok g c = grind (arith, common_steps)

@@ -1,13 +1,16 @@
 use Rattle.arena_base.proofs.{Words.inl, Words.inr, Words.on_ok_weaker, Clones.clone-restated, Clones.refusal-restated}
 use Rattle.arena_base.proofs.arena.Arena.try_clone_from_with.Goals as goal
 
-pub returns-clause-ok : goal.returns-clause-ok
-returns-clause-ok g c =
-    on_ok_weaker _ (clone-restated g.P.BasePtr.numbers _ _ (λ m. m.f) (λ m p u x n called. called) _ _ _ _ _) c.clone_by.ensures.ok
-
-pub returns-clause-memory : goal.returns-clause-memory
-returns-clause-memory g c = λ is.
-    elim (c.clone_by.ensures.memory is) [
-      | inl kept ↦ inl (kept.0, kept.1)
-      | inr refused ↦ inr (refusal-restated g.P.BasePtr.numbers _ _ (λ m. m.f) (λ m p u r n called. called) _ _ _ _ _ refused)
-    ]
+pub returns-clause-clones : goal.returns-clause-clones
+returns-clause-clones g c =
+    let clones = c.clone_by.ensures.clones in
+    record {
+      ok = on_ok_weaker _ (clone-restated g.P.BasePtr.numbers _ _ (λ m. m.f) (λ m p u x n called. called) _ _ _ _ _) clones.ok;
+      beyond = clones.beyond;
+      beyond_kept = λ is. (clones.beyond_kept is).0;
+      memory = λ is.
+          elim (clones.memory is) [
+            | inl kept ↦ inl (kept.0, kept.1.0)
+            | inr refused ↦ inr (refusal-restated g.P.BasePtr.numbers _ _ (λ m. m.f) (λ m p u r n called. called) _ _ _ _ _ refused)
+          ];
+    }

@@ -1,4 +1,4 @@
-use Rattle.arena_base.proofs.{Steps.length-padded, Steps.resized-cons, Steps.relisted, Steps.relisted-sound, Steps.entries-made, Words.None, Words.[], Words.refl, Words.arith, Words.◌∙◌, Words.none-some, Words.Vacant}
+use Rattle.arena_base.proofs.{Steps.length-padded, Steps.resized-cons, Steps.relisted, Steps.relisted-sound, Steps.entries-made, Words.None, Words.[], Words.refl, Words.arith, Words.◌∙◌, Words.none-some, Words.Vacant, Words.rules}
 use Rattle.arena_base.proofs.arena.Arena.with_min_capacity.Goals as goal
 
 pub invariant_of-result : goal.invariant_of-result
@@ -11,8 +11,12 @@ invariant_of-result g c =
       omega (arith, next.ok.0, length-padded c.args.n [] next.items Vacant is (omega arith), c.in_ok-vacant.ensures.capacity),
     )
 
-pub returns-clause-ok : goal.returns-clause-ok
-returns-clause-ok g c =
+pub returns : goal.returns
+returns g c =
     let is = rw (c.in_ok-slots.slots.ok.0, c.in_ok-slots.ensures.items) at c.fill_up.ensures.items in let all = c.fill_up.ensures.vacant in
-    relisted g.P.Gen.BasePtrGen g.P.Inx.BasePtrInx c.fill_up.new.slots.items _ c.two-generation.result None all
-    ∙ rw (entries-made g.P.Gen.BasePtrGen.number c.args.n c.fill_up.new.slots.items is, c.two-generation.ensures.value, resized-cons) refl
+    record {
+      ok = relisted g.P.Gen.BasePtrGen g.P.Inx.BasePtrInx c.fill_up.new.slots.items _ c.two-generation.result None all
+          ∙ rw (entries-made g.P.Gen.BasePtrGen.number c.args.n c.fill_up.new.slots.items is, c.two-generation.ensures.value, resized-cons) refl;
+      beyond = search rules;
+      none = search rules;
+    }

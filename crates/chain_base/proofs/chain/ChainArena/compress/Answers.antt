@@ -2,6 +2,8 @@ use Rattle.std.proofs.Common.{rules}
 use Rattle.chain_base.proofs.Canonical.{compression-relocates}
 use Rattle.chain_base.proofs.chain.ChainArena.compress.Goals as goal
 
-pub returns-clause-after : goal.returns-clause-after
-returns-clause-after g c =
-    compression-relocates g.P.BasePtr.numbers _ _ g.P.Inx.BasePtrInx.most g.P.Gen.BasePtrGen.greatest (λ f p x q y h called. search rules) _ _ _ c.len.ensures.sound c.compress_with.ensures.after
+pub returns : goal.returns
+returns g c = record {
+  after = compression-relocates g.P.BasePtr.numbers _ _ g.P.Inx.BasePtrInx.most g.P.Gen.BasePtrGen.greatest (λ f p x q y h called. search rules) _ _ _ c.len.ensures.sound c.compress_with.ensures.after;
+  overflow = c.compress_with.ensures.overflow;
+}

@@ -10,26 +10,26 @@ pub name_compressed_indexes-self-inside-requires : goal.name_compressed_indexes-
 name_compressed_indexes-self-inside-requires g c =
     let places = c.name_compressed_indexes-first.ensures in
     paired-after c.self.inside.arena _ _ _ c.self.invariant c.name_compressed_indexes-first.new.arena _ places
-    g.P.BasePtr.numbers g.M.MapEntry.step _ c.args.map c.compress_items-overflow.new.arena c.compress_items-overflow.ensures.after places.begins
+    g.P.BasePtr.numbers g.M.MapEntry.step _ c.args.map c.compress_items-overflow.new.arena c.compress_items-overflow.ensures.restarts.after places.begins
 
 pub invariant_of-self : goal.invariant_of-self
 invariant_of-self g c =
     let places = c.name_compressed_indexes-first.ensures in
     let done = Lies-compressed c.self.inside.arena _ _ _ c.self.invariant c.name_compressed_indexes-first.new.arena _ places
-    g.P.BasePtr.numbers g.M.MapEntry.step _ c.args.map c.compress_items-overflow.new.arena c.compress_items-overflow.ensures.after places.begins
+    g.P.BasePtr.numbers g.M.MapEntry.step _ c.args.map c.compress_items-overflow.new.arena c.compress_items-overflow.ensures.restarts.after places.begins
     c.name_compressed_indexes-self-inside.new.arena _ c.name_compressed_indexes-self-inside.ensures c.compress_items-overflow.ensures.fresh in
     done.laid
 
-pub returns-clause-after : goal.returns-clause-after
-returns-clause-after g c =
+pub returns : goal.returns
+returns g c =
     let places = c.name_compressed_indexes-first.ensures in
+    let restarts = c.compress_items-overflow.ensures.restarts in
     let done = chain-compressed c.self.inside.arena _ _ _ c.self.invariant c.name_compressed_indexes-first.new.arena _ places
-    g.P.BasePtr.numbers g.M.MapEntry.step _ c.args.map c.compress_items-overflow.new.arena c.compress_items-overflow.ensures.after places.begins
+    g.P.BasePtr.numbers g.M.MapEntry.step _ c.args.map c.compress_items-overflow.new.arena restarts.after places.begins
     c.name_compressed_indexes-self-inside.new.arena _ c.name_compressed_indexes-self-inside.ensures c.compress_items-overflow.ensures.fresh in
     let generation = ap (λ a. a.generation) places.kept ∙ ap (λ v. v.generation) c.self.view_is in
-    compression-of g.P.BasePtr.numbers g.M.MapEntry.step c.args.map _ c.args.self.now _ _ _ c.self.view_is (ap (compressed_generation g.P.Gen.BasePtrGen.greatest c.args.reset) generation) done
-
-pub returns-clause-overflow : goal.returns-clause-overflow
-returns-clause-overflow g c =
-    let generation = ap (λ a. a.generation) c.name_compressed_indexes-first.ensures.kept ∙ ap (λ v. v.generation) c.self.view_is in
-    c.compress_items-overflow.ensures.overflow ∙ ap (compression_overflows g.P.Gen.BasePtrGen.greatest c.args.reset) generation
+    record {
+      after =
+          compression-of g.P.BasePtr.numbers g.M.MapEntry.step c.args.map _ c.args.self.now _ _ _ c.self.view_is (ap (compressed_generation g.P.Gen.BasePtrGen.greatest c.args.reset) generation) done;
+      overflow = restarts.overflow ∙ ap (compression_overflows g.P.Gen.BasePtrGen.greatest c.args.reset) generation;
+    }

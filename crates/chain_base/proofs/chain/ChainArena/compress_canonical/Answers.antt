@@ -37,6 +37,9 @@ loop-position-preserved g c =
     (c.exchange.ensures ∙ (ap (λ k. exchanged at.self k (g.P.Inx.BasePtrInx.number c.unwrap-index.result)) first ∙ ap (exchanged at.self _) second))
     (c.next_after-at.ensures ∙ ap (index_after c.exchange.new.self.entries) second)
 
-pub returns-clause-after : goal.returns-clause-after
-returns-clause-after g c =
-    canonical-ends g.P.Inx.BasePtrInx.most g.P.Gen.BasePtrGen.greatest c.args.self.now _ c.loop-position.self _ c.loop-position.position c.len-len.ensures.sound (omega (arith, c.len-len.ensures.value)) c.loop-position.invariant
+pub returns : goal.returns
+returns g c = record {
+  after =
+      canonical-ends g.P.Inx.BasePtrInx.most g.P.Gen.BasePtrGen.greatest c.args.self.now _ c.loop-position.self _ c.loop-position.position c.len-len.ensures.sound (omega (arith, c.len-len.ensures.value)) c.loop-position.invariant;
+  overflow = c.compress-overflow.ensures.overflow;
+}

@@ -32,9 +32,3 @@ returns-clause-ok g c =
 
 pub neighbours-requires : goal.neighbours-requires
 neighbours-requires g c = c.requires
-
-pub returns-in_err-p-clause-refusal : goal.returns-in_err-p-clause-refusal
-returns-in_err-p-clause-refusal g c = grind (arith, common_steps)
-
-pub returns-clause-full : goal.returns-clause-full
-returns-clause-full g c = grind (arith, common_steps)

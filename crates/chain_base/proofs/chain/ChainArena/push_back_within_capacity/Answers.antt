@@ -27,9 +27,3 @@ returns-clause-ok g c =
     let inserts = Inserts-linked c.self.inside.arena _ _ c.self.invariant _ _ _ _ c.in_ok-p.ensures.ok _ _ _ (behind _ _ c.self.invariant.last_is) _ _ c.in_ok-p.ensures.sound
     _ new.item new.prev new.next c.relink.new.arena _ _ ends.arena ends.first ends.last in
     rw (← c.self.view_is) inserts.insertion
-
-pub returns-in_err-p-clause-refusal : goal.returns-in_err-p-clause-refusal
-returns-in_err-p-clause-refusal g c = grind (arith, common_steps)
-
-pub returns-clause-full : goal.returns-clause-full
-returns-clause-full g c = grind (arith, common_steps)

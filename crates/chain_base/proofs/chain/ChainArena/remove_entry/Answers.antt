@@ -27,16 +27,15 @@ invariant_of-self g c =
     _ _ beside.prev beside.next beside.named_prev beside.named_next _ c.relink.new.arena _ _ c.remove_entry-taken.ensures.removed ends.arena ends.first ends.last in
     removes.laid
 
-pub returns-clause-value : goal.returns-clause-value
-returns-clause-value g c = rw (← c.self.view_is, ← c.self.invariant.links) c.remove_entry-taken.ensures.value
-
-pub returns-clause-removed : goal.returns-clause-removed
-returns-clause-removed g c =
+pub returns : goal.returns
+returns g c =
     let ends = c.relink.ensures in
     let beside = c.prev_next.ensures in
+    let taken = c.remove_entry-taken.ensures in
     let removes = Removes-linked c.self.inside.arena _ _ c.self.invariant g.P.Gen.BasePtrGen.greatest _ _ c.entry.ensures
-    _ _ beside.prev beside.next beside.named_prev beside.named_next _ c.relink.new.arena _ _ c.remove_entry-taken.ensures.removed ends.arena ends.first ends.last in
-    rw (← c.self.view_is) removes.chain
-
-pub returns-clause-overflow : goal.returns-clause-overflow
-returns-clause-overflow g c = rw (← c.self.view_is) c.remove_entry-taken.ensures.overflow
+    _ _ beside.prev beside.next beside.named_prev beside.named_next _ c.relink.new.arena _ _ taken.removed ends.arena ends.first ends.last in
+    record {
+      value = rw (← c.self.view_is, ← c.self.invariant.links) taken.value;
+      overflow = rw (← c.self.view_is) taken.overflow;
+      removed = rw (← c.self.view_is) removes.chain;
+    }

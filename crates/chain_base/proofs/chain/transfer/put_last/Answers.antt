@@ -10,7 +10,7 @@ insert_within_capacity-requires g c =
 pub unwrap-requires : goal.unwrap-requires
 unwrap-requires g c =
     let r = c.requires in
-    has-room _ r.0 r.1 r.3 (λ refused. rw r.2 at c.insert_within_capacity.ensures.full.0 refused)
+    has-room _ r.0 r.1 r.3 (λ refused. rw r.2 at c.insert_within_capacity.ensures.refused.full.0 refused)
 
 pub returns : goal.returns
 returns g c = λ d items is less last.

@@ -5,10 +5,10 @@ use Rattle.ord_tree.proofs.tree.OrdTree.clone_to_chain_arena.Goals as goal
 
 pub returns : goal.returns
 returns g c = record {
-  ok = list-told g.P.BasePtr.numbers _ _ (λ m. m.map.f) (λ m p l x n called. called) _ _ c.self.inside.chain _ _ _ (ap (λ (t : Tree _). t.list) c.self.view_is) c.clone_by.result c.clone_by.ensures.ok;
-  beyond = rw (← c.self.view_is, greatest_index-bare c.self.inside.chain.entries) c.clone_by.ensures.beyond;
+  ok = list-told g.P.BasePtr.numbers _ _ (λ m. m.map.f) (λ m p l x n called. called) _ _ c.self.inside.chain _ _ _ (ap (λ (t : Tree _). t.list) c.self.view_is) c.clone_by.result c.clone_by.ensures.clones.ok;
+  beyond = rw (← c.self.view_is, greatest_index-bare c.self.inside.chain.entries) c.clone_by.ensures.clones.beyond;
   memory = λ is.
-      elim (c.clone_by.ensures.memory is) [
+      elim (c.clone_by.ensures.clones.memory is) [
         | inl kept ↦ rw (← c.self.view_is, greatest_index-bare c.self.inside.chain.entries) kept.0
         | inr refused ↦ absurd refused.stops.called
       ];

@@ -11,8 +11,12 @@ invariant_of-self g c =
     (either_result r.result _ (on_ok r.result _ _ r.ensures.ok (λ e. ap (λ (c : Chain _). c.entries) e)) (on_err r.result _ _ r.ensures.err (λ e. ap (λ (c : Chain _). c.entries) e)))
     c.self.invariant
 
-pub returns-clause-ok : goal.returns-clause-ok
-returns-clause-ok g c =
-    let root = c.self.inside.root in
+pub returns : goal.returns
+returns g c =
     let r = c.set_max_capacity in
-    rw (← c.self.view_is) (on_ok r.result _ _ r.ensures.ok (λ e. ap (λ (c : Chain _). tree_of c (option_map g.P.Inx.BasePtrInx.number root)) e))
+    let root = option_map g.P.Inx.BasePtrInx.number c.self.inside.root in
+    rw (← c.self.view_is) (record {
+      ok = on_ok r.result _ _ r.ensures.ok (λ e. ap (λ (c : Chain _). tree_of c root) e);
+      refused = r.ensures.refused;
+      err = on_err r.result _ _ r.ensures.err (λ e. ap (λ (c : Chain _). tree_of c root) e);
+    })

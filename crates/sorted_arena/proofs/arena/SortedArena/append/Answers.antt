@@ -14,12 +14,12 @@ loop-k-preserved g c =
     let left : c.pop_first.new.self.entries ≡ behind_first c.loop-k.other.entries = ap (λ (a : Sorted g.row.K.Denot g.row.V.Denot). a.entries) c.in-Some.ensures.removes.gone in
     record {
       merges = ap (λ (es : List (Entry (g.row.K.Denot × g.row.V.Denot))). merged g.K.Ord.cmp (map item_of c.insert_in_room.new.self.entries) (map item_of es)) left
-          ∙ merges-more g.K.Ord.cmp g.P.Inx.BasePtrInx.most c.loop-k.self c.insert_in_room.new.self c.loop-k.other.entries p c.in-Some.k c.in-Some.v c.in-Some.ensures.value put.inserts
+          ∙ merges-more g.K.Ord.cmp g.P.Inx.BasePtrInx.most c.loop-k.self c.insert_in_room.new.self c.loop-k.other.entries p c.in-Some.k c.in-Some.v c.in-Some.ensures.value put.inserts.ok
           ∙ c.loop-k.invariant.merges;
-      room = omega (arith, put.count, put.capacity, c.in-Some.ensures.removes.count, c.loop-k.invariant.room);
-      counted = omega (arith, put.count, c.in-Some.ensures.removes.count, c.loop-k.invariant.counted);
-      keeps = keeps-more c.args.self.now c.loop-k.self c.insert_in_room.new.self p _ c.loop-k.invariant.keeps put.inserts.unused put.updates;
-      generation = put.inserts.generation ∙ c.loop-k.invariant.generation;
+      room = omega (arith, put.inserts.count, put.capacity, c.in-Some.ensures.removes.count, c.loop-k.invariant.room);
+      counted = omega (arith, put.inserts.count, c.in-Some.ensures.removes.count, c.loop-k.invariant.counted);
+      keeps = keeps-more c.args.self.now c.loop-k.self c.insert_in_room.new.self p _ c.loop-k.invariant.keeps put.inserts.ok.unused put.inserts.updates;
+      generation = put.inserts.ok.generation ∙ c.loop-k.invariant.generation;
       removes = (
         c.loop-k.invariant.removes.0 + 1,
         removes-more g.Q.Gen.BasePtrGen.greatest c.args.other.now c.loop-k.other c.pop_first.new.self c.loop-k.invariant.removes.0 [] (behind_first c.loop-k.other.entries) first.0

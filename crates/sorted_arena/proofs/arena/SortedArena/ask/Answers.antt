@@ -22,4 +22,4 @@ returns-clause-asks g c at =
     let greatest = g.P.Gen.BasePtrGen.greatest in
     asks-gone greatest c.args.self.now c.len.ensures.sound.distinct (Some p) p refl at (AnswersFor g.F.FnMut) c.args.f.now c.is_kept.new.f
     (rw c.if-is_kept.false at (c.is_kept.ensures.answers at.entry (cut-found greatest c.args.self.now c.len.ensures.sound.distinct (Some p) p refl at)))
-    c.take-next.new.self c.take-next.result.0 (option_map g.P.BasePtr.numbers c.take-next.result.1) (c.take-next.ensures at)
+    c.take.new.self c.take.result.0 (option_map g.P.BasePtr.numbers c.take.result.1) (c.take.ensures.takes at)

@@ -14,7 +14,7 @@ pushed (Err e) xs new x is ok = absurd (cc)
 pub loop-init : goal.loop-init
 loop-init g c = record {
   taking = taking-none g.P.Gen.BasePtrGen.greatest c.args.self.now _ _ _ _
-      (range-part g.K.Ord.cmp g.met.K.Ord.total (bound_map (λ k. k.now) c.args.from) (bound_map (λ k. k.now) c.args.until) c.args.self.now.entries c.len.ensures.sound.sorted)
+      (range-part g.K.Ord.cmp g.met.K.Ord.total (bound_map (λ k. k.now) c.args.from) (bound_map (λ k. k.now) c.args.until) c.args.self.now.entries c.run_between-first.ensures.sound.sorted)
       c.run_between-first.ensures.first (c.reserve.ensures.items ∙ sym (append-nil c.args.drained.now.items));
   room = omega (arith, c.in_ok-reserve.ensures.ok);
 }
@@ -26,13 +26,13 @@ pub loop-preserved : goal.loop-preserved
 loop-preserved g c =
     let put = pushed c.push.result c.loop.drained.items c.push.new.self.items c.take-pair.result.0 c.push.ensures.items (c.push.ensures.succeeds (omega (arith, c.loop.invariant.room, c.loop-test.true))) in
     record {
-      taking = taking-more _ _ _ _ _ _ _ _ c.loop.invariant.taking (omega (arith, c.loop-test.true, c.run_between-first.ensures.count)) c.take-pair.result.0 c.take-pair.new.self _ _ c.take-pair.ensures
+      taking = taking-more _ _ _ _ _ _ _ _ c.loop.invariant.taking (omega (arith, c.loop-test.true, c.run_between-first.ensures.count)) c.take-pair.result.0 c.take-pair.new.self _ _ c.take-pair.ensures.takes
           (λ taken later e cut is was. put ∙ ap (λ xs. xs ++ c.take-pair.result.0 ∷ []) was ∙ append_assoc c.args.drained.now.items (map item_of taken) (c.take-pair.result.0 ∷ [])
           ∙ ap (λ x. c.args.drained.now.items ++ (map item_of taken ++ x ∷ [])) is ∙ ap (λ xs. c.args.drained.now.items ++ xs) (sym (map-append item_of taken (e ∷ []))));
       room = omega (arith, c.loop.invariant.room, c.push.ensures.upper_bound, c.push.ensures.capacity);
     }
 
-pub returns : goal.returns
-returns g c =
+pub returns-clause-drains : goal.returns-clause-drains
+returns-clause-drains g c =
     let done = taking-done _ _ _ _ _ _ _ _ c.loop.invariant.taking (omega (arith, c.run_between-first.ensures.count, c.loop.auto.counter-end, c.loop-test.false)) in
     record { drained = done.2; after = done.0; room = search rules; kept = search rules; err = search rules }

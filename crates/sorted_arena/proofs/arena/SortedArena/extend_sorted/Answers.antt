@@ -1,7 +1,6 @@
-use Rattle.std.proofs.Common.{◌∙◌, [], ◌++◌, List, map, sym, ap, rules}
+use Rattle.std.proofs.Common.{◌∙◌, [], ◌++◌, List, map, sym, ap, rules, append-nil}
 use Rattle.triple_ord.specs.Chain.{Entry}
 use Rattle.sorted_arena.specs.Sorted.{item_of}
-use Rattle.sorted_arena.proofs.Cutting.{append-nil}
 use Rattle.sorted_arena.proofs.arena.SortedArena.extend_sorted.Goals as goal
 
 pub returns-then-is_made_ready : goal.returns-then-is_made_ready

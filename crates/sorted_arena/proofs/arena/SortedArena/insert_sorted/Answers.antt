@@ -1,12 +1,12 @@
-use Rattle.std.proofs.Common.{◌≡◌, ◌∙◌, refl, ◌-◌, ◌++◌, ◌∷◌, [], None, sym, ap, subst, map, arith, rules, append_assoc, List, IsSomeAnd}
+use Rattle.std.proofs.Common.{◌≡◌, ◌∙◌, refl, ◌-◌, ◌++◌, ◌∷◌, [], None, Err, sym, ap, subst, map, arith, rules, append_assoc, List, IsSomeAnd, append-nil}
 use Rattle.std.specs.declared.cmp.Ordering.{TheVariants.Greater}
 use Rattle.triple_ord.specs.Gap.{last_of}
-use Rattle.sorted_arena.specs.Sorted.{item_of, Keeps, Sorted}
-use Rattle.sorted_arena.proofs.Cutting.{append-nil}
+use Rattle.sorted_arena.specs.{Sorted.item_of, Change.ExtendsSorted}
+use Rattle.sorted_arena.specs.declared.error.SortedError.TheVariants.{BeyondMaxCapacity, AllocError}
 use Rattle.sorted_arena.proofs.Merging.{keeps-all, keeps-more}
 use Rattle.std.proofs.lemmas.Grind.{common_steps}
 use Rattle.std.specs.Vec.Iter.{into_iter_items}
-use Rattle.sorted_arena.proofs.Extending.{last-greater, appended, counted, cut_more, cut_all}
+use Rattle.sorted_arena.proofs.Extending.{last-greater, appended, counted, cut_more, cut_all, stopped}
 use Rattle.sorted_arena.proofs.arena.SortedArena.insert_sorted.Goals as goal
 
 pub overflow_sub-result : goal.overflow_sub-result
@@ -36,39 +36,17 @@ returns-then-is_last_greater g c = record {
 
 pub returns-in-Err-default-BeyondMaxCapacity : goal.returns-in-Err-default-BeyondMaxCapacity
 returns-in-Err-default-BeyondMaxCapacity g c =
-    let same = c.in-Err-default-BeyondMaxCapacity.ensures.inserts.err in
-    record {
-      ok = search rules;
-      unsorted = search rules;
-      part = (
-        c.loop-k.yielded,
-        into_iter_items c.loop-k.k-iterator,
-        c.loop-k.invariant.cut,
-        ap (λ (a : Sorted g.row.K.Denot g.row.V.Denot). map item_of a.entries) same ∙ c.loop-k.invariant.held,
-      );
-      kept = subst (λ (a : Sorted g.row.K.Denot g.row.V.Denot). Keeps c.args.self.now a) (sym same) c.loop-k.invariant.keeps;
-      generation = search rules;
-      full = search rules;
-      memory = search rules;
-    }
+    let now = c.loop-k.invariant in
+    subst (ExtendsSorted g.K.Ord.cmp g.P.Inx.BasePtrInx.most c.args.self.now c.args.pairs.items (Err BeyondMaxCapacity)) (sym c.in-Err-default-BeyondMaxCapacity.ensures.inserts.err)
+    (stopped g.K.Ord.cmp g.P.Inx.BasePtrInx.most c.args.self.now c.loop-k.self c.args.pairs.items c.loop-k.yielded (into_iter_items c.loop-k.k-iterator) now.cut now.held now.keeps now.generation
+    BeyondMaxCapacity (λ at is. absurd (cc)) (search rules) (λ is. absurd (cc)))
 
 pub returns-in-Err-default-AllocError : goal.returns-in-Err-default-AllocError
 returns-in-Err-default-AllocError g c =
-    let same = c.in-Err-default-AllocError.ensures.inserts.err in
-    record {
-      ok = search rules;
-      unsorted = search rules;
-      part = (
-        c.loop-k.yielded,
-        into_iter_items c.loop-k.k-iterator,
-        c.loop-k.invariant.cut,
-        ap (λ (a : Sorted g.row.K.Denot g.row.V.Denot). map item_of a.entries) same ∙ c.loop-k.invariant.held,
-      );
-      kept = subst (λ (a : Sorted g.row.K.Denot g.row.V.Denot). Keeps c.args.self.now a) (sym same) c.loop-k.invariant.keeps;
-      generation = search rules;
-      full = search rules;
-      memory = search rules;
-    }
+    let now = c.loop-k.invariant in
+    subst (ExtendsSorted g.K.Ord.cmp g.P.Inx.BasePtrInx.most c.args.self.now c.args.pairs.items (Err AllocError)) (sym c.in-Err-default-AllocError.ensures.inserts.err)
+    (stopped g.K.Ord.cmp g.P.Inx.BasePtrInx.most c.args.self.now c.loop-k.self c.args.pairs.items c.loop-k.yielded (into_iter_items c.loop-k.k-iterator) now.cut now.held now.keeps now.generation
+    AllocError (λ at is. absurd (cc)) (λ is. absurd (cc)) (search rules))
 
 pub returns : goal.returns
 returns g c =

@@ -1,10 +1,9 @@
-use Rattle.sorted_arena.proofs.Neighbours.{next-named, next-ordered}
+use Rattle.sorted_arena.specs.Layout.{sorted_of}
+use Rattle.sorted_arena.proofs.{Changing.sound-held, Neighbours.next-found}
 use Rattle.sorted_arena.proofs.arena.SortedArena.next.Goals as goal
 
-pub returns-clause-named : goal.returns-clause-named
-returns-clause-named g c =
-    rw (← c.self.view_is) (next-named g.K.Ord.cmp c.self.inside.pairs.list.entries c.len.ensures.sound.distinct c.self.invariant.order.sorted (g.P.BasePtr.numbers c.args.p) g.P.BasePtr.numbers c.next_in.result c.next_in.ensures)
-
-pub returns-clause-in_order : goal.returns-clause-in_order
-returns-clause-in_order g c =
-    rw (← c.self.view_is) (next-ordered g.K.Ord.cmp c.self.inside.pairs.list.entries c.len.ensures.sound.distinct c.self.invariant.order.sorted (g.P.BasePtr.numbers c.args.p) g.P.BasePtr.numbers c.next_in.result c.next_in.ensures)
+pub returns : goal.returns
+returns g c =
+    let pairs = c.self.inside.pairs in
+    let sound = sound-held g.K.Ord.cmp g.P.Inx.BasePtrInx.most g.P.Gen.BasePtrGen.greatest pairs c.next_in.ensures.sound c.self.invariant.order in
+    rw (← c.self.view_is) (next-found g.K.Ord.cmp g.P.Inx.BasePtrInx.most (sorted_of pairs) sound (g.P.BasePtr.numbers c.args.p) g.P.BasePtr.numbers c.next_in.result c.next_in.ensures.value)

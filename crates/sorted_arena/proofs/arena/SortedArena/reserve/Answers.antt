@@ -5,4 +5,4 @@ use Rattle.sorted_arena.proofs.arena.SortedArena.reserve.Goals as goal
 pub invariant_of-self : goal.invariant_of-self
 invariant_of-self g c =
     held-reserved g.K.Ord.cmp c.self.inside.is_compact g.P.Inx.BasePtrInx.most c.self.inside.pairs c.reserve.new.self (length c.self.inside.pairs.list.entries + c.args.additional) (omega arith)
-    c.reserve.result c.reserve.ensures.ok c.reserve.ensures.kept.err c.self.invariant
+    c.reserve.result c.reserve.ensures.reallocates.ok c.reserve.ensures.reallocates.err c.self.invariant

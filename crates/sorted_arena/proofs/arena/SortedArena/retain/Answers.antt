@@ -8,7 +8,7 @@ use Rattle.sorted_arena.proofs.arena.SortedArena.retain.Goals as goal
 pub loop-next-init : goal.loop-next-init
 loop-next-init g c = record {
   callable = c.requires;
-  distinct = c.first-next.ensures.sound.distinct;
+  sound = c.first-next.ensures.sound;
   retains = retains-none (AnswersFor g.F.FnMut) g.P.Gen.BasePtrGen.greatest c.args.self.now c.args.f (option_map g.P.BasePtr.numbers c.first-next.result) (c.first-next.ensures.value ∙ first-pointer c.args.self.now.entries);
 }
 
@@ -16,30 +16,30 @@ pub ask-next-requires-clause-named : goal.ask-next-requires-clause-named
 ask-next-requires-clause-named g c =
     let at = ap (option_map g.P.BasePtr.numbers) c.in-Some.is in
     subst (λ (o : Option (ℕ × ℕ)). IsCutAt c.loop-next.self.entries o) at
-    (cut-meets (AnswersFor g.F.FnMut) g.P.Gen.BasePtrGen.greatest c.args.self.now c.args.f c.loop-next.self (option_map g.P.BasePtr.numbers c.loop-next.next) c.loop-next.f c.loop-next.invariant.distinct
+    (cut-meets (AnswersFor g.F.FnMut) g.P.Gen.BasePtrGen.greatest c.args.self.now c.args.f c.loop-next.self (option_map g.P.BasePtr.numbers c.loop-next.next) c.loop-next.f c.loop-next.invariant.sound.distinct
     c.loop-next.invariant.retains (g.P.BasePtr.numbers c.in-Some.p) at)
 
 -- the next entry was asked for
 stepped : (g : _) (c : goal.After-ask-next g) → Stepped (AnswersFor g.F.FnMut) g.P.Gen.BasePtrGen.greatest c.args.self.now c.args.f c.loop-next.self (option_map g.P.BasePtr.numbers c.loop-next.next) c.loop-next.f
-    c.loop-next.invariant.distinct c.loop-next.invariant.retains (g.P.BasePtr.numbers c.in-Some.p) (ap (option_map g.P.BasePtr.numbers) c.in-Some.is) c.ask-next.new.self
+    c.loop-next.invariant.sound.distinct c.loop-next.invariant.retains (g.P.BasePtr.numbers c.in-Some.p) (ap (option_map g.P.BasePtr.numbers) c.in-Some.is) c.ask-next.new.self
     (option_map g.P.BasePtr.numbers c.ask-next.result) c.ask-next.new.f
 stepped g c =
     let at = ap (option_map g.P.BasePtr.numbers) c.in-Some.is in
-    retains-more (AnswersFor g.F.FnMut) g.P.Gen.BasePtrGen.greatest c.args.self.now c.args.f c.loop-next.self (option_map g.P.BasePtr.numbers c.loop-next.next) c.loop-next.f c.loop-next.invariant.distinct
+    retains-more (AnswersFor g.F.FnMut) g.P.Gen.BasePtrGen.greatest c.args.self.now c.args.f c.loop-next.self (option_map g.P.BasePtr.numbers c.loop-next.next) c.loop-next.f c.loop-next.invariant.sound.distinct
     c.loop-next.invariant.retains (g.P.BasePtr.numbers c.in-Some.p) at c.ask-next.new.self (option_map g.P.BasePtr.numbers c.ask-next.result) c.ask-next.new.f
     (subst (λ (o : Option (ℕ × ℕ)). (cut : IsCutAt c.loop-next.self.entries o) → AsksFor (AnswersFor g.F.FnMut) g.P.Gen.BasePtrGen.greatest c.loop-next.self o cut c.loop-next.f c.ask-next.new.f c.ask-next.new.self
     (option_map g.P.BasePtr.numbers c.ask-next.result)) (sym at) c.ask-next.ensures.asks)
 
 pub loop-next-preserved : goal.loop-next-preserved
-loop-next-preserved g c = record { callable = c.ask-next.ensures.still_callable; distinct = c.ask-next.ensures.sound.distinct; retains = (stepped g c).retains }
+loop-next-preserved g c = record { callable = c.ask-next.ensures.still_callable; sound = c.ask-next.ensures.sound; retains = (stepped g c).retains }
 
 pub loop-next-smaller : goal.loop-next-smaller
 loop-next-smaller g c =
-    left-fewer (AnswersFor g.F.FnMut) g.P.Gen.BasePtrGen.greatest c.args.self.now c.args.f c.loop-next.self (option_map g.P.BasePtr.numbers c.loop-next.next) c.loop-next.f c.loop-next.invariant.distinct
+    left-fewer (AnswersFor g.F.FnMut) g.P.Gen.BasePtrGen.greatest c.args.self.now c.args.f c.loop-next.self (option_map g.P.BasePtr.numbers c.loop-next.next) c.loop-next.f c.loop-next.invariant.sound.distinct
     c.loop-next.invariant.retains (g.P.BasePtr.numbers c.in-Some.p) (ap (option_map g.P.BasePtr.numbers) c.in-Some.is) c.ask-next.new.self (option_map g.P.BasePtr.numbers c.ask-next.result) c.ask-next.new.f
     c.ask-next.ensures.sound.distinct (stepped g c)
 
 pub returns-clause-filtered : goal.returns-clause-filtered
 returns-clause-filtered g c =
-    (retains-done (AnswersFor g.F.FnMut) g.P.Gen.BasePtrGen.greatest c.args.self.now c.args.f c.loop-next.self (option_map g.P.BasePtr.numbers c.loop-next.next) c.loop-next.f c.loop-next.invariant.distinct
+    (retains-done (AnswersFor g.F.FnMut) g.P.Gen.BasePtrGen.greatest c.args.self.now c.args.f c.loop-next.self (option_map g.P.BasePtr.numbers c.loop-next.next) c.loop-next.f c.loop-next.invariant.sound.distinct
     c.loop-next.invariant.retains (ap (option_map g.P.BasePtr.numbers) c.in_default.is)).0

@@ -1,6 +1,5 @@
 use Rattle.std.specs.Option.{option_map}
-use Rattle.triple_ord.specs.Chain.{IsDistinct}
-use Rattle.sorted_arena.specs.Answer.{AnswersFor}
+use Rattle.sorted_arena.specs.{Answer.AnswersFor, Sorted.IsSound}
 use Rattle.sorted_arena.proofs.Retaining.{Retains, left-from}
 use Rattle.sorted_arena.proofs.arena.SortedArena.retain.Given as goal
 
@@ -8,7 +7,7 @@ use Rattle.sorted_arena.proofs.arena.SortedArena.retain.Given as goal
 abbrev pub invariant-loop-next : goal.invariant-loop-next
 invariant-loop-next g l = record {
   callable : goal.F-IsAlwaysCallable g l.f;
-  distinct : IsDistinct l.self.entries;
+  sound : IsSound g.K.Ord.cmp g.P.Inx.BasePtrInx.most l.self;
   retains : Retains (AnswersFor g.F.FnMut) g.P.Gen.BasePtrGen.greatest l.fn.self l.fn.f l.self (option_map g.P.BasePtr.numbers l.next) l.f;
 }
 

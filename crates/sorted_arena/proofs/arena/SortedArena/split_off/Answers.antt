@@ -14,7 +14,7 @@ pub loop-init : goal.loop-init
 loop-init g c =
     let empty = c.reserve.ensures.kept.entries ∙ c.new-moved.ensures.entries in
     record {
-      taking = taking-none g.P.Gen.BasePtrGen.greatest c.args.self.now _ _ _ _ (range-part g.K.Ord.cmp g.met.K.Ord.total (Included c.args.from.now) Unbounded c.args.self.now.entries c.len.ensures.sound.sorted)
+      taking = taking-none g.P.Gen.BasePtrGen.greatest c.args.self.now _ _ _ _ (range-part g.K.Ord.cmp g.met.K.Ord.total (Included c.args.from.now) Unbounded c.args.self.now.entries c.run_between-first.ensures.sound.sorted)
           c.run_between-first.ensures.first (ap (map item_of) empty);
       moved = ap length empty;
       room = omega (arith, c.in-Ok.ensures.room);
@@ -27,19 +27,19 @@ take-k-requires g c = cut-next _ _ _ _ _ _ _ _ c.loop.invariant.taking (omega (a
 -- the entries that move are in order
 sorted : (g : _) (c : goal.After-insert_in_room g) → AreSorted g.K.Ord.cmp (entries_between g.K.Ord.cmp (Included c.args.from.now) Unbounded c.args.self.now.entries)
 sorted g c =
-    let p = range-part g.K.Ord.cmp g.met.K.Ord.total (Included c.args.from.now) Unbounded c.args.self.now.entries c.len.ensures.sound.sorted in
-    sorted-front g.K.Ord.cmp _ p.back (sorted-back g.K.Ord.cmp p.front _ (subst (λ (es : List (Entry (g.row.K.Denot × g.row.V.Denot))). AreSorted g.K.Ord.cmp es) p.cut c.len.ensures.sound.sorted))
+    let p = range-part g.K.Ord.cmp g.met.K.Ord.total (Included c.args.from.now) Unbounded c.args.self.now.entries c.run_between-first.ensures.sound.sorted in
+    sorted-front g.K.Ord.cmp _ p.back (sorted-back g.K.Ord.cmp p.front _ (subst (λ (es : List (Entry (g.row.K.Denot × g.row.V.Denot))). AreSorted g.K.Ord.cmp es) p.cut c.run_between-first.ensures.sound.sorted))
 
 pub loop-preserved : goal.loop-preserved
 loop-preserved g c =
     let put = c.insert_in_room.ensures in
     record {
-      taking = taking-more _ _ _ _ _ _ _ _ c.loop.invariant.taking (omega (arith, c.loop-test.true, c.run_between-first.ensures.count)) c.take-k.result.0 c.take-k.new.self _ _ c.take-k.ensures
+      taking = taking-more _ _ _ _ _ _ _ _ c.loop.invariant.taking (omega (arith, c.loop-test.true, c.run_between-first.ensures.count)) c.take-k.result.0 c.take-k.new.self _ _ c.take-k.ensures.takes
           (λ taken later e cut is was. moves-more g.K.Ord.cmp g.met.K.Ord.total g.P.Inx.BasePtrInx.most c.loop.moved c.insert_in_room.new.self (g.P.BasePtr.numbers c.insert_in_room.result)
-          c.take-k.result.0.0 c.take-k.result.0.1 taken e later (subst (λ (es : List (Entry (g.row.K.Denot × g.row.V.Denot))). AreSorted g.K.Ord.cmp es) cut (sorted g c)) is was put.inserts);
-      moved = omega (arith, put.count, c.loop.invariant.moved);
+          c.take-k.result.0.0 c.take-k.result.0.1 taken e later (subst (λ (es : List (Entry (g.row.K.Denot × g.row.V.Denot))). AreSorted g.K.Ord.cmp es) cut (sorted g c)) is was put.inserts.ok);
+      moved = omega (arith, put.inserts.count, c.loop.invariant.moved);
       room = omega (arith, put.capacity, c.loop.invariant.room);
-      generation = put.inserts.generation ∙ c.loop.invariant.generation;
+      generation = put.inserts.ok.generation ∙ c.loop.invariant.generation;
     }
 
 pub returns-clause-moved : goal.returns-clause-moved

@@ -5,12 +5,12 @@ use Rattle.sorted_arena.proofs.arena.SortedArena.take.Goals as goal
 
 pub unwrap-pair-requires : goal.unwrap-pair-requires
 unwrap-pair-requires g c =
-    let found = cut-found g.P.Gen.BasePtrGen.greatest c.args.self.now c.len.ensures.sound.distinct (option_map g.P.BasePtr.numbers c.args.next) (g.P.BasePtr.numbers c.unwrap-p.result)
+    let found = cut-found g.P.Gen.BasePtrGen.greatest c.args.self.now c.next-after.ensures.sound.distinct (option_map g.P.BasePtr.numbers c.args.next) (g.P.BasePtr.numbers c.unwrap-p.result)
     (ap (option_map g.P.BasePtr.numbers) c.unwrap-p.ensures) c.requires in
     rw (c.remove.ensures.value, found) refl
 
-pub returns : goal.returns
-returns g c at =
-    takes-out g.P.Gen.BasePtrGen.greatest c.args.self.now c.len.ensures.sound.distinct (option_map g.P.BasePtr.numbers c.args.next) (g.P.BasePtr.numbers c.unwrap-p.result)
+pub returns-clause-takes : goal.returns-clause-takes
+returns-clause-takes g c at =
+    takes-out g.P.Gen.BasePtrGen.greatest c.args.self.now c.next-after.ensures.sound.distinct (option_map g.P.BasePtr.numbers c.args.next) (g.P.BasePtr.numbers c.unwrap-p.result)
     (ap (option_map g.P.BasePtr.numbers) c.unwrap-p.ensures) at c.remove.new.self c.unwrap-pair.result (sym c.unwrap-pair.ensures ∙ c.remove.ensures.value)
     (rw c.unwrap-pair.ensures at c.remove.ensures.removes.gone) (option_map g.P.BasePtr.numbers c.next-after.result) c.next-after.ensures.value

@@ -9,6 +9,7 @@ pub returns-clause-renumbers : goal.returns-clause-renumbers
 returns-clause-renumbers g c =
     let call = c.compress.ensures in
     rw (← c.self.view_is) (record {
+      after = call.after;
       ended = ended-relocated c.compress.new.self _ _ _ (ap (λ (c : Chain _). c.entries) call.after);
       shape = call.shape;
       overflow = call.overflow;

@@ -13,6 +13,7 @@ pub returns-clause-renumbers : goal.returns-clause-renumbers
 returns-clause-renumbers g c =
     let call = c.compress_canonical.ensures in
     record {
+      after = rw (← c.self.view_is) call.after;
       ended = (returns-clause-found g c).ended;
       shape = call.shape;
       overflow = rw (← c.self.view_is) call.overflow;

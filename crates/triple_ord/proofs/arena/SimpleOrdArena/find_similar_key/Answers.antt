@@ -1,6 +1,10 @@
 use Rattle.triple_ord.proofs.CallerLemmas.{finds-similar}
 use Rattle.triple_ord.proofs.arena.SimpleOrdArena.find_similar_key.Goals as goal
 
-pub returns-clause-finds : goal.returns-clause-finds
-returns-clause-finds g c =
-    finds-similar g.T.SimpleOrdItem.key_of g.T.Key.Ord.cmp c.args.self.now c.args.k.now c.len.ensures.sound.distinct g.P.BasePtr.numbers _ _ c.find_similar_key_counted.ensures.found
+pub returns : goal.returns
+returns g c =
+    let found = c.find_similar_key_counted.ensures.found in
+    record {
+      finds = finds-similar g.T.SimpleOrdItem.key_of g.T.Key.Ord.cmp c.args.self.now c.args.k.now c.len.ensures.sound.distinct g.P.BasePtr.numbers _ _ found;
+      found = (_, found);
+    }

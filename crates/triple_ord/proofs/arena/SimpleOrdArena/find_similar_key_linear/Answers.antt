@@ -3,4 +3,8 @@ use Rattle.triple_ord.proofs.arena.SimpleOrdArena.find_similar_key_linear.Goals 
 
 pub returns-clause-finds : goal.returns-clause-finds
 returns-clause-finds g c =
-    finds-similar g.T.SimpleOrdItem.key_of g.T.Key.Ord.cmp c.args.self.now c.args.k.now c.len.ensures.sound.distinct g.P.BasePtr.numbers _ _ c.find_similar_key_linear_counted.ensures.found
+    let found = c.find_similar_key_linear_counted.ensures.found in
+    record {
+      finds = finds-similar g.T.SimpleOrdItem.key_of g.T.Key.Ord.cmp c.args.self.now c.args.k.now c.len.ensures.sound.distinct g.P.BasePtr.numbers _ _ found;
+      found = (_, found);
+    }

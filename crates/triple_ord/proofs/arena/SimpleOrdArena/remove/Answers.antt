@@ -8,11 +8,11 @@ remove_entry-requires g c = rw c.inx.ensures (found-occupied _ _ (sym (rw (← c
 pub returns-clause-updates : goal.returns-clause-updates
 returns-clause-updates g c =
     updates-removed g.P.Gen.BasePtrGen.greatest c.args.self.now c.remove_entry.new.self (g.P.BasePtr.numbers c.args.p) c.len.ensures.sound.distinct
-    (sym c.if-not-contains.ensures) (rw (c.self.view_is, c.inx.ensures) at c.remove_entry.ensures.removed)
+    (sym c.if-not-contains.ensures) (rw (c.self.view_is, c.inx.ensures) at c.remove_entry.ensures.removal.removed)
 
 pub returns-clause-count : goal.returns-clause-count
 returns-clause-count g c = some_always _ (count-removed g.P.Gen.BasePtrGen.greatest c.args.self.now c.remove_entry.new.self (g.P.BasePtr.numbers c.args.p)
-    (sym c.if-not-contains.ensures) (rw (c.self.view_is, c.inx.ensures) at c.remove_entry.ensures.removed))
+    (sym c.if-not-contains.ensures) (rw (c.self.view_is, c.inx.ensures) at c.remove_entry.ensures.removal.removed))
 
 pub returns-clause-shape : goal.returns-clause-shape
 returns-clause-shape g c = rw (← c.self.view_is) (some_always _ c.remove_entry.ensures.shape)

@@ -1,5 +1,8 @@
 use Rattle.triple_ord.proofs.Content.{content-compression}
 use Rattle.triple_ord.proofs.arena.traits.SimpleOrdArenaArenaTrait.compress_with.Goals as goal
 
-pub returns-clause-after : goal.returns-clause-after
-returns-clause-after g c = content-compression g.P.BasePtr.numbers _ _ _ _ c.args.self.now c.compress_with.new.self c.args.f c.len.ensures.sound c.compress_with.ensures.after
+pub returns : goal.returns
+returns g c = record {
+  after = content-compression g.P.BasePtr.numbers _ _ _ _ c.args.self.now c.compress_with.new.self c.args.f c.len.ensures.sound c.compress_with.ensures.after;
+  overflow = c.compress_with.ensures.overflow;
+}
