@@ -4,21 +4,8 @@ use Rattle.std.proofs.{lemmas.Bool.Decides.leb_tells, lemmas.Bool.Decides.nat_te
 use Rattle.std.specs.{List.AllByRecursion, Prelude.IfSome}
 use Rattle.order_queue.specs.Queue.{Queue, IsInOrder, Rests, first_of, is_named_by, meets, within, traded, behind, without, with_quantity}
 use Rattle.order_queue.specs.{declared.side.Side.TheVariants.Buy, declared.side.Side.TheVariants.Sell, declared.order.Order.Order, declared.side.Side.Side, Id.Id}
-use Rattle.order_queue.proofs.CallerLemmas.{unmet-worse}
+use Rattle.order_queue.proofs.CallerLemmas.{all-between, all-both, all-weaker, unmet-worse}
 use Rattle.order_book.specs.Book.{RestsOrNot}
-
-module _ {X : Type 0} where
-  -- what follows from two facts of each element is true of each
-  all-both : (P Q R : X → Type 0) → ((x : X) → P x → Q x → R x) → (xs : List X) → AllByRecursion P xs → AllByRecursion Q xs → AllByRecursion R xs
-  all-both P Q R follows [] all more = tt
-  all-both P Q R follows (x ∷ xs) all more = (follows x all.0 more.0, all-both P Q R follows xs all.1 more.1)
-
-  all-weaker : (P Q : X → Type 0) → ((x : X) → P x → Q x) → (xs : List X) → AllByRecursion P xs → AllByRecursion Q xs
-  all-weaker P Q follows xs all = all-both P P Q (λ x p r. follows x p) xs all all
-
-  all-between : (P : X → Type 0) (xs : List X) (x : X) (ys : List X) → AllByRecursion P (xs ++ ys) → P x → AllByRecursion P (xs ++ x ∷ ys)
-  all-between P [] x ys all one = (one, all)
-  all-between P (z ∷ xs) x ys all one = (all.0, all-between P xs x ys all.1 one)
 
 -- what is true of the prices of orders is true of those that are left
 module _ (P : ℕ → Type 0) where

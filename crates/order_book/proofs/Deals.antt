@@ -1,11 +1,13 @@
 -- What the deals of an order leave: within its limit, and no other name changes.
-use Rattle.std.proofs.Common.{◌≡◌, ◌≢◌, ℕ, ◌+◌, ◌-◌, ◌<◌, ◌≤◌, Bool, true, false, List, [], ◌∷◌, ◌++◌, Option, Some, None, OnSome, IfNone, refl, sym, ap, ◌∙◌, arith, inl, inr, if◌then◌else◌}
+use Rattle.std.proofs.Common.{◌≡◌, ◌≢◌, ℕ, ◌+◌, ◌-◌, ◌<◌, ◌≤◌, Bool, true, false, List, [], ◌∷◌, ◌++◌, Option, Some, None, Ok, OnSome, IfSome, IfNone, refl, sym, ap, ◌∙◌, arith, inl, inr, if◌then◌else◌}
 use Rattle.std.proofs.{lemmas.Bool.Decides.eqb_tells, lemmas.Bool.Decides.leb_tells, lemmas.Bool.lt-ltb, lemmas.Bool.le-ltb, lemmas.List.append-nil}
 use Rattle.std.specs.List.{AllByRecursion}
-use Rattle.order_queue.specs.Queue.{Queue, IsInOrder, Rests, is_named_by, meets, order_of, resting, traded, trades_of_first, within, with_left, behind}
+use Rattle.order_queue.specs.Queue.{Queue, IsInOrder, IsSound, Rests, taken, is_named_by, meets, order_of, resting, traded, trades_of_first, within, with_left, behind}
 use Rattle.order_queue.specs.{declared.order.Order.Order, declared.order.Trade.Trade, declared.side.Side.Side, Id.Id}
 use Rattle.order_queue.proofs.CallerLemmas.{within-missed, trades-none, behind-none}
-use Rattle.order_book.specs.Book.{IsUntraded, RestsOrNot}
+use Rattle.order_book.specs.Book.{IsUntraded, RestsOrNot, limit_of, dealt, deals, remainder}
+use Rattle.order_book.specs.{Layout.Settles, declared.new_order.NewOrder.NewOrder}
+use Rattle.order_book.proofs.Volumes.{bought-traded, sold-traded}
 
 -- trades of at most what meets a limit meet it
 within-first : (side : Side) (limit n : ℕ) (x : Order) (xs : List Order) → IsInOrder side (x ∷ xs) → n ≤ within side limit (x ∷ xs) → n ≢ 0
@@ -36,14 +38,11 @@ deals-limited q limit quantity sorted = deals-within q.side limit (traded q limi
 abbrev pub id_of : Side → ℕ × ℕ → Id
 id_of side p = record { side = side; pointer = p }
 
-pair-same : (q p : ℕ × ℕ) → q.0 ≡ p.0 → q.1 ≡ p.1 → q ≡ p
-pair-same q p first second = rw (first, second) refl
-
 -- a pointer doesn't name an order that has another name
 unnamed : (side : Side) (p : ℕ × ℕ) (x : Order) → x.id.side ≡ side → x.id ≢ id_of side p → is_named_by p x ≡ false
 unnamed side p x of_side other = elim (eqb_tells x.id.pointer.0 p.0) [
   | inl h ↦ elim (eqb_tells x.id.pointer.1 p.1) [
-    | inl k ↦ absurd (other (ap (λ s. id_of s x.id.pointer) of_side ∙ ap (id_of side) (pair-same x.id.pointer p h.1 k.1)))
+    | inl k ↦ absurd (other (ap (λ s. id_of s x.id.pointer) of_side ∙ ap (id_of side) (rw (h.1, k.1) refl)))
     | inr k ↦ rw (h.0, k.0) refl
   ]
   | inr h ↦ rw h.0 refl
@@ -88,3 +87,20 @@ module _ (own new : Queue) (price rest tag : ℕ) where
       let named : id_of own.side id.pointer ≡ id = ap (λ s. id_of s id.pointer) (sym rests.1) in
       let apart : id_of own.side id.pointer ≢ id_of own.side p = λ same. other (ap (λ (i : Id). Some i) (sym same ∙ named)) in
       ap (λ xs. order_of xs p) r.after ∙ between-others r.ahead x r.later p (unnamed own.side p x refl apart) ∙ ap (λ xs. order_of xs p) (sym r.before)
+
+-- an order is settled where its trades are appended, and taken off the other side
+pub deals-settle : {E : Type 0} (own other new_own new_other : Queue) (o : NewOrder) (before after : List Trade) (id : Option Id) → IsSound other
+    → IfSome id (λ i. order_of new_own.orders i.pointer ≡ Some (resting own.side i.pointer (limit_of o.side o.kind) (remainder other o) o.tag))
+    → new_other ≡ taken (dealt other o) other → after ≡ before ++ deals other o → Settles {E = E} own other o before (Ok id) new_own new_other after
+deals-settle own other new_own new_other o before after id sound names took appended = record {
+  names = names;
+  taken = took;
+  trades = appended;
+  bought = bought-traded other (limit_of o.side o.kind) o.quantity;
+  sold = sold-traded other (limit_of o.side o.kind) o.quantity new_other took;
+  others = λ p untraded. rw took (behind-others other.side p (dealt other o) other.orders sound.of_side sound.some_left untraded);
+  limited = deals-limited other (limit_of o.side o.kind) o.quantity sound.in_order;
+  own_kept = tt;
+  other_kept = tt;
+  trades_kept = tt;
+}

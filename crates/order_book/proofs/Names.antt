@@ -15,16 +15,10 @@ there-behind x xs p there = elim (is_named_by p x) as (λ b. IsSome (if b then S
 ]
 
 -- how much is left of an order doesn't touch what names it
-there-kept : (x : Order) (n : ℕ) (xs : List Order) (p : ℕ × ℕ) → IsSome (order_of (x ∷ xs) p) → IsSome (order_of (with_rest x n ∷ xs) p)
-there-kept x n xs p = elim (is_named_by p x) as (λ b. IsSome (if b then Some x else order_of xs p) → IsSome (if b then Some (with_rest x n) else order_of xs p)) [
-  | true ↦ λ there. refl
-  | false ↦ λ there. there
-]
-
-there-before : (x : Order) (n : ℕ) (xs : List Order) (p : ℕ × ℕ) → IsSome (order_of (with_rest x n ∷ xs) p) → IsSome (order_of (x ∷ xs) p)
-there-before x n xs p = elim (is_named_by p x) as (λ b. IsSome (if b then Some (with_rest x n) else order_of xs p) → IsSome (if b then Some x else order_of xs p)) [
-  | true ↦ λ there. refl
-  | false ↦ λ there. there
+same-named : (x : Order) (n : ℕ) (xs : List Order) (p : ℕ × ℕ) → is_some (order_of (with_rest x n ∷ xs) p) ≡ is_some (order_of (x ∷ xs) p)
+same-named x n xs p = elim (is_named_by p x) as (λ b. is_some (if b then Some (with_rest x n) else order_of xs p) ≡ is_some (if b then Some x else order_of xs p)) [
+  | true ↦ refl
+  | false ↦ refl
 ]
 
 -- what a pointer names among fewer orders, it names among all
@@ -41,7 +35,7 @@ there-without (x ∷ xs) p u = elim (is_named_by p x) as (λ b. IsSome (order_of
 there-taken : (xs : List Order) (n : ℕ) (p : ℕ × ℕ) → IsSome (order_of (behind n xs) p) → IsSome (order_of xs p)
 there-taken [] n p = λ there. there
 there-taken (x ∷ xs) n p = elim (nat_lt n x.quantity) as (λ b. IsSome (order_of (if b then with_rest x (x.quantity - n) ∷ xs else behind (n - x.quantity) xs) p) → IsSome (order_of (x ∷ xs) p)) [
-  | true ↦ there-before x (x.quantity - n) xs p
+  | true ↦ λ there. sym (same-named x (x.quantity - n) xs p) ∙ there
   | false ↦ λ there. there-behind x xs p (there-taken xs (n - x.quantity) p there)
 ]
 
@@ -112,7 +106,7 @@ first-filled x xs g left now (inr (inr again)) = elim (after-is g) [
 taking : (xs : List Order) (n g : ℕ) → IsTaken xs g (behind n xs) (generation_behind n xs g)
 taking [] n g = inl (refl, λ p there. there)
 taking (x ∷ xs) n g = elim (nat_lt n x.quantity) as (λ b. IsTaken (x ∷ xs) g (if b then with_rest x (x.quantity - n) ∷ xs else behind (n - x.quantity) xs) (if b then g else generation_behind (n - x.quantity) xs (generation_after g))) [
-  | true ↦ inl (refl, there-kept x (x.quantity - n) xs)
+  | true ↦ inl (refl, λ p there. same-named x (x.quantity - n) xs p ∙ there)
   | false ↦ first-filled x xs g (behind (n - x.quantity) xs) (generation_behind (n - x.quantity) xs (generation_after g)) (taking xs (n - x.quantity) (generation_after g))
 ]
 
@@ -186,27 +180,19 @@ goes-anew old new p price rest tag id rests counted =
     let same = generation-in (with_left old p) new price rest tag id rests in
     goes-then old (with_left old p) new (omega (arith, counted, same)) (omega (arith, same)) (goes-left old p (omega (arith, counted, same))) (goes-in (with_left old p) new price rest tag id rests)
 
-module _ {E : Type 0} (r : Result (Option Id) E) (q new : Queue) (kept : OnErr r (new ≡ q)) where
-  pub goes-own : (price rest tag : ℕ) → IfOk r (λ id. RestsOrNot q price rest tag id new) → GoesOn q new
-  goes-own price rest tag rests = go r rests kept
-    where
-      go : (r : Result (Option Id) E) → IfOk r (λ id. RestsOrNot q price rest tag id new) → OnErr r (new ≡ q) → GoesOn q new
-      go (Ok id) rests kept = goes-in q new price rest tag id rests
-      go (Err e) rests kept = goes-nowhere q new kept
+pub goes-own : {E : Type 0} (r : Result (Option Id) E) (q new : Queue) → OnErr r (new ≡ q) → (price rest tag : ℕ) → IfOk r (λ id. RestsOrNot q price rest tag id new) → GoesOn q new
+goes-own (Ok id) q new kept price rest tag rests = goes-in q new price rest tag id rests
+goes-own (Err e) q new kept price rest tag rests = goes-nowhere q new kept
 
-  pub goes-own_anew : (p : ℕ × ℕ) (price rest tag : ℕ) → IfOk r (λ id. RestsOrNot (with_left q p) price rest tag id new) → q.generation ≤ new.generation → GoesOn q new
-  goes-own_anew p price rest tag rests counted = go r rests kept
-    where
-      go : (r : Result (Option Id) E) → IfOk r (λ id. RestsOrNot (with_left q p) price rest tag id new) → OnErr r (new ≡ q) → GoesOn q new
-      go (Ok id) rests kept = goes-anew q new p price rest tag id rests counted
-      go (Err e) rests kept = goes-nowhere q new kept
+pub goes-own_anew : {E : Type 0} (r : Result (Option Id) E) (q new : Queue) → OnErr r (new ≡ q) → (p : ℕ × ℕ) (price rest tag : ℕ)
+    → IfOk r (λ id. RestsOrNot (with_left q p) price rest tag id new) → q.generation ≤ new.generation → GoesOn q new
+goes-own_anew (Ok id) q new kept p price rest tag rests counted = goes-anew q new p price rest tag id rests counted
+goes-own_anew (Err e) q new kept p price rest tag rests counted = goes-nowhere q new kept
 
-  pub goes-other : (n : ℕ) → length q.orders ≤ most_entries → OnOk r (new ≡ taken n q) → q.generation ≤ new.generation → GoesOn q new
-  goes-other n few after counted = go r after kept
-    where
-      go : (r : Result (Option Id) E) → OnOk r (new ≡ taken n q) → OnErr r (new ≡ q) → GoesOn q new
-      go (Ok id) after kept = subst (λ (s : Queue). GoesOn q s) (sym after) (goes-taken q n few (subst (λ (s : Queue). q.generation ≤ s.generation) after counted))
-      go (Err e) after kept = goes-nowhere q new kept
+pub goes-other : {X E : Type 0} (r : Result X E) (q new : Queue) → OnErr r (new ≡ q) → (n : ℕ) → length q.orders ≤ most_entries → OnOk r (new ≡ taken n q)
+    → q.generation ≤ new.generation → GoesOn q new
+goes-other (Ok x) q new kept n few after counted = subst (λ (s : Queue). GoesOn q s) (sym after) (goes-taken q n few (subst (λ (s : Queue). q.generation ≤ s.generation) after counted))
+goes-other (Err e) q new kept n few after counted = goes-nowhere q new kept
 
 -- one call, by what becomes of both sides
 pub step-of : (bids asks bids_now asks_now : Queue) (old new : Book) → record { bids = bids; asks = asks } ≡ old → new ≡ record { bids = bids_now; asks = asks_now }

@@ -1,7 +1,7 @@
 -- Bids and asks stay a pair of queues after each call.
-use Rattle.std.proofs.Common.{◌≡◌, ℕ, zero, suc, ◌≤◌, true, false, arith, if◌then◌else◌, Option, Some, None, Result, Ok, Err, IfOk, OnOk, OnErr, IfNone, IfSome, OnSome, sym, ap, subst, ◌∙◌}
-use Rattle.order_queue.specs.{Queue.Queue, Queue.IsInOrder, Queue.taken, Queue.with_left, Queue.reduced, Id.Id, declared.order.Order.Order}
-use Rattle.order_book.specs.{Layout.IsPairOfQueues, Book.RestsOrNot, Book.limit_of, Book.can_rest, Book.dealt, Book.undealt, Book.remainder, declared.new_order.NewOrder.NewOrder}
+use Rattle.std.proofs.Common.{◌≡◌, ℕ, zero, suc, ◌≤◌, true, false, arith, if◌then◌else◌, Option, Some, None, Result, Ok, Err, IfOk, IfNone, IfSome, List, sym, ap, subst, ◌∙◌}
+use Rattle.order_queue.specs.{Queue.Queue, Queue.IsInOrder, Queue.taken, Queue.with_left, Queue.reduced, Id.Id, declared.order.Trade.Trade}
+use Rattle.order_book.specs.{Layout.IsPairOfQueues, Layout.Settles, Book.RestsOrNot, Book.limit_of, Book.can_rest, Book.dealt, Book.undealt, Book.remainder, declared.new_order.NewOrder.NewOrder}
 use Rattle.order_book.proofs.Apart.{apart-asks_without, apart-bids_without, apart-ask_reduced, apart-bid_reduced, apart-bought, apart-sold}
 
 -- an order that comes to rest is on its queue's side
@@ -24,15 +24,6 @@ module _ (bids asks : Queue) (pair : IsPairOfQueues bids asks) where
   pub pair-without_ask : (p : ℕ × ℕ) → IsPairOfQueues bids (with_left asks p)
   pair-without_ask p = record { buys = pair.buys; sells = pair.sells; uncrossed = apart-asks_without bids.orders asks.orders pair.uncrossed p }
 
-  -- an order leaves, or none does
-  pub pair-bid_left : (new : Queue) (o : Option Order) (p : ℕ × ℕ) → OnSome o (new ≡ with_left bids p) → IfNone o (new ≡ bids) → IsPairOfQueues new asks
-  pair-bid_left new None p gone none = subst (λ q. IsPairOfQueues q asks) (sym none) pair
-  pair-bid_left new (Some order) p gone none = subst (λ q. IsPairOfQueues q asks) (sym gone) (pair-without_bid p)
-
-  pub pair-ask_left : (new : Queue) (o : Option Order) (p : ℕ × ℕ) → OnSome o (new ≡ with_left asks p) → IfNone o (new ≡ asks) → IsPairOfQueues bids new
-  pair-ask_left new None p gone none = subst (λ q. IsPairOfQueues bids q) (sym none) pair
-  pair-ask_left new (Some order) p gone none = subst (λ q. IsPairOfQueues bids q) (sym gone) (pair-without_ask p)
-
   -- so much is left of an order
   pub pair-bid_less : (p : ℕ × ℕ) (left : ℕ) → IsPairOfQueues (reduced bids p left) asks
   pair-bid_less p zero = pair-without_bid p
@@ -43,13 +34,13 @@ module _ (bids asks : Queue) (pair : IsPairOfQueues bids asks) where
   pair-ask_less p (suc left) = record { buys = pair.buys; sells = pair.sells; uncrossed = apart-ask_reduced bids.orders asks.orders pair.uncrossed p (suc left) }
 
   -- or it names none
-  pub pair-bid_reduced : (new : Queue) (left : Option ℕ) (p : ℕ × ℕ) → IfSome left (λ n. new ≡ reduced bids p n) → IfNone left (new ≡ bids) → IsPairOfQueues new asks
-  pair-bid_reduced new None p after none = subst (λ q. IsPairOfQueues q asks) (sym none) pair
-  pair-bid_reduced new (Some n) p after none = subst (λ q. IsPairOfQueues q asks) (sym after) (pair-bid_less p n)
+  pub pair-bid_reduced : {X : Type 0} (new : Queue) (o : Option X) (rest : X → ℕ) (p : ℕ × ℕ) → IfSome o (λ x. new ≡ reduced bids p (rest x)) → IfNone o (new ≡ bids) → IsPairOfQueues new asks
+  pair-bid_reduced new None rest p after none = subst (λ q. IsPairOfQueues q asks) (sym none) pair
+  pair-bid_reduced new (Some x) rest p after none = subst (λ q. IsPairOfQueues q asks) (sym after) (pair-bid_less p (rest x))
 
-  pub pair-ask_reduced : (new : Queue) (left : Option ℕ) (p : ℕ × ℕ) → IfSome left (λ n. new ≡ reduced asks p n) → IfNone left (new ≡ asks) → IsPairOfQueues bids new
-  pair-ask_reduced new None p after none = subst (λ q. IsPairOfQueues bids q) (sym none) pair
-  pair-ask_reduced new (Some n) p after none = subst (λ q. IsPairOfQueues bids q) (sym after) (pair-ask_less p n)
+  pub pair-ask_reduced : {X : Type 0} (new : Queue) (o : Option X) (rest : X → ℕ) (p : ℕ × ℕ) → IfSome o (λ x. new ≡ reduced asks p (rest x)) → IfNone o (new ≡ asks) → IsPairOfQueues bids new
+  pair-ask_reduced new None rest p after none = subst (λ q. IsPairOfQueues bids q) (sym none) pair
+  pair-ask_reduced new (Some x) rest p after none = subst (λ q. IsPairOfQueues bids q) (sym after) (pair-ask_less p (rest x))
 
   module _ (o : NewOrder) where
     abbrev price : ℕ
@@ -74,24 +65,17 @@ module _ (bids asks : Queue) (pair : IsPairOfQueues bids asks) where
     }
 
 -- An order comes in, or is refused, which leaves both sides as they were. Before it comes, its own side may have lost an order, which leaves `from`.
-pub record IsSettled {E : Type 0} (o : NewOrder) (from own other new_own new_other : Queue) (r : Result (Option Id) E) : Type 0 where
-  pub in_order : IsInOrder other.side other.orders
-  pub rests : IfOk r (λ id. RestsOrNot from (limit_of o.side o.kind) (remainder other o) o.tag id new_own)
-  pub taken : OnOk r (new_other ≡ taken (dealt other o) other)
-  pub own_kept : OnErr r (new_own ≡ own)
-  pub other_kept : OnErr r (new_other ≡ other)
+module _ {E : Type 0} (bids asks new_bids new_asks : Queue) (pair : IsPairOfQueues bids asks) (o : NewOrder) (before after : List Trade) (from : Queue) where
+  pub pair-settled_bid : IsPairOfQueues from asks → (r : Result (Option Id) E) → IsInOrder asks.side asks.orders
+      → IfOk r (λ id. RestsOrNot from (limit_of o.side o.kind) (remainder asks o) o.tag id new_bids) → Settles bids asks o before r new_bids new_asks after → IsPairOfQueues new_bids new_asks
+  pair-settled_bid paired (Ok id) sorted rests settles =
+      subst (λ q. IsPairOfQueues new_bids q) (sym settles.taken) (pair-bought from asks paired o new_bids id sorted rests)
+  pair-settled_bid paired (Err e) sorted rests settles =
+      subst (λ q. IsPairOfQueues new_bids q) (sym settles.other_kept) (subst (λ q. IsPairOfQueues q asks) (sym settles.own_kept) pair)
 
-module _ {E : Type 0} (bids asks new_bids new_asks : Queue) (pair : IsPairOfQueues bids asks) (o : NewOrder) where
-  pub pair-settled_bid : (from : Queue) → IsPairOfQueues from asks → (r : Result (Option Id) E) → IsSettled o from bids asks new_bids new_asks r
-      → IsPairOfQueues new_bids new_asks
-  pair-settled_bid from paired (Ok id) settled =
-      subst (λ q. IsPairOfQueues new_bids q) (sym settled.taken) (pair-bought from asks paired o new_bids id settled.in_order settled.rests)
-  pair-settled_bid from paired (Err e) settled =
-      subst (λ q. IsPairOfQueues new_bids q) (sym settled.other_kept) (subst (λ q. IsPairOfQueues q asks) (sym settled.own_kept) pair)
-
-  pub pair-settled_ask : (from : Queue) → IsPairOfQueues bids from → (r : Result (Option Id) E) → IsSettled o from asks bids new_asks new_bids r
-      → IsPairOfQueues new_bids new_asks
-  pair-settled_ask from paired (Ok id) settled =
-      subst (λ q. IsPairOfQueues q new_asks) (sym settled.taken) (pair-sold bids from paired o new_asks id settled.in_order settled.rests)
-  pair-settled_ask from paired (Err e) settled =
-      subst (λ q. IsPairOfQueues q new_asks) (sym settled.other_kept) (subst (λ q. IsPairOfQueues bids q) (sym settled.own_kept) pair)
+  pub pair-settled_ask : IsPairOfQueues bids from → (r : Result (Option Id) E) → IsInOrder bids.side bids.orders
+      → IfOk r (λ id. RestsOrNot from (limit_of o.side o.kind) (remainder bids o) o.tag id new_asks) → Settles asks bids o before r new_asks new_bids after → IsPairOfQueues new_bids new_asks
+  pair-settled_ask paired (Ok id) sorted rests settles =
+      subst (λ q. IsPairOfQueues q new_asks) (sym settles.taken) (pair-sold bids from paired o new_asks id sorted rests)
+  pair-settled_ask paired (Err e) sorted rests settles =
+      subst (λ q. IsPairOfQueues q new_asks) (sym settles.other_kept) (subst (λ q. IsPairOfQueues bids q) (sym settles.own_kept) pair)

@@ -1,20 +1,13 @@
 -- How much trades come to, and how much is left of the orders behind them.
-use Rattle.std.proofs.Common.{◌≡◌, ℕ, ◌+◌, ◌-◌, ◌≤◌, true, false, List, [], ◌∷◌, sym, arith, inl, inr, if◌then◌else◌}
+use Rattle.std.proofs.Common.{◌≡◌, ℕ, ◌+◌, ◌-◌, ◌≤◌, List, [], ◌∷◌, sym, arith, inl, inr}
 use Rattle.std.proofs.{lemmas.Bool.Decides.leb_tells, lemmas.Bool.Decides.eqb_tells, lemmas.Bool.lt-ltb, lemmas.Bool.le-ltb}
-use Rattle.order_queue.specs.Queue.{Queue, meets, total, within, traded, trades_of_first, volume, behind, taken}
-use Rattle.order_queue.specs.{declared.order.Order.Order, declared.side.Side.Side}
+use Rattle.order_queue.proofs.CallerLemmas.{within-most}
+use Rattle.order_queue.specs.Queue.{Queue, total, traded, trades_of_first, volume, behind, taken}
+use Rattle.order_queue.specs.declared.order.Order.{Order}
 
--- what meets a limit is at most all, and so is what is traded
-within-total : (side : Side) (limit : ℕ) (xs : List Order) → within side limit xs ≤ total xs
-within-total side limit [] = omega arith
-within-total side limit (x ∷ xs) = let rest = within-total side limit xs in
-    elim (meets side x.price limit) as (λ b. (if b then x.quantity else 0) + within side limit xs ≤ x.quantity + total xs) [
-      | true ↦ omega (arith, rest)
-      | false ↦ omega (arith, rest)
-    ]
-
+-- what is traded is at most all
 traded-total : (q : Queue) (limit quantity : ℕ) → traded q limit quantity ≤ total q.orders
-traded-total q limit quantity = omega (arith, within-total q.side limit q.orders)
+traded-total q limit quantity = omega (arith, within-most q.side limit q.orders)
 
 traded-most : (q : Queue) (limit quantity : ℕ) → traded q limit quantity ≤ quantity
 traded-most q limit quantity = omega arith
@@ -44,6 +37,3 @@ module _ (q : Queue) (limit quantity : ℕ) where
       → total new.orders + volume (trades_of_first (traded q limit quantity) q.orders) ≡ total q.orders
   sold-traded new after = rw after
       (omega (arith, volume-first (traded q limit quantity) q.orders (traded-total q limit quantity), total-behind (traded q limit quantity) q.orders (traded-total q limit quantity)))
-
--- both, for the prover
-pub ruleset settled = (bought-traded, sold-traded)

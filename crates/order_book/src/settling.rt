@@ -44,7 +44,6 @@ fn rest_of(order: NewOrder, left: u64) -> u64
 }
 
 /// Trades with the other side, and puts what is left on its own if the order's kind rests.
-#[tactic(auto, using(crate::proofs::Volumes::settled))]
 pub(crate) fn settle<A: Allocator, B: Allocator>(
     own: &mut OrderQueue<A>,
     other: &mut OrderQueue<A>,
@@ -94,7 +93,6 @@ pub(crate) fn settle<A: Allocator, B: Allocator>(
 }
 
 /// Removes an order, and settles another one in its place. It needs no room on its own side.
-#[tactic(auto, using(crate::proofs::Volumes::settled))]
 pub(crate) fn settle_anew<A: Allocator, B: Allocator>(
     own: &mut OrderQueue<A>,
     other: &mut OrderQueue<A>,

@@ -40,7 +40,7 @@ total-bounded (x ∷ xs) all = omega (arith, all.0, total-bounded xs all.1)
 pub total-fits : (xs : List Order) → AreSummable xs → total xs ≤ most_total
 total-fits xs summable = omega (arith, total-bounded xs summable.bounded, summable.few)
 
-within-most : (side : Side) (limit : ℕ) (xs : List Order) → within side limit xs ≤ total xs
+pub within-most : (side : Side) (limit : ℕ) (xs : List Order) → within side limit xs ≤ total xs
 within-most side limit [] = omega arith
 within-most side limit (x ∷ xs) = let rest = within-most side limit xs in
     elim (meets side x.price limit) as (λ b. (if b then x.quantity else 0) + within side limit xs ≤ x.quantity + total xs) [

@@ -1,9 +1,10 @@
 -- The orders of a queue and the entries of its arena: what a pointer names, and what a removal leaves.
-use Rattle.std.proofs.Common.{◌≡◌, ℕ, ◌<◌, ◌≤◌, ◌==◌, [], ◌∷◌, map, Option, Some, None, IsSome, refl, sym, ap, subst, ◌∙◌, arith, inl, inr, true, false, if◌then◌else◌}
+use Rattle.std.proofs.Common.{◌≡◌, ℕ, ◌<◌, ◌≤◌, [], ◌∷◌, map, Option, Some, None, IsSome, refl, sym, ap, subst, ◌∙◌, arith, inl, inr}
 use Rattle.std.proofs.{lemmas.Bool.Decides.eqb_tells, lemmas.Grind.common_steps, lemmas.List.length-map}
 use Rattle.std.specs.{List.AllByRecursion, Option.option_map, Ordering.nat_cmp}
 use Rattle.sorted_arena.specs.Chain.{Entry, IsDistinct as AreDistinct, entry_at, item_of, first_pointer, without as without_index}
 use Rattle.sorted_arena.proofs.ChainLemmas.{entry_at-absent}
+use Rattle.sorted_arena.proofs.CallerLemmas.{first-named, distinct-rest}
 use Rattle.sorted_arena.specs.Sorted.{Sorted, IsSound as IsSoundArena, Updates as UpdatesArena, without as without_entry}
 use Rattle.sorted_arena.specs.PlainPointer.{greatest_generation}
 use Rattle.order_queue.specs.Queue.{most_entries, Updates, with_left, first_of, order_of, without, IsDistinct, IsSound}
@@ -11,36 +12,14 @@ use Rattle.order_queue.specs.Layout.{order_in, queue_of, IsLawful, AreLawful}
 use Rattle.order_queue.specs.{declared.order.Lot.Lot, declared.order.Order.Order, declared.side.Side.Side}
 use Rattle.order_queue.proofs.{Ranks.Entries, Ranks.recursion-map, Ranks.in_order-sorted}
 
--- the entries behind the first have pairwise different indexes too, and none has the first's
-pub distinct-rest : (e : Entry (ℕ × Lot)) (es : Entries) → AreDistinct (e ∷ es) → AreDistinct es
-distinct-rest e es distinct i = omega (arith, distinct i)
-
+-- none of the entries behind the first has its index
 absent-rest : (e : Entry (ℕ × Lot)) (es : Entries) (i : ℕ) → e.index ≡ i → AreDistinct (e ∷ es) → entry_at es i ≡ None
 absent-rest e es i here distinct = entry_at-absent es i (grind (arith, common_steps, distinct i))
 
--- the first entry's pointer finds its item
-pub first-item : (e : Entry (ℕ × Lot)) (es : Entries) → item_of (e ∷ es) (e.index, e.generation) ≡ Some e.item
-first-item e es = elim (eqb_tells e.index e.index) [
-  | inl h ↦ elim (eqb_tells e.generation e.generation) [
-    | inl k ↦ rw (h.0, k.0) refl
-    | inr k ↦ absurd (k.1 refl)
-  ]
-  | inr h ↦ absurd (h.1 refl)
-]
-
+-- the first entry's pointer finds an item
 pub first-lost : (es : Entries) (p : ℕ × ℕ) → Some p ≡ first_pointer es → None ≡ item_of es p → ⊥
 first-lost [] p named lost = absurd (cc)
-first-lost (e ∷ es) p named lost =
-    let here : p ≡ (e.index, e.generation) = cc in
-    let none : None ≡ Some e.item = lost ∙ ap (item_of (e ∷ es)) here ∙ first-item e es in cc
-
--- what is true of all entries is true of all but one
-pub recursion-without : (P : Entry (ℕ × Lot) → Type 0) (es : Entries) (i : ℕ) → AllByRecursion P es → AllByRecursion P (without_index i es)
-recursion-without P [] i all = tt
-recursion-without P (e ∷ es) i all = elim (e.index == i) as (λ b. AllByRecursion P (if b then es else e ∷ without_index i es)) [
-  | true ↦ all.1
-  | false ↦ (all.0, recursion-without P es i all.1)
-]
+first-lost (e ∷ es) p named lost = let none = lost ∙ first-named (e ∷ es) p named in cc
 
 module _ (side : Side) where
   -- the order of an item under a pointer
@@ -95,7 +74,7 @@ module _ (side : Side) where
   first-some [] p item named found = absurd (cc)
   first-some (e ∷ es) p item named found =
       let here : p ≡ (e.index, e.generation) = cc in
-      let some : Some item ≡ Some e.item = found ∙ ap (item_of (e ∷ es)) here ∙ first-item e es in
+      let some : Some item ≡ Some e.item = found ∙ first-named (e ∷ es) p named in
       let same : item ≡ e.item = cc in
       rw (here, same) refl
 

@@ -8,7 +8,8 @@ use Rattle.order_queue.specs.Layout.{most_price, ranked, order_in, queue_of, IsL
 use Rattle.order_queue.specs.Queue.{Rests, Updates, IsNoWorse, IsWorse, most_entries, resting}
 use Rattle.order_queue.specs.{declared.order.Lot.Lot, declared.side.Side.Side}
 use Rattle.sorted_arena.specs.PlainArena.{doubled_capacity}
-use Rattle.order_queue.proofs.Ranks.{no_worse-ahead, worse-ranked, ranked-twice, ranked-lawful, recursion-map, recursion-both, recursion-back, recursion-between}
+use Rattle.sorted_arena.proofs.CallerLemmas.{all-back, all-between, all-both}
+use Rattle.order_queue.proofs.Ranks.{no_worse-ahead, worse-ranked, ranked-twice, ranked-lawful, recursion-map}
 use Rattle.order_queue.proofs.Naming.{order_under, order_of-found, updates-found}
 
 module _ (side : Side) (old new : Sorted ℕ Lot) (p : ℕ × ℕ) where
@@ -20,7 +21,7 @@ module _ (side : Side) (old new : Sorted ℕ Lot) (p : ℕ × ℕ) where
     cut = rw inserts.before at lawful
 
     lawful-put : IsLawful entry → AreLawful new.entries
-    lawful-put here = rw inserts.after (recursion-between IsLawful inserts.front entry inserts.back here cut)
+    lawful-put here = rw inserts.after (all-between IsLawful inserts.front entry inserts.back cut here)
 
     ahead : AllByRecursion (λ x. IsNoWorse side x.price (ranked side d)) (map (order_in side) inserts.front)
     ahead = recursion-map (order_in side) (λ (e : Entry (ℕ × Lot)). nat_cmp d e.item.0 ≢ Less) (λ x. IsNoWorse side x.price (ranked side d))
@@ -28,9 +29,9 @@ module _ (side : Side) (old new : Sorted ℕ Lot) (p : ℕ × ℕ) where
 
     behind : AllByRecursion (λ x. IsWorse side x.price (ranked side d)) (map (order_in side) inserts.back)
     behind = recursion-map (order_in side) (λ (e : Entry (ℕ × Lot)). IsWorse side (ranked side e.item.0) (ranked side d)) (λ x. IsWorse side x.price (ranked side d))
-        (λ e worse. worse) inserts.back (recursion-both (λ (e : Entry (ℕ × Lot)). nat_cmp d e.item.0 ≡ Less) IsLawful (λ (e : Entry (ℕ × Lot)). IsWorse side (ranked side e.item.0) (ranked side d))
+        (λ e worse. worse) inserts.back (all-both (λ (e : Entry (ℕ × Lot)). nat_cmp d e.item.0 ≡ Less) IsLawful (λ (e : Entry (ℕ × Lot)). IsWorse side (ranked side e.item.0) (ranked side d))
         (λ e more bounded. worse-ranked side e.item.0 d bounded.price more) inserts.back (recursion_from_All _ inserts.back inserts.greater_behind)
-        (recursion-back IsLawful inserts.front inserts.back cut))
+        (all-back IsLawful inserts.front inserts.back cut))
 
     rests-put : AreDistinct old.entries → Rests (queue_of side old) (ranked side d) lot.quantity lot.tag p (queue_of side new)
     rests-put distinct = record {

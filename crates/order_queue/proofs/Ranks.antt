@@ -30,23 +30,11 @@ pub ranked-lawful : (side : Side) (price : ℕ) → price ≤ most_price → ran
 ranked-lawful Buy price lawful = omega (arith)
 ranked-lawful Sell price lawful = lawful
 
--- what is true of each element of two lists, of both together and of what is made of each
+-- what is true of each element is true of what is made of each
 module _ {X : Type 0} where
   pub recursion-map : {Y : Type 0} (f : X → Y) (P : X → Type 0) (Q : Y → Type 0) → ((x : X) → P x → Q (f x)) → (xs : List X) → AllByRecursion P xs → AllByRecursion Q (map f xs)
   recursion-map f P Q follows [] all = tt
   recursion-map f P Q follows (x ∷ xs) all = (follows x all.0, recursion-map f P Q follows xs all.1)
-
-  pub recursion-both : (P Q R : X → Type 0) → ((x : X) → P x → Q x → R x) → (xs : List X) → AllByRecursion P xs → AllByRecursion Q xs → AllByRecursion R xs
-  recursion-both P Q R follows [] all also = tt
-  recursion-both P Q R follows (x ∷ xs) all also = (follows x all.0 also.0, recursion-both P Q R follows xs all.1 also.1)
-
-  pub recursion-back : (P : X → Type 0) (xs ys : List X) → AllByRecursion P (xs ++ ys) → AllByRecursion P ys
-  recursion-back P [] ys all = all
-  recursion-back P (x ∷ xs) ys all = recursion-back P xs ys all.1
-
-  pub recursion-between : (P : X → Type 0) (xs : List X) (y : X) (ys : List X) → P y → AllByRecursion P (xs ++ ys) → AllByRecursion P (xs ++ y ∷ ys)
-  recursion-between P [] y ys here all = (here, all)
-  recursion-between P (x ∷ xs) y ys here all = (all.0, recursion-between P xs y ys here all.1)
 
 -- entries of orders, by the ranks of their prices
 abbrev pub Entries : Type 0

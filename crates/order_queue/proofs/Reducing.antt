@@ -1,12 +1,14 @@
 -- A quantity that is written at a pointer: its order has so much left.
-use Rattle.std.proofs.Common.{◌≡◌, ◌≢◌, ℕ, suc, zero, ◌<◌, ◌≤◌, ◌==◌, List, [], ◌∷◌, map, Some, None, refl, sym, ap, ◌∙◌, inl, inr, true, false, arith, if◌then◌else◌}
+use Rattle.std.proofs.Common.{◌≡◌, ℕ, suc, zero, ◌<◌, ◌≤◌, ◌==◌, List, [], ◌∷◌, map, Some, None, refl, sym, ap, ◌∙◌, inl, inr, true, false, arith, if◌then◌else◌}
 use Rattle.std.proofs.lemmas.Bool.Decides.{eqb_tells}
 use Rattle.std.specs.{Option.option_map}
-use Rattle.sorted_arena.specs.Chain.{IsDistinct as AreDistinct, item_of, with_item_among}
-use Rattle.sorted_arena.specs.Sorted.{Sorted, pair_of, with_value}
-use Rattle.order_queue.specs.{Layout.most_price, Layout.order_in, Layout.queue_of, Layout.AreLawful, Queue.Queue, Queue.order_of, Queue.with_quantity, Queue.with_rest, Queue.reduced, Queue.Updates}
-use Rattle.order_queue.specs.{declared.order.Lot.Lot, declared.order.Order.Order, declared.side.Side.Side}
-use Rattle.order_queue.proofs.{Naming.distinct-rest, Ranks.Entries}
+use Rattle.sorted_arena.specs.Chain.{times, IsDistinct as AreDistinct, item_of, with_item_among}
+use Rattle.sorted_arena.specs.Sorted.{Sorted, pair_of, with_value, Updates as UpdatesArena}
+use Rattle.order_queue.specs.{Layout.most_price, Layout.order_in, Layout.queue_of, Layout.AreLawful, Queue.order_of, Queue.with_quantity, Queue.with_rest, Queue.reduced, Queue.Updates}
+use Rattle.order_queue.specs.{declared.order.Lot.Lot, declared.side.Side.Side}
+use Rattle.sorted_arena.proofs.CallerLemmas.{distinct-rest, found-written, others-written}
+use Rattle.order_queue.proofs.Naming.{order_under, order_of-found, updates-found}
+use Rattle.order_queue.proofs.Ranks.{Entries}
 
 module _ (side : Side) (p : ℕ × ℕ) (lot : Lot) where
   -- an entry's item with another lot
@@ -69,47 +71,24 @@ module _ (side : Side) (p : ℕ × ℕ) (lot : Lot) where
         go zero more is = absurd (omega (arith, more))
         go (suc n) more is = rw is refl
 
-pair-same : (q p : ℕ × ℕ) → q.0 ≡ p.0 → q.1 ≡ p.1 → q ≡ p
-pair-same q p first second = rw (first, second) refl
-
--- what pointers name after a quantity is written
-module _ (p : ℕ × ℕ) (n : ℕ) where
-  named-written : (xs : List Order) → order_of (with_quantity xs p n) p ≡ option_map (λ x. with_rest x n) (order_of xs p)
-  named-written [] = refl
-  named-written (y ∷ ys) = elim (eqb_tells y.id.pointer.0 p.0) [
-    | inl h ↦ elim (eqb_tells y.id.pointer.1 p.1) [
-      | inl k ↦ rw (h.0, k.0, h.0, k.0) refl
-      | inr k ↦ rw (h.0, k.0, h.0, k.0) (named-written ys)
+    times-written : (es : Entries) (i : ℕ) → times i (with_item_among es p.0 (with_lot item)) ≡ times i es
+    times-written [] i = refl
+    times-written (e ∷ es) i = elim (eqb_tells e.index p.0) [
+      | inl h ↦ rw h.0 refl
+      | inr h ↦ rw (h.0, times-written es i) refl
     ]
-    | inr h ↦ rw (h.0, h.0) (named-written ys)
-  ]
 
-  others-written : (xs : List Order) (q : ℕ × ℕ) → q ≢ p → order_of (with_quantity xs p n) q ≡ order_of xs q
-  others-written [] q apart = refl
-  others-written (y ∷ ys) q apart = elim (eqb_tells y.id.pointer.0 p.0) [
-    | inl h ↦ elim (eqb_tells y.id.pointer.1 p.1) [
-      | inl k ↦ elim (eqb_tells y.id.pointer.0 q.0) [
-        | inl i ↦ elim (eqb_tells y.id.pointer.1 q.1) [
-          | inl j ↦ absurd (apart (pair-same q p (sym i.1 ∙ h.1) (sym j.1 ∙ k.1)))
-          | inr j ↦ rw (h.0, k.0, i.0, j.0) refl
-        ]
-        | inr i ↦ rw (h.0, k.0, i.0) refl
-      ]
-      | inr k ↦ rw (h.0, k.0, others-written ys q apart) refl
-    ]
-    | inr h ↦ rw (h.0, others-written ys q apart) refl
-  ]
+    pub distinct-reduced : AreDistinct a.entries → AreDistinct (written a).entries
+    distinct-reduced distinct i = rw (shown, times-written a.entries i) (distinct i)
 
-  updates-written : (q : Queue) → 0 < n → Updates q (reduced q p n) p (option_map (λ x. with_rest x n) (order_of q.orders p))
-  updates-written q some = go n some refl
-    where
-      go : (m : ℕ) → 0 < m → n ≡ m → Updates q (reduced q p m) p (option_map (λ x. with_rest x m) (order_of q.orders p))
-      go zero more is = absurd (omega (arith, more))
-      go (suc m) more is = record {
-        changed = rw (← is) (named-written q.orders);
-        others = λ r apart. rw (← is) (others-written q.orders r apart);
-      }
-
-pub updates-reduced : (side : Side) (p : ℕ × ℕ) (lot : Lot) (a : Sorted ℕ Lot) (item : ℕ × Lot) → pair_of a p ≡ Some item → AreDistinct a.entries → lot.tag ≡ item.1.tag → 0 < lot.quantity
-    → Updates (queue_of side a) (queue_of side (written side p lot a)) p (option_map (λ x. with_rest x lot.quantity) (order_of (queue_of side a).orders p))
-updates-reduced side p lot a item found distinct tagged some = rw (queue-reduced side p lot a item found distinct tagged some) (updates-written p lot.quantity (queue_of side a) some)
+    -- what pointers name then
+    pub updates-reduced : AreDistinct a.entries → lot.tag ≡ item.1.tag
+        → Updates (queue_of side a) (queue_of side (written a)) p (option_map (λ x. with_rest x lot.quantity) (order_of (queue_of side a).orders p))
+    updates-reduced distinct tagged =
+        let named : order_of (queue_of side a).orders p ≡ Some (order_under side p item) = order_of-found side a.entries distinct p ∙ ap (option_map (order_under side p)) found in
+        let updates : UpdatesArena a (written a) p (Some (with_lot item)) = record {
+          changed = found-written a p lot ∙ ap (option_map (λ (e : ℕ × Lot). (e.0, lot))) found;
+          others = others-written a p lot;
+        } in
+        let told = updates-found side a (written a) p (Some (with_lot item)) distinct (distinct-reduced distinct) updates in
+        rw (named, ← tagged) told

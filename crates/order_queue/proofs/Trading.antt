@@ -86,13 +86,10 @@ module _ (q : Queue) (limit quantity : ℕ) (before : List Trade) (left : ℕ) (
   IsDone coming = tradable q.side limit left coming ≡ 0
 
   module _ (coming : List Order) (h : IsOffering q limit quantity before left trades coming) (done : IsDone coming) where
-    pub left-done : left + traded q limit quantity ≡ quantity
-    left-done = omega (arith, h.left_over, done)
-
-    pub trades-done : trades ≡ before ++ trades_of_first (traded q limit quantity) q.orders
-    trades-done =
+    pub offer-done : (left + traded q limit quantity ≡ quantity) × (trades ≡ before ++ trades_of_first (traded q limit quantity) q.orders)
+    offer-done =
         let none : trades_of_first (tradable q.side limit left coming) coming ≡ [] = ap (λ n. trades_of_first n coming) done ∙ trades-none coming in
-        sym (append-nil trades) ∙ ap (λ ts. trades ++ ts) (sym none) ∙ h.to_come
+        (omega (arith, h.left_over, done), sym (append-nil trades) ∙ ap (λ ts. trades ++ ts) (sym none) ∙ h.to_come)
 
   -- which is so if no order is to come, if nothing is left, and if the next order doesn't meet the limit
   pub done-ended : (coming : List Order) → coming ≡ [] → IsDone coming

@@ -1,7 +1,7 @@
 -- How one side of a book lies in its sorted arena (layout).
 use Rattle.std.specs.Prelude.{ℕ, ◌-◌, ◌≤◌, ◌<◌, ◌≡◌, List, [], ◌∷◌, map, Option, Some, None}
 use Rattle.std.specs.List.{AllByRecursion}
-use Rattle.sorted_arena.specs.Chain.{Entry}
+use Rattle.sorted_arena.specs.Chain.{Entry, IsDistinct}
 use Rattle.sorted_arena.specs.Sorted.{Sorted}
 use Rattle.order_queue.specs.{declared.side.Side.TheVariants.Buy, declared.side.Side.TheVariants.Sell, declared.order.Order.Order, Queue.Queue, Queue.AreSummable}
 use Rattle.order_queue.specs.{declared.order.Lot.Lot, declared.side.Side.Side}
@@ -37,6 +37,11 @@ pub record IsLawful (e : Entry (ℕ × Lot)) : Type 0 where
 -- all entries of a queue's arena are so
 abbrev pub AreLawful : List (Entry (ℕ × Lot)) → Type 0
 AreLawful es = AllByRecursion IsLawful es
+
+-- What holds of a queue's arena: no two entries share an index, and all are lawful.
+pub record IsQueueArena (es : List (Entry (ℕ × Lot))) : Type 0 where
+  pub distinct : IsDistinct es
+  pub lawful : AreLawful es
 
 -- the orders that an iterator over levels has left, where the next one has been taken already
 abbrev pub with_next : Option Order → List Order → List Order

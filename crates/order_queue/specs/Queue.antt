@@ -1,5 +1,5 @@
 -- What one side of an order book is: a list of resting orders in the order in which they trade, by price, and at equal prices by age.
-use Rattle.std.specs.Prelude.{◌≡◌, ◌≢◌, ℕ, zero, suc, ◌+◌, ◌-◌, ◌≤◌, ◌<◌, min, ◌==◌, ◌&&◌, leb, nat_lt, if◌then◌else◌, Bool, List, [], ◌∷◌, ◌++◌, length, take, Option, Some, None}
+use Rattle.std.specs.Prelude.{◌≡◌, ◌≢◌, ℕ, zero, suc, ◌+◌, ◌-◌, ◌≤◌, ◌<◌, min, ◌==◌, ◌&&◌, leb, nat_lt, if◌then◌else◌, Bool, List, [], ◌∷◌, ◌++◌, length, take, Option, Some, None, IfNone}
 use Rattle.std.specs.List.{AllByRecursion}
 use Rattle.sorted_arena.specs.PlainArena.{doubled_capacity}
 use Rattle.order_queue.specs.{declared.side.Side.TheVariants.Buy, declared.side.Side.TheVariants.Sell, declared.order.Order.Order}
@@ -186,3 +186,8 @@ pub record Rests (old : Queue) (price quantity tag : ℕ) (p : ℕ × ℕ) (new 
 pub record Updates (old new : Queue) (p : ℕ × ℕ) (named : Option Order) : Type 0 where
   pub changed : order_of new.orders p ≡ named
   pub others : (q : ℕ × ℕ) → q ≢ p → order_of new.orders q ≡ order_of old.orders q
+
+-- A call that changes the order of a pointer, or removes it: the pointer names `found` afterwards. If it names no order, nothing changes.
+pub record ChangesOrder {X : Type 0} (old : Queue) (p : ℕ × ℕ) (found : Option Order) (result : Option X) (new : Queue) : Type 0 where
+  pub updates : Updates old new p found
+  pub none : IfNone result (new ≡ old)

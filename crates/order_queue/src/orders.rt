@@ -34,8 +34,6 @@ impl<A: Allocator> OrderQueue<A> {
         ensures orders { result ≡ self.now.orders }
         ensures sound { IsSound self.now }
     {
-        // For the prover: the queue is sound.
-        let _ = self.len();
         Orders {
             side: self.side(),
             entries: self.arena().iter(),

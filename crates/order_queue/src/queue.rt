@@ -1,12 +1,12 @@
 //! `OrderQueue`: the resting orders of one side.
 
 ghost use Rattle.std.specs.Prelude.{◌≡◌, ◌↔◌, ◌+◌, ◌-◌, ◌≤◌, ◌<◌, List, [], ◌∷◌, ◌++◌, Err, Some, None, length, vec_capacity};
-ghost use Rattle.std.specs.Prelude.{IfOk, OnOk, OnErr, OnSome, IfSome, IfNone};
+ghost use Rattle.std.specs.Prelude.{IfOk, OnOk, OnErr, OnSome, IfSome};
 ghost use Rattle.std.specs.Option.{option_map};
 ghost use Rattle.sorted_arena.specs.PlainArena.{capacity_for};
 ghost use Rattle.order_queue.specs.Queue.{most_entries, first_of, order_of, resting, within, traded, trades_of_first, taken, with_left, with_rest, reduced, reduced_order};
-ghost use Rattle.order_queue.specs.Layout.{queue_of, AreLawful};
-ghost use Rattle.order_queue.specs.Queue.{HasRoomFor, IsSound, Rests, Updates};
+ghost use Rattle.order_queue.specs.Layout.{queue_of, IsQueueArena};
+ghost use Rattle.order_queue.specs.Queue.{ChangesOrder, HasRoomFor, IsSound, Rests, Updates};
 
 use crate::order::{Lot, Order, Trade, order_at};
 use crate::side::{Side, ranked};
@@ -33,11 +33,11 @@ impl<A: Allocator> Model for OrderQueue<A> {
 
     ghost Value = { Queue };
 
-    ghost use Rattle.order_queue.specs.Layout.{queue_of, AreLawful};
+    ghost use Rattle.order_queue.specs.Layout.{queue_of, IsQueueArena};
 
     ghost view = { λ q. queue_of q.side q.orders };
 
-    ghost invariant = { λ q. AreLawful q.orders.entries };
+    ghost invariant = { λ q. IsQueueArena q.orders.entries };
 }
 
 impl<A: Allocator> OrderQueue<A> {
@@ -59,7 +59,7 @@ impl<A: Allocator> OrderQueue<A> {
     // The arena of the orders.
     pub(crate) fn arena(&self) -> &SortedArena<u64, Lot, P0, A>
         ensures view { self.now ≡ queue_of self.now.side result.now }
-        ensures lawful { AreLawful result.now.entries }
+        ensures lawful { IsQueueArena result.now.entries }
     {
         &self.orders
     }
@@ -122,8 +122,6 @@ impl<A: Allocator> OrderQueue<A> {
     pub fn get(&self, pointer: P0) -> Option<Order>
         ensures { result ≡ order_of self.now.orders pointer }
     {
-        // For the prover: the arena is sound.
-        let _ = self.orders.len();
         let (rank, lot) = self.orders.get(pointer)?;
         Some(order_at(self.side, pointer, *rank, *lot))
     }
@@ -151,8 +149,6 @@ impl<A: Allocator> OrderQueue<A> {
             → length self.old.orders ≡ self.old.capacity }
         ensures err { OnErr result (self.new ≡ self.old) }
     {
-        // For the prover: the arena is sound.
-        let _ = self.orders.len();
         let lot = Lot { quantity, tag };
         let pointer = match self.orders.insert(ranked(self.side, price), lot) {
             Ok(pointer) => pointer,
@@ -166,13 +162,10 @@ impl<A: Allocator> OrderQueue<A> {
     /// If the pointer names no order, returns `None` and nothing changes.
     pub fn remove(&mut self, pointer: P0) -> Option<Order>
         ensures value { result ≡ order_of self.old.orders pointer }
-        ensures updates { Updates self.old self.new pointer None }
+        ensures changes { ChangesOrder self.old pointer None result self.new }
         ensures count { OnSome result (length self.old.orders ≡ length self.new.orders + 1) }
         ensures gone { OnSome result (self.new ≡ with_left self.old pointer) }
-        ensures none { IfNone result (self.new ≡ self.old) }
     {
-        // For the prover: the arena is sound.
-        let _ = self.orders.len();
         let (rank, lot) = self.orders.remove(pointer)?;
         Some(order_at(self.side, pointer, rank, lot))
     }
@@ -184,10 +177,9 @@ impl<A: Allocator> OrderQueue<A> {
     pub fn reduce(&mut self, pointer: P0, quantity: u64) -> Option<u64>
         ensures value { result
             ≡ option_map (λ x. x.quantity - quantity) (order_of self.old.orders pointer) }
-        ensures updates { Updates self.old self.new pointer
-            (reduced_order (order_of self.old.orders pointer) quantity) }
+        ensures changes { ChangesOrder self.old pointer
+            (reduced_order (order_of self.old.orders pointer) quantity) result self.new }
         ensures after { IfSome result (λ left. self.new ≡ reduced self.old pointer left) }
-        ensures none { IfNone result (self.new ≡ self.old) }
     {
         let order = self.get(pointer)?;
         let left = order.quantity.saturating_sub(quantity);
@@ -207,8 +199,6 @@ impl<A: Allocator> OrderQueue<A> {
         ensures updates { Updates self.old self.new pointer
             (option_map (λ x. with_rest x left) (order_of self.old.orders pointer)) }
     {
-        // For the prover: the arena is sound.
-        let _ = self.orders.len();
         let lot = Lot {
             quantity: left,
             tag,

@@ -7,8 +7,7 @@ use Rattle.sorted_arena.specs.declared.error.SortedError.{SortedError, TheVarian
 use Rattle.sorted_arena.specs.declared.error.SortedError.TheVariants.{AllocError}
 use Rattle.sorted_arena.specs.Sorted.{Sorted, pair_of, item_of, count, with_rest, Inserts, IsOutOfOrder, IsSound, Keeps, Rekeys, Updates}
 
--- A call that inserts a pair. `Ok` has the pointer of the new entry. `Err` has the pair and the reason for the refusal, and the arena
--- is unchanged.
+-- A call that inserts a pair. `Ok` has the pointer of the new entry. `Err` has the pair and why it failed; the arena is unchanged then.
 pub record InsertsPair {K V P E : Type 0} (cmp : K → K → Ordering) (most : ℕ) (numbers : P → ℕ × ℕ)
     (old : Sorted K V) (k : K) (v : V) (result : Result P ((K × V) × E)) (new : Sorted K V) : Type 0 where
   pub ok : IfOk result (λ p. Inserts cmp most old (numbers p) k v new)
@@ -39,7 +38,7 @@ pub record ChangesKey {K V E : Type 0} (cmp : K → K → Ordering) (most : ℕ)
   pub sound : IsSound cmp most new
   pub count : count new ≡ count old
 
--- A call that removes an entry. With `Some`, this arena is left. With `None`, the arena is unchanged.
+-- A call that removes an entry; `left` is the arena without it. On `None` the arena is unchanged.
 pub record RemovesEntry {K V : Type 0} (cmp : K → K → Ordering) (most : ℕ) (old left : Sorted K V)
     (result : Option (K × V)) (new : Sorted K V) : Type 0 where
   pub gone : OnSome result (new ≡ left)

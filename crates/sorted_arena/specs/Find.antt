@@ -6,15 +6,15 @@ use Rattle.sorted_arena.specs.Sorted.{Sorted, count, pair_of, first_where, key_o
 
 -- Searches by key. The parameters: the order of keys, the greatest index of a pointer, the numbers of a pointer, the arena, and the key.
 module _ {K V P : Type 0} (cmp : K → K → Ordering) (most : ℕ) (numbers : P → ℕ × ℕ) (a : Sorted K V) (k : K) where
-  -- The first entry for which a test of the order of k to its key is true. What passes the test has the one property, and what fails the
-  -- other.
+  -- The first entry that passes a test of how k compares with its key. `Passes` holds of an order that passes, and `Fails` of one that
+  -- doesn't.
   pub record FindsFirst (test : Ordering → Bool) (Passes Fails : Ordering → Type 0) (result : Option P) : Type 0 where
     pub value : option_map numbers result ≡ first_where (λ e. test (cmp k (key_of e))) a.entries
     pub finds : IfSome result (λ p. IsSomeAnd (pair_of a (numbers p)) (λ e. Passes (cmp k e.0)))
     pub none : IfNone result (All (λ e. Fails (cmp k (key_of e))) a.entries)
     pub sound : IsSound cmp most a
 
-  -- the first entry whose key equals this one, is at least this one, and is greater than this one
+  -- the first entry whose key equals k; the first whose key is at least k; the first whose key is greater than k
   abbrev pub FindsFirstEqual : Option P → Type 0
   FindsFirstEqual = FindsFirst is_eq (λ o. o ≡ Equal) (λ o. o ≢ Equal)
 
@@ -24,7 +24,7 @@ module _ {K V P : Type 0} (cmp : K → K → Ordering) (most : ℕ) (numbers : P
   abbrev pub FindsUpperBound : Option P → Type 0
   FindsUpperBound = FindsFirst is_lt (λ o. o ≡ Less) (λ o. o ≢ Less)
 
--- A search among n entries that counts those that it visits: what it finds, and that it visits few.
+-- A search among n entries that visits c of them: what it finds, and the bound on c.
 pub record IsCountedSearch (n c : ℕ) (Finds : Type 0) : Type 0 where
   pub finds : Finds
   pub visits : IsWithinRankedBound n c

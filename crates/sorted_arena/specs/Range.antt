@@ -42,7 +42,7 @@ module _ {A X : Type 0} (shows : A → X) where
     pub runs_back : GivesInReverse
     pub fits : length given < 2 ^ 64
 
-  -- The same of an iterator over parts of these items: it gives as many.
+  -- What a chain of iterators needs of an iterator over a part of each of these items.
   pub record IsChainableAs {T U : Type 0} (given : List T) (parts : List U) : Type 0 where
     pub runs : GivesInOrder
     pub runs_back : GivesInReverse

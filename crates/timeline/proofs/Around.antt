@@ -7,7 +7,7 @@ use Rattle.sorted_arena.specs.Gap.{first_of, last_of}
 use Rattle.sorted_arena.proofs.OrdLemmas.{ends}
 use Rattle.timeline.specs.Timeline.{Change, value_at, IsRising, IsJoinedAfter, AreChanges, IsNextChange, IsWholeSpan}
 use Rattle.timeline.specs.Layout.{change, last_value, valued, IsAround}
-use Rattle.timeline.proofs.Cutting.{AreUntil, AreAfter, all-append, all-weaker, all-back, rising-front, rising-back, joined-back, last-append}
+use Rattle.timeline.proofs.Cutting.{AreUntil, AreAfter, all-append, all-weaker, all-back, rising-front, rising-back, before-end, joined-back, last-append}
 use Rattle.timeline.proofs.Values.{value-cut}
 use Rattle.timeline.proofs.Places.{first-found, last-found, value-found}
 
@@ -18,11 +18,6 @@ pair t v = (t, v)
 -- the time of the first entry
 abbrev first_time : {V : Type 0} → List (Entry (ℕ × Option V)) → Option ℕ
 first_time es = option_map (λ x. x.0) (option_map (λ e. e.item) (first_of es))
-
--- in a rising list all are before the last
-before-last : {V : Type 0} (cs : List (Change V)) (d : Change V) → IsRising (cs ++ d ∷ []) → AllByRecursion (λ (c : Change V). c.time < d.time) cs
-before-last [] d rising = tt
-before-last (c ∷ cs) d rising = ((all-back _ cs (d ∷ []) rising.0).0, before-last cs d rising.1)
 
 module _ {V : Type 0} (es : List (Entry (ℕ × Option V))) (t : ℕ) (beside : Option (ℕ × ℕ) × Option (ℕ × ℕ)) (around : IsAround es t beside) where
   abbrev low : List (Change V)
@@ -99,7 +94,7 @@ module _ {V : Type 0} (es : List (Entry (ℕ × Option V))) (t : ℕ) (beside : 
       low-is = ap (map change) front.1 ∙ map-append change front.0 (d ∷ [])
 
       all-before : AllByRecursion (λ (c : Change V). c.time < d.item.0) (map change front.0)
-      all-before = before-last (map change front.0) (change d) (subst IsRising low-is (rising-front low high rising))
+      all-before = before-end (map change front.0) (change d) (subst IsRising low-is (rising-front low high rising))
 
       last-is : last_value None low ≡ Some v
       last-is = ap (last_value None) low-is ∙ last-append None (map change front.0) (change d ∷ []) ∙ brings

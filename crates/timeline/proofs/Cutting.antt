@@ -1,9 +1,18 @@
 -- Lists of changes: cutting them at a time, and putting changes between.
-use Rattle.std.proofs.Common.{◌≡◌, ℕ, ◌<◌, ◌≤◌, List, [], ◌∷◌, ◌++◌, Option, refl, sym, ap, ◌∙◌, arith, inl, inr}
-use Rattle.std.proofs.{lemmas.Bool.Decides.leb_tells, lemmas.List.append-nil}
+use Rattle.std.proofs.Common.{◌≡◌, Bool, true, false, not, leb, ℕ, ◌<◌, ◌≤◌, List, [], ◌∷◌, ◌++◌, Option, refl, sym, ap, ◌∙◌, arith, inl, inr}
+use Rattle.std.proofs.{lemmas.Bool.Decides.leb_tells, lemmas.Bool.le-leb, lemmas.Bool.lt-leb, lemmas.List.append-nil}
+use Rattle.std.proofs.lemmas.List.Elements.{filter-append, filter_passes, recursion_from_All}
 use Rattle.std.specs.List.{AllByRecursion}
+pub use Rattle.sorted_arena.proofs.CallerLemmas.{all-append, all-front, all-back, filter-all, filter-none}
+pub use Rattle.sorted_arena.proofs.OrdLemmas.{recursion-map as all-weaker}
 use Rattle.timeline.specs.Layout.{earlier, later, last_value, Brings}
 use Rattle.timeline.specs.Timeline.{Change, IsRising, IsJoinedAfter}
+
+not-leb : (a b : ℕ) → not (leb a b) ≡ true → b < a
+not-leb a b is = elim (leb_tells a b) [
+  | inl h ↦ absurd (let no : not (leb a b) ≡ false = ap not h.0 in cc)
+  | inr h ↦ omega (arith, h.1)
+]
 
 module _ {V : Type 0} where
   -- all changes are before a time, at most at it, at least at it, or after it
@@ -19,88 +28,27 @@ module _ {V : Type 0} where
   abbrev pub AreAfter : ℕ → List (Change V) → Type 0
   AreAfter t cs = AllByRecursion (λ (c : Change V). t < c.time) cs
 
-  -- what is true of all of two lists is true of all of both
-  pub all-append : (P : Change V → Type 0) (xs ys : List (Change V)) → AllByRecursion P xs → AllByRecursion P ys → AllByRecursion P (xs ++ ys)
-  all-append P [] ys all more = more
-  all-append P (x ∷ xs) ys all more = (all.0, all-append P xs ys all.1 more)
-
-  pub all-front : (P : Change V → Type 0) (xs ys : List (Change V)) → AllByRecursion P (xs ++ ys) → AllByRecursion P xs
-  all-front P [] ys all = tt
-  all-front P (x ∷ xs) ys all = (all.0, all-front P xs ys all.1)
-
-  pub all-back : (P : Change V → Type 0) (xs ys : List (Change V)) → AllByRecursion P (xs ++ ys) → AllByRecursion P ys
-  all-back P [] ys all = all
-  all-back P (x ∷ xs) ys all = all-back P xs ys all.1
-
-  pub all-weaker : (P Q : Change V → Type 0) → ((c : Change V) → P c → Q c) → (xs : List (Change V)) → AllByRecursion P xs → AllByRecursion Q xs
-  all-weaker P Q weaker [] all = tt
-  all-weaker P Q weaker (x ∷ xs) all = (weaker x all.0, all-weaker P Q weaker xs all.1)
-
   -- the changes before a time, and those after it
   pub earlier-before : (t : ℕ) (cs : List (Change V)) → AreBefore t (earlier t cs)
-  earlier-before t [] = tt
-  earlier-before t (c ∷ cs) = elim (leb_tells t c.time) [
-    | inl h ↦ rw h.0 (earlier-before t cs)
-    | inr h ↦ rw h.0 (omega (arith, h.1), earlier-before t cs)
-  ]
+  earlier-before t cs =
+      all-weaker (λ (c : Change V). not (leb t c.time) ≡ true) (λ c. c.time < t) (λ c is. not-leb t c.time is) (earlier t cs)
+      (recursion_from_All (λ (c : Change V). not (leb t c.time) ≡ true) (earlier t cs) (filter_passes (λ (c : Change V). not (leb t c.time)) cs))
 
   pub later-after : (t : ℕ) (cs : List (Change V)) → AreAfter t (later t cs)
-  later-after t [] = tt
-  later-after t (c ∷ cs) = elim (leb_tells c.time t) [
-    | inl h ↦ rw h.0 (later-after t cs)
-    | inr h ↦ rw h.0 (omega (arith, h.1), later-after t cs)
-  ]
-
-  pub earlier-append : (t : ℕ) (xs ys : List (Change V)) → earlier t (xs ++ ys) ≡ earlier t xs ++ earlier t ys
-  earlier-append t [] ys = refl
-  earlier-append t (x ∷ xs) ys = elim (leb_tells t x.time) [
-    | inl h ↦ rw h.0 (earlier-append t xs ys)
-    | inr h ↦ rw h.0 (ap (λ cs. x ∷ cs) (earlier-append t xs ys))
-  ]
-
-  pub later-append : (t : ℕ) (xs ys : List (Change V)) → later t (xs ++ ys) ≡ later t xs ++ later t ys
-  later-append t [] ys = refl
-  later-append t (x ∷ xs) ys = elim (leb_tells x.time t) [
-    | inl h ↦ rw h.0 (later-append t xs ys)
-    | inr h ↦ rw h.0 (ap (λ cs. x ∷ cs) (later-append t xs ys))
-  ]
-
-  pub earlier-all : (t : ℕ) (cs : List (Change V)) → AreBefore t cs → earlier t cs ≡ cs
-  earlier-all t [] all = refl
-  earlier-all t (c ∷ cs) all = elim (leb_tells t c.time) [
-    | inl h ↦ absurd (omega (arith, h.1, all.0))
-    | inr h ↦ rw h.0 (ap (λ xs. c ∷ xs) (earlier-all t cs all.1))
-  ]
-
-  pub earlier-none : (t : ℕ) (cs : List (Change V)) → AreFrom t cs → earlier t cs ≡ []
-  earlier-none t [] all = refl
-  earlier-none t (c ∷ cs) all = elim (leb_tells t c.time) [
-    | inl h ↦ rw h.0 (earlier-none t cs all.1)
-    | inr h ↦ absurd (omega (arith, h.1, all.0))
-  ]
-
-  pub later-all : (t : ℕ) (cs : List (Change V)) → AreAfter t cs → later t cs ≡ cs
-  later-all t [] all = refl
-  later-all t (c ∷ cs) all = elim (leb_tells c.time t) [
-    | inl h ↦ absurd (omega (arith, h.1, all.0))
-    | inr h ↦ rw h.0 (ap (λ xs. c ∷ xs) (later-all t cs all.1))
-  ]
-
-  pub later-none : (t : ℕ) (cs : List (Change V)) → AreUntil t cs → later t cs ≡ []
-  later-none t [] all = refl
-  later-none t (c ∷ cs) all = elim (leb_tells c.time t) [
-    | inl h ↦ rw h.0 (later-none t cs all.1)
-    | inr h ↦ absurd (omega (arith, h.1, all.0))
-  ]
+  later-after t cs =
+      all-weaker (λ (c : Change V). not (leb c.time t) ≡ true) (λ c. t < c.time) (λ c is. not-leb c.time t is) (later t cs)
+      (recursion_from_All (λ (c : Change V). not (leb c.time t) ≡ true) (later t cs) (filter_passes (λ (c : Change V). not (leb c.time t)) cs))
 
   -- a list in two parts, cut at a time
   pub cut-before : (t : ℕ) (front back : List (Change V)) → AreBefore t front → AreFrom t back → earlier t (front ++ back) ≡ front
   cut-before t front back low high =
-      earlier-append t front back ∙ ap (λ zs. earlier t front ++ zs) (earlier-none t back high) ∙ append-nil (earlier t front) ∙ earlier-all t front low
+      filter-append _ front back ∙ ap (λ zs. earlier t front ++ zs) (filter-none _ back (all-weaker _ _ (λ c is. ap not (le-leb t c.time is)) back high))
+      ∙ append-nil (earlier t front) ∙ filter-all _ front (all-weaker _ _ (λ c is. ap not (lt-leb t c.time is)) front low)
 
   pub cut-after : (t : ℕ) (front back : List (Change V)) → AreUntil t front → AreAfter t back → later t (front ++ back) ≡ back
   cut-after t front back low high =
-      later-append t front back ∙ ap (λ zs. zs ++ later t back) (later-none t front low) ∙ later-all t back high
+      filter-append _ front back ∙ ap (λ zs. zs ++ later t back) (filter-none _ front (all-weaker _ _ (λ c is. ap not (le-leb c.time t is)) front low))
+      ∙ filter-all _ back (all-weaker _ _ (λ c is. ap not (lt-leb c.time t is)) back high)
 
   -- rising lists
   pub rising-front : (xs ys : List (Change V)) → IsRising (xs ++ ys) → IsRising xs
@@ -116,13 +64,18 @@ module _ {V : Type 0} where
   rising-append t (x ∷ xs) ys low high before from =
       (all-append _ xs ys low.0 (all-weaker (λ (c : Change V). t ≤ c.time) (λ c. x.time < c.time) (λ c late. omega (arith, late, before.0)) ys from), rising-append t xs ys low.1 high before.1 from)
 
+  -- in a rising list all are before the last
+  pub before-end : (cs : List (Change V)) (d : Change V) → IsRising (cs ++ d ∷ []) → AreBefore d.time cs
+  before-end [] d rising = tt
+  before-end (c ∷ cs) d rising = ((all-back _ cs (d ∷ []) rising.0).0, before-end cs d rising.1)
+
   -- a rising list is what is before a time, and the rest; or some, and what is after it
   pub cut-earlier : (t : ℕ) (cs : List (Change V)) → IsRising cs → (rest : List (Change V)) × (cs ≡ earlier t cs ++ rest) × AreFrom t rest
   cut-earlier t [] rising = ([], refl, tt)
   cut-earlier t (c ∷ cs) rising = elim (leb_tells t c.time) [
     | inl h ↦
         let all = all-weaker (λ (d : Change V). c.time < d.time) (λ d. t ≤ d.time) (λ d late. omega (arith, late, h.1)) cs rising.0 in
-        (c ∷ cs, rw (h.0, earlier-none t cs all) refl, (h.1, all))
+        (c ∷ cs, rw (h.0, filter-none _ cs (all-weaker _ _ (λ d is. ap not (le-leb t d.time is)) cs all)) refl, (h.1, all))
     | inr h ↦ let rest = cut-earlier t cs rising.1 in (rest.0, rw h.0 (ap (λ xs. c ∷ xs) rest.1), rest.2)
   ]
 
@@ -132,7 +85,7 @@ module _ {V : Type 0} where
     | inl h ↦ let rest = cut-later t cs rising.1 in (c ∷ rest.0, rw h.0 (ap (λ xs. c ∷ xs) rest.1), (h.1, rest.2))
     | inr h ↦
         let all = all-weaker (λ (d : Change V). c.time < d.time) (λ d. t < d.time) (λ d late. omega (arith, late, h.1)) cs rising.0 in
-        ([], rw (h.0, later-all t cs all) refl, tt)
+        ([], rw (h.0, filter-all _ cs (all-weaker _ _ (λ d is. ap not (lt-leb d.time t is)) cs all)) refl, tt)
   ]
 
   -- neighbours with different values
@@ -153,27 +106,18 @@ module _ {V : Type 0} where
   last-append held (x ∷ xs) ys = last-append x.value xs ys
 
   -- what is put between brings the value, differs from what held, is at its time and rises
-  module _ (held : Option V) (t : ℕ) (value : Option V) (put : List (Change V)) (brings : Brings held t value put) where
-    pub last-brings : last_value held put ≡ value
-    last-brings = elim brings [
-      | inl h ↦ rw h.1 h.0
-      | inr h ↦ rw h.1 refl
-    ]
+  pub last-brings : (held : Option V) (t : ℕ) (value : Option V) (put : List (Change V)) → Brings held t value put → last_value held put ≡ value
+  last-brings held t value put (inl h) = rw h.1 h.0
+  last-brings held t value put (inr h) = rw h.1 refl
 
-    pub joined-brings : IsJoinedAfter held put
-    joined-brings = elim brings [
-      | inl h ↦ rw h.1 tt
-      | inr h ↦ rw h.1 (λ same. h.0 (sym same), tt)
-    ]
+  pub joined-brings : (held : Option V) (t : ℕ) (value : Option V) (put : List (Change V)) → Brings held t value put → IsJoinedAfter held put
+  joined-brings held t value put (inl h) = rw h.1 tt
+  joined-brings held t value put (inr h) = rw h.1 (λ same. h.0 (sym same), tt)
 
-    pub rising-brings : IsRising put
-    rising-brings = elim brings [
-      | inl h ↦ rw h.1 tt
-      | inr h ↦ rw h.1 (tt, tt)
-    ]
+  pub rising-brings : (held : Option V) (t : ℕ) (value : Option V) (put : List (Change V)) → Brings held t value put → IsRising put
+  rising-brings held t value put (inl h) = rw h.1 tt
+  rising-brings held t value put (inr h) = rw h.1 (tt, tt)
 
-    pub all-brings : (P : ℕ → Type 0) → P t → AllByRecursion (λ (c : Change V). P c.time) put
-    all-brings P at = elim brings [
-      | inl h ↦ rw h.1 tt
-      | inr h ↦ rw h.1 (at, tt)
-    ]
+  pub all-brings : (held : Option V) (t : ℕ) (value : Option V) (put : List (Change V)) → Brings held t value put → (P : ℕ → Type 0) → P t → AllByRecursion (λ (c : Change V). P c.time) put
+  all-brings held t value put (inl h) P at = rw h.1 tt
+  all-brings held t value put (inr h) P at = rw h.1 (at, tt)

@@ -7,7 +7,7 @@ use Rattle.sorted_arena.specs.Gap.{last_of}
 use Rattle.sorted_arena.specs.Sorted.{Sorted, key_of, Inserts}
 use Rattle.timeline.specs.Timeline.{Change, most_entries, value_at, IsRising, AreChanges}
 use Rattle.timeline.specs.Layout.{change, changes_of, earlier, later, later_than, last_value, last_taken, held_or, or_else, end_value_of, IsChanged, IsAt, IsReached, IsBeyond, TakesSame, TakesOver, IsRefusable, IsJoinedTo, IsOpen, IsFinished, IsPainted, EndsAt, Sets, CannotEnd}
-use Rattle.timeline.proofs.Cutting.{AreBefore, AreUntil, AreAfter, all-append, all-front, all-back, all-weaker, earlier-before, later-after, cut-before, cut-after, cut-earlier, cut-later, rising-front, rising-back, rising-append, last-append}
+use Rattle.timeline.proofs.Cutting.{AreBefore, AreUntil, AreAfter, all-append, all-front, all-back, all-weaker, earlier-before, later-after, cut-before, cut-after, cut-earlier, cut-later, rising-front, rising-back, rising-append, before-end, last-append}
 use Rattle.timeline.proofs.Values.{value-cut}
 use Rattle.timeline.proofs.Setting.{IsCutOut, rising-mid, unmet-mid, early-mid, last-mid, value-unmet, changed-same, set-is, set-timeline, set-from, from-timeline}
 use Rattle.timeline.proofs.Places.{Item}
@@ -179,11 +179,6 @@ module _ {V : Type 0} where
       let rest = before-apart t (f ∷ es) rising.1 until.1 apart in
       let next : e.item.0 < f.item.0 = rising.0.0 in
       (omega (arith, next, rest.0), rest)
-
-  -- in a rising list all are before the last
-  before-end : (cs : List (Change V)) (d : Change V) → IsRising (cs ++ d ∷ []) → AreBefore d.time cs
-  before-end [] d rising = tt
-  before-end (c ∷ cs) d rising = ((all-back _ cs (d ∷ []) rising.0).0, before-end cs d rising.1)
 
 -- What is left beside the change at a pointer, which brings the new value, after those from a time until an end were taken out.
 pub record IsCleared {V : Type 0} (old : List (Change V)) (from : ℕ) (until : Option ℕ) (value : Option V) (taken : Option (Option V)) (es : List (Item V)) (p : ℕ × ℕ) : Type 0 where
@@ -380,4 +375,4 @@ module _ {V : Type 0} where
       let cut : IsCutOut old (earlier from old ++ later u old) from u = record { rising = lawful.rising; ordered = ordered; taken = refl } in
       let begun = subst (λ (cs : List (Change V)). IsChanged (earlier from cs ++ later u cs) from value painted.mid) same painted.begun in
       let ended = subst (λ (cs : List (Change V)). IsChanged painted.mid u (value_at cs u) new) same painted.ended in
-      (set-is cut begun ended lawful, set-timeline cut begun ended lawful)
+      (set-is cut begun ended, set-timeline cut begun ended lawful)

@@ -1,13 +1,13 @@
 -- Places of an arena's list: what pointers find beside them.
 use Rattle.std.proofs.Common.{◌≡◌, ◌≢◌, ℕ, ◌<◌, ◌≤◌, List, [], ◌∷◌, ◌++◌, map, Option, Some, None, true, false, refl, sym, ap, ◌∙◌, arith, inl, inr, append_assoc}
-use Rattle.std.proofs.{lemmas.Grind.common_steps, lemmas.Bool.Decides.leb_tells, lemmas.Bool.Decides.nat_tests, lemmas.List.append-nil, lemmas.List.Elements.recursion_from_All}
+use Rattle.std.proofs.{lemmas.Bool.Decides.leb_tells, lemmas.Bool.Decides.nat_tests, lemmas.List.append-nil, lemmas.List.Elements.recursion_from_All}
 use Rattle.std.specs.{List.AllByRecursion, Option.option_map, Option.option_and_then, Ordering.nat_cmp, Ordering.is_lt}
 use Rattle.std.specs.declared.cmp.Ordering.TheVariants.{Greater}
-use Rattle.sorted_arena.specs.Chain.{Entry, times, IsDistinct, item_of, without, last_pointer}
+use Rattle.sorted_arena.specs.Chain.{Entry, IsDistinct, item_of, without, last_pointer}
 use Rattle.sorted_arena.specs.Gap.{first_of, last_of}
-use Rattle.sorted_arena.proofs.OrdLemmas.{ends, not_before}
-use Rattle.sorted_arena.specs.Sorted.{pointer_of, key_of, first_where, next_of, prev_from, prev_of, AreSorted}
-use Rattle.sorted_arena.proofs.CallerLemmas.{next-here, found-here}
+use Rattle.sorted_arena.proofs.OrdLemmas.{ends}
+use Rattle.sorted_arena.specs.Sorted.{pointer_of, key_of, first_where, next_of, prev_of, AreSorted}
+use Rattle.sorted_arena.proofs.CallerLemmas.{next-here, prev-here, found-here, without-here}
 use Rattle.timeline.specs.Timeline.{Change}
 use Rattle.timeline.specs.Layout.{change, last_value, IsAround, IsAt}
 
@@ -21,15 +21,6 @@ abbrev pub Item : Type 0 → Type 0
 Item V = Entry (ℕ × Option V)
 
 module _ {V : Type 0} where
-  prev-behind : (o : Option (Item V)) (front : List (Item V)) (e : Item V) (back : List (Item V)) → times e.index front ≡ 0
-      → prev_from (option_map pointer_of o) (front ++ e ∷ back) (pointer_of e) ≡ option_map pointer_of (last_of o front)
-  prev-behind o [] e back none = grind (arith, common_steps)
-  prev-behind o (f ∷ front) e back none = grind (arith, common_steps, prev-behind (Some f) front e back)
-
-  without-behind : (front : List (Item V)) (e : Item V) (back : List (Item V)) → times e.index front ≡ 0 → without e.index (front ++ e ∷ back) ≡ front ++ back
-  without-behind [] e back none = grind (arith, common_steps)
-  without-behind (f ∷ front) e back none = grind (arith, common_steps, without-behind front e back)
-
   pub last-pointer : (es : List (Item V)) → last_pointer es ≡ option_map pointer_of (last_of None es)
   last-pointer [] = refl
   last-pointer (e ∷ []) = refl
@@ -41,13 +32,6 @@ module _ {V : Type 0} where
   last-changed held o (e ∷ es) is = last-changed e.item.1 (Some e) es refl
 
   module _ (es : List (Item V)) (distinct : IsDistinct es) where
-    module _ (front : List (Item V)) (e : Item V) (back : List (Item V)) (cut : es ≡ front ++ e ∷ back) where
-      pub prev-at : prev_of es (pointer_of e) ≡ option_map pointer_of (last_of None front)
-      prev-at = ap (λ xs. prev_of xs (pointer_of e)) cut ∙ prev-behind None front e back (not_before es distinct front e back cut)
-
-      pub without-at : without e.index es ≡ front ++ back
-      without-at = ap (without e.index) cut ∙ without-behind front e back (not_before es distinct front e back cut)
-
     -- what the pointers beside a cut find
     pub first-found : (front back : List (Item V)) → es ≡ front ++ back → (o : Option (ℕ × ℕ)) → o ≡ option_map pointer_of (first_of back)
         → option_and_then (item_of es) o ≡ option_map (λ (e : Item V). e.item) (first_of back)
@@ -75,13 +59,13 @@ module _ {V : Type 0} where
       found-there = ap (item_of es) at.named ∙ found-here es distinct at.front at.entry at.back at.cut
 
       pub without-there : without p.0 es ≡ at.front ++ at.back
-      without-there = ap (λ (q : ℕ × ℕ). without q.0 es) at.named ∙ without-at at.front at.entry at.back at.cut
+      without-there = ap (λ (q : ℕ × ℕ). without q.0 es) at.named ∙ without-here es distinct at.front at.entry at.back at.cut
 
       pub next-there : next_of es p ≡ option_map pointer_of (first_of at.back)
       next-there = ap (next_of es) at.named ∙ next-here es distinct at.front at.entry at.back at.cut
 
       pub prev-there : prev_of es p ≡ option_map pointer_of (last_of None at.front)
-      prev-there = ap (prev_of es) at.named ∙ prev-at at.front at.entry at.back at.cut
+      prev-there = ap (prev_of es) at.named ∙ prev-here es distinct at.front at.entry at.back at.cut
 
       -- the value before it
       pub value-there : (o : Option (ℕ × ℕ)) → option_map (λ q. q) o ≡ prev_of es p
@@ -110,7 +94,7 @@ module _ {V : Type 0} where
                 back = back;
                 here = some;
                 found = ap (item_of es) named ∙ found-here es distinct (at.front ++ at.entry ∷ []) f back cut;
-                rest = ap (λ (r : ℕ × ℕ). without r.0 es) named ∙ without-at (at.front ++ at.entry ∷ []) f back cut ∙ append_assoc at.front (at.entry ∷ []) back;
+                rest = ap (λ (r : ℕ × ℕ). without r.0 es) named ∙ without-here es distinct (at.front ++ at.entry ∷ []) f back cut ∙ append_assoc at.front (at.entry ∷ []) back;
               }
 
       pub record PrevAt (q : ℕ × ℕ) : Type 0 where
@@ -137,7 +121,7 @@ module _ {V : Type 0} where
                 here = low.1;
                 last = some;
                 found = ap (item_of es) named ∙ found-here es distinct low.0 d (at.entry ∷ at.back) cut;
-                rest = ap (λ (r : ℕ × ℕ). without r.0 es) named ∙ without-at low.0 d (at.entry ∷ at.back) cut;
+                rest = ap (λ (r : ℕ × ℕ). without r.0 es) named ∙ without-here es distinct low.0 d (at.entry ∷ at.back) cut;
               }
 
   -- a list is cut behind a time by its first entry with a later one
@@ -184,45 +168,33 @@ module _ {V : Type 0} where
       less : t < e.item.0 → is_lt (nat_cmp t e.item.0) ≡ true
       less later = grind (arith, nat_tests, later)
 
-  module _ (t : ℕ) (es : List (Item V)) (distinct : IsDistinct es) (sorted : AreSorted nat_cmp es) where
-    pub around-some : (p : ℕ × ℕ) (before : Option (ℕ × ℕ)) → Some p ≡ first_where (λ e. is_lt (nat_cmp t (key_of e))) es → option_map (λ q. q) before ≡ prev_of es p → IsAround es t (before, Some p)
-    around-some p before is prev = go s.back refl
+  module _ (t : ℕ) (es : List (Item V)) (distinct : IsDistinct es) (before o : Option (ℕ × ℕ)) (s : IsSplit t es o) where
+    around-split : before ≡ option_map pointer_of (last_of None s.front) → IsAround es t (before, o)
+    around-split is = record { distinct = distinct; front = s.front; back = s.back; cut = s.cut; until = s.until; after = s.after; before_is = is; after_is = s.after_is }
+
+  module _ (t : ℕ) (es : List (Item V)) (distinct : IsDistinct es) (sorted : AreSorted nat_cmp es) (before : Option (ℕ × ℕ)) where
+    pub around-some : (p : ℕ × ℕ) → Some p ≡ first_where (λ e. is_lt (nat_cmp t (key_of e))) es → option_map (λ q. q) before ≡ prev_of es p → IsAround es t (before, Some p)
+    around-some p is prev = go (split-at t es sorted (Some p) is)
       where
-        s : IsSplit t es (Some p)
-        s = split-at t es sorted (Some p) is
+        go : IsSplit t es (Some p) → IsAround es t (before, Some p)
+        go s = by s.back refl
+          where
+            by : (b : List (Item V)) → s.back ≡ b → IsAround es t (before, Some p)
+            by [] none = absurd (let no : Some p ≡ None = s.after_is ∙ ap (λ (xs : List (Item V)). option_map pointer_of (first_of xs)) none in cc)
+            by (e ∷ back) some =
+                let same : Some p ≡ Some (pointer_of e) = s.after_is ∙ ap (λ (xs : List (Item V)). option_map pointer_of (first_of xs)) some in
+                let named : p ≡ pointer_of e = cc in
+                let cut : es ≡ s.front ++ e ∷ back = s.cut ∙ ap (λ (xs : List (Item V)). s.front ++ xs) some in
+                around-split t es distinct before (Some p) s (sym (unmapped before) ∙ prev ∙ ap (prev_of es) named ∙ prev-here es distinct s.front e back cut)
 
-        go : (b : List (Item V)) → s.back ≡ b → IsAround es t (before, Some p)
-        go [] none = absurd (let no : Some p ≡ None = s.after_is ∙ ap (λ (xs : List (Item V)). option_map pointer_of (first_of xs)) none in cc)
-        go (e ∷ back) some =
-            let same : Some p ≡ Some (pointer_of e) = s.after_is ∙ ap (λ (xs : List (Item V)). option_map pointer_of (first_of xs)) some in
-            let named : p ≡ pointer_of e = cc in
-            let cut : es ≡ s.front ++ e ∷ back = s.cut ∙ ap (λ (xs : List (Item V)). s.front ++ xs) some in
-            record {
-              front = s.front;
-              back = s.back;
-              cut = s.cut;
-              until = s.until;
-              after = s.after;
-              before_is = sym (unmapped before) ∙ prev ∙ ap (prev_of es) named ∙ prev-at es distinct s.front e back cut;
-              after_is = s.after_is;
-            }
-
-    pub around-none : (before : Option (ℕ × ℕ)) → None ≡ first_where (λ e. is_lt (nat_cmp t (key_of e))) es → option_map (λ q. q) before ≡ last_pointer es → IsAround es t (before, None)
-    around-none before is last = go s.back refl
+    pub around-none : None ≡ first_where (λ e. is_lt (nat_cmp t (key_of e))) es → option_map (λ q. q) before ≡ last_pointer es → IsAround es t (before, None)
+    around-none is last = go (split-at t es sorted None is)
       where
-        s : IsSplit t es None
-        s = split-at t es sorted None is
-
-        go : (b : List (Item V)) → s.back ≡ b → IsAround es t (before, None)
-        go (e ∷ back) some = absurd (let no : None ≡ Some (pointer_of e) = s.after_is ∙ ap (λ (xs : List (Item V)). option_map pointer_of (first_of xs)) some in cc)
-        go [] none =
-            let whole : es ≡ s.front = s.cut ∙ ap (λ (xs : List (Item V)). s.front ++ xs) none ∙ append-nil s.front in
-            record {
-              front = s.front;
-              back = s.back;
-              cut = s.cut;
-              until = s.until;
-              after = s.after;
-              before_is = sym (unmapped before) ∙ last ∙ last-pointer es ∙ ap (λ (xs : List (Item V)). option_map pointer_of (last_of None xs)) whole;
-              after_is = s.after_is;
-            }
+        go : IsSplit t es None → IsAround es t (before, None)
+        go s = by s.back refl
+          where
+            by : (b : List (Item V)) → s.back ≡ b → IsAround es t (before, None)
+            by (e ∷ back) some = absurd (let no : None ≡ Some (pointer_of e) = s.after_is ∙ ap (λ (xs : List (Item V)). option_map pointer_of (first_of xs)) some in cc)
+            by [] none =
+                let whole : es ≡ s.front = s.cut ∙ ap (λ (xs : List (Item V)). s.front ++ xs) none ∙ append-nil s.front in
+                around-split t es distinct before None s (sym (unmapped before) ∙ last ∙ last-pointer es ∙ ap (λ (xs : List (Item V)). option_map pointer_of (last_of None xs)) whole)

@@ -1,11 +1,60 @@
 -- Setting a value step by step: the changes in between are taken out, then the value comes, then what held at the end.
-use Rattle.std.proofs.Common.{◌≡◌, ◌≢◌, ℕ, ◌<◌, ◌≤◌, inl, inr, List, [], ◌∷◌, ◌++◌, Option, None, refl, sym, ap, subst, ◌∙◌, arith}
+use Rattle.std.proofs.Common.{◌≡◌, ◌≢◌, ℕ, ◌+◌, ◌<◌, ◌≤◌, inl, inr, List, [], ◌∷◌, ◌++◌, Option, None, refl, sym, ap, subst, ◌∙◌, arith}
 use Rattle.std.proofs.{lemmas.List.append_assoc, lemmas.List.append-nil}
 use Rattle.std.specs.List.{AllByRecursion}
-use Rattle.timeline.specs.Timeline.{Change, value_at, IsRising, IsJoinedAfter, AreChanges, IsSet, IsSetFrom}
+use Rattle.timeline.specs.Timeline.{Change, value_after, value_at, IsRising, IsJoinedAfter, AreChanges, IsSet, IsSetFrom}
 use Rattle.timeline.specs.Layout.{earlier, later, last_value, Brings, IsChanged}
-use Rattle.timeline.proofs.Cutting.{AreBefore, AreFrom, AreAfter, all-append, all-back, all-weaker, earlier-before, later-after, cut-before, cut-after, cut-earlier, cut-later, rising-front, rising-back, rising-append, last-append, last-brings, rising-brings, joined-brings, joined-append, joined-front, all-brings}
-use Rattle.timeline.proofs.Values.{value-cut, value-before, value-within, value-outside-before, value-outside-after, timeline-set}
+use Rattle.timeline.proofs.Cutting.{AreBefore, AreUntil, AreFrom, AreAfter, all-append, all-back, all-weaker, earlier-before, later-after, cut-before, cut-after, cut-earlier, cut-later, rising-front, rising-back, rising-append, last-append, last-brings, rising-brings, joined-brings, joined-append, joined-front, joined-back, all-brings}
+use Rattle.timeline.proofs.Values.{value-early, value-late, value-cut, value-before}
+
+-- the value becomes another at a time
+module _ {V : Type 0} {cs new : List (Change V)} {t : ℕ} {value : Option V} (changed : IsChanged cs t value new) where
+  abbrev low-of : List (Change V)
+  low-of = earlier t cs
+
+  abbrev high-of : List (Change V)
+  high-of = later t cs
+
+  put-at : (P : ℕ → Type 0) → P t → AllByRecursion (λ (c : Change V). P c.time) changed.put
+  put-at P at = all-brings (last_value None low-of) t value changed.put changed.brings P at
+
+  high-from : AreFrom t high-of
+  high-from = all-weaker _ _ (λ c is. omega (arith, is)) high-of (later-after t cs)
+
+  last-put : last_value None (low-of ++ changed.put) ≡ value
+  last-put = last-append None low-of changed.put ∙ last-brings (last_value None low-of) t value changed.put changed.brings
+
+  -- from then on it is that one, until a later change comes, and before it is what it was
+  value-from : (u : ℕ) → t ≤ u → value_at new u ≡ value_after value high-of u
+  value-from u past =
+      ap (λ zs. value_at zs u) (changed.after ∙ sym (append_assoc low-of changed.put high-of))
+      ∙ value-late None (low-of ++ changed.put) high-of u
+      (all-append _ low-of changed.put (all-weaker _ _ (λ c is. omega (arith, is, past)) low-of (earlier-before t cs)) (put-at (λ s. s ≤ u) past))
+      ∙ ap (λ held. value_after held high-of u) last-put
+
+  value-till : (u : ℕ) → u < t → IsRising cs → value_at new u ≡ value_at cs u
+  value-till u sooner rising =
+      let parts = cut-earlier t cs rising in
+      ap (λ zs. value_at zs u) changed.after
+      ∙ value-before None low-of (changed.put ++ high-of) parts.0 u
+      (all-append _ changed.put high-of (put-at (λ s. u < s) sooner) (all-weaker _ _ (λ c is. omega (arith, is, sooner)) high-of high-from))
+      (all-weaker _ _ (λ c is. omega (arith, is, sooner)) parts.0 parts.2)
+      ∙ sym (ap (λ zs. value_at zs u) parts.1)
+
+  -- the changes still rise, and differ from their neighbours
+  rising-changed : IsRising cs → IsRising new
+  rising-changed rising =
+      let low = cut-earlier t cs rising in
+      let high = cut-later t cs rising in
+      subst IsRising (sym changed.after) (rising-append t low-of (changed.put ++ high-of) (rising-front low-of low.0 (subst IsRising low.1 rising))
+      (rising-append (t + 1) changed.put high-of (rising-brings (last_value None low-of) t value changed.put changed.brings) (rising-back high.0 high-of (subst IsRising high.1 rising))
+      (put-at (λ s. s < t + 1) (omega arith)) (all-weaker _ _ (λ c is. omega (arith, is)) high-of (later-after t cs)))
+      (earlier-before t cs) (all-append _ changed.put high-of (put-at (λ s. t ≤ s) (omega arith)) high-from))
+
+  joined-put : IsJoinedAfter None low-of → IsJoinedAfter value high-of → IsJoinedAfter None new
+  joined-put low high = subst (IsJoinedAfter None) (sym changed.after) (joined-append None low-of (changed.put ++ high-of) low
+      (joined-append (last_value None low-of) changed.put high-of (joined-brings (last_value None low-of) t value changed.put changed.brings)
+      (subst (λ held. IsJoinedAfter held high-of) (sym (last-brings (last_value None low-of) t value changed.put changed.brings)) high)))
 
 -- the changes from one time until another are taken out of a timeline
 pub record IsCutOut {V : Type 0} (old left : List (Change V)) (from until : ℕ) : Type 0 where
@@ -26,11 +75,19 @@ module _ {V : Type 0} {old left : List (Change V)} {from until : ℕ} (cut : IsC
   high-after : AreAfter until high
   high-after = later-after until old
 
-  low-rising : IsRising low
-  low-rising = let parts = cut-earlier from old cut.rising in rising-front low parts.0 (subst IsRising parts.1 cut.rising)
+  -- the old changes, cut at both times
+  early : (rest : List (Change V)) × (old ≡ low ++ rest) × AreFrom from rest
+  early = cut-earlier from old cut.rising
 
-  high-rising : IsRising high
-  high-rising = let parts = cut-later until old cut.rising in rising-back parts.0 high (subst IsRising parts.1 cut.rising)
+  late : (front : List (Change V)) × (old ≡ front ++ high) × AreUntil until front
+  late = cut-later until old cut.rising
+
+  held-is : value_at old until ≡ last_value None late.0
+  held-is = ap (λ cs. value_at cs until) late.1 ∙ value-cut None late.0 high until late.2 high-after
+
+  left-rising : IsRising left
+  left-rising = subst IsRising (sym cut.taken) (rising-append from low high (rising-front low early.0 (subst IsRising early.1 cut.rising)) (rising-back late.0 high (subst IsRising late.1 cut.rising))
+      low-before (all-weaker _ _ (λ c is. omega (arith, is, cut.ordered)) high high-after))
 
   early-left : earlier from left ≡ low
   early-left = ap (earlier from) cut.taken ∙ cut-before from low high low-before (all-weaker _ _ (λ c is. omega (arith, is, cut.ordered)) high high-after)
@@ -38,22 +95,22 @@ module _ {V : Type 0} {old left : List (Change V)} {from until : ℕ} (cut : IsC
   late-left : later from left ≡ high
   late-left = ap (later from) cut.taken ∙ cut-after from low high (all-weaker _ _ (λ c is. omega (arith, is)) low low-before) (all-weaker _ _ (λ c is. omega (arith, is, cut.ordered)) high high-after)
 
-  module _ {value : Option V} {mid : List (Change V)} (first : IsChanged left from value mid) where
-    brings-first : Brings (last_value None low) from value first.put
-    brings-first = subst (λ cs. Brings (last_value None cs) from value first.put) early-left first.brings
+  left-till : (t : ℕ) → t < from → value_at left t ≡ value_at old t
+  left-till t sooner =
+      ap (λ cs. value_at cs t) cut.taken
+      ∙ value-before None low high early.0 t (all-weaker _ _ (λ c is. omega (arith, is, sooner, cut.ordered)) high high-after) (all-weaker _ _ (λ c is. omega (arith, is, sooner)) early.0 early.2)
+      ∙ sym (ap (λ cs. value_at cs t) early.1)
 
+  module _ {value : Option V} {mid : List (Change V)} (first : IsChanged left from value mid) where
     mid-is : mid ≡ (low ++ first.put) ++ high
     mid-is = first.after ∙ ap (λ zs. zs ++ (first.put ++ later from left)) early-left ∙ ap (λ zs. low ++ (first.put ++ zs)) late-left ∙ sym (append_assoc low first.put high)
 
     front-before : AreBefore until (low ++ first.put)
-    front-before = all-append _ low first.put (all-weaker _ _ (λ c is. omega (arith, is, cut.ordered)) low low-before) (all-brings (last_value None low) from value first.put brings-first (λ t. t < until) cut.ordered)
+    front-before = all-append _ low first.put (all-weaker _ _ (λ c is. omega (arith, is, cut.ordered)) low low-before) (put-at first (λ t. t < until) cut.ordered)
 
     -- after the first change they rise, and none is at the second time
     pub rising-mid : IsRising mid
-    rising-mid = subst IsRising (sym mid-is) (rising-append until (low ++ first.put) high
-        (rising-append from low first.put low-rising (rising-brings (last_value None low) from value first.put brings-first) low-before
-        (all-brings (last_value None low) from value first.put brings-first (λ t. from ≤ t) (omega arith)))
-        high-rising front-before (all-weaker _ _ (λ c is. omega (arith, is)) high high-after))
+    rising-mid = rising-changed first left-rising
 
     pub unmet-mid : AllByRecursion (λ (c : Change V). c.time ≢ until) mid
     unmet-mid = subst (AllByRecursion (λ (c : Change V). c.time ≢ until)) (sym mid-is)
@@ -66,26 +123,30 @@ module _ {V : Type 0} {old left : List (Change V)} {from until : ℕ} (cut : IsC
     late-mid = ap (later until) mid-is ∙ cut-after until (low ++ first.put) high (all-weaker _ _ (λ c is. omega (arith, is)) (low ++ first.put) front-before) high-after
 
     pub last-mid : last_value None (low ++ first.put) ≡ value
-    last-mid = last-append None low first.put ∙ last-brings (last_value None low) from value first.put brings-first
+    last-mid = subst (λ cs. last_value None (cs ++ first.put) ≡ value) early-left (last-put first)
 
     module _ {new : List (Change V)} (second : IsChanged mid until (value_at old until) new) where
-      brings-second : Brings value until (value_at old until) second.put
-      brings-second = subst (λ held. Brings held until (value_at old until) second.put) last-mid (subst (λ cs. Brings (last_value None cs) until (value_at old until) second.put) early-mid second.brings)
-
-      new-is : new ≡ low ++ (first.put ++ (second.put ++ high))
-      new-is = second.after ∙ ap (λ zs. zs ++ (second.put ++ later until mid)) early-mid ∙ ap (λ zs. (low ++ first.put) ++ (second.put ++ zs)) late-mid ∙ append_assoc low first.put (second.put ++ high)
-
-      pub set-is : AreChanges old → IsSet old from until value new
-      set-is lawful = record {
-        within = λ t past sooner. ap (λ cs. value_at cs t) new-is ∙ value-within old lawful from until value cut.ordered first.put second.put brings-first brings-second t past sooner;
-        outside = λ t out. ap (λ cs. value_at cs t) new-is ∙ (elim out [
-          | inl sooner ↦ value-outside-before old lawful from until value cut.ordered first.put second.put brings-first brings-second t sooner
-          | inr past ↦ value-outside-after old lawful from until value cut.ordered first.put second.put brings-first brings-second t past
-        ]);
+      pub set-is : IsSet old from until value new
+      set-is = record {
+        within = λ t past sooner.
+            value-till second t sooner rising-mid ∙ value-from first t past ∙ ap (λ cs. value_after value cs t) late-left
+            ∙ value-early value high t (all-weaker _ _ (λ c is. omega (arith, is, sooner)) high high-after);
+        outside = λ t out. elim out [
+          | inl sooner ↦ value-till second t (omega (arith, sooner, cut.ordered)) rising-mid ∙ value-till first t sooner left-rising ∙ left-till t sooner
+          | inr past ↦
+              value-from second t past ∙ ap (λ cs. value_after (value_at old until) cs t) late-mid ∙ ap (λ held. value_after held high t) held-is
+              ∙ sym (ap (λ cs. value_at cs t) late.1 ∙ value-late None late.0 high t (all-weaker _ _ (λ c is. omega (arith, is, past)) late.0 late.2))
+        ];
       }
 
       pub set-timeline : AreChanges old → AreChanges new
-      set-timeline lawful = subst (λ (cs : List (Change V)). AreChanges cs) (sym new-is) (timeline-set old lawful from until value cut.ordered first.put second.put brings-first brings-second)
+      set-timeline lawful = record {
+        rising = rising-changed second rising-mid;
+        joined = joined-put second
+            (subst (IsJoinedAfter None) (sym early-mid) (joined-append None low first.put (joined-front None low early.0 (subst (IsJoinedAfter None) early.1 lawful.joined))
+            (joined-brings (last_value None low) from value first.put (subst (λ cs. Brings (last_value None cs) from value first.put) early-left first.brings))))
+            (subst (IsJoinedAfter (value_at old until)) (sym late-mid) (subst (λ held. IsJoinedAfter held high) (sym held-is) (joined-back None late.0 high (subst (IsJoinedAfter None) late.1 lawful.joined))));
+      }
 
 -- where no change is at a time, the changes before it and after it are all
 module _ {V : Type 0} where
@@ -117,46 +178,27 @@ module _ {V : Type 0} where
     abbrev kept : List (Change V)
     kept = earlier from old
 
-    kept-before : AreBefore from kept
-    kept-before = earlier-before from old
-
     early-kept : earlier from (kept ++ []) ≡ kept
-    early-kept = cut-before from kept [] kept-before tt
+    early-kept = cut-before from kept [] (earlier-before from old) tt
 
     late-kept : later from (kept ++ []) ≡ []
-    late-kept = cut-after from kept [] (all-weaker _ _ (λ c is. omega (arith, is)) kept kept-before) tt
-
-    brings-kept : Brings (last_value None kept) from value changed.put
-    brings-kept = subst (λ cs. Brings (last_value None cs) from value changed.put) early-kept changed.brings
-
-    new-kept : new ≡ (kept ++ changed.put) ++ []
-    new-kept = changed.after ∙ ap (λ zs. zs ++ (changed.put ++ later from (kept ++ []))) early-kept ∙ ap (λ zs. kept ++ (changed.put ++ zs)) late-kept ∙ sym (append_assoc kept changed.put [])
+    late-kept = cut-after from kept [] (all-weaker _ _ (λ c is. omega (arith, is)) kept (earlier-before from old)) tt
 
     rest : (rest : List (Change V)) × (old ≡ kept ++ rest) × AreFrom from rest
     rest = cut-earlier from old lawful.rising
 
-    put-at : AllByRecursion (λ (c : Change V). c.time ≡ from) changed.put
-    put-at = all-brings (last_value None kept) from value changed.put brings-kept (λ t. t ≡ from) refl
-
-    last-kept : last_value None (kept ++ changed.put) ≡ value
-    last-kept = last-append None kept changed.put ∙ last-brings (last_value None kept) from value changed.put brings-kept
+    rising-kept : IsRising (kept ++ [])
+    rising-kept = subst IsRising (sym (append-nil kept)) (rising-front kept rest.0 (subst IsRising rest.1 lawful.rising))
 
     pub set-from : IsSetFrom old from value new
     set-from = record {
-      within = λ t past.
-          ap (λ cs. value_at cs t) new-kept
-          ∙ value-cut None (kept ++ changed.put) [] t (all-append _ kept changed.put (all-weaker _ _ (λ c is. omega (arith, is, past)) kept kept-before) (all-weaker _ _ (λ c is. omega (arith, is, past)) changed.put put-at)) tt
-          ∙ last-kept;
+      within = λ t past. value-from changed t past ∙ ap (λ cs. value_after value cs t) late-kept;
       before = λ t sooner.
-          ap (λ cs. value_at cs t) (new-kept ∙ append_assoc kept changed.put [])
-          ∙ value-before None kept (changed.put ++ []) rest.0 t
-          (all-append _ changed.put [] (all-weaker _ _ (λ c is. omega (arith, is, sooner)) changed.put put-at) tt) (all-weaker _ _ (λ c is. omega (arith, is, sooner)) rest.0 rest.2)
-          ∙ sym (ap (λ cs. value_at cs t) rest.1);
+          value-till changed t sooner rising-kept ∙ value-before None kept [] rest.0 t tt (all-weaker _ _ (λ c is. omega (arith, is, sooner)) rest.0 rest.2) ∙ sym (ap (λ cs. value_at cs t) rest.1);
     }
 
     pub from-timeline : AreChanges new
-    from-timeline = subst (λ (cs : List (Change V)). AreChanges cs) (sym (new-kept ∙ append-nil (kept ++ changed.put))) (record {
-      rising = rising-append from kept changed.put (rising-front kept rest.0 (subst IsRising rest.1 lawful.rising)) (rising-brings (last_value None kept) from value changed.put brings-kept) kept-before
-          (all-weaker _ _ (λ c is. omega (arith, is)) changed.put put-at);
-      joined = joined-append None kept changed.put (joined-front None kept rest.0 (subst (IsJoinedAfter None) rest.1 lawful.joined)) (joined-brings (last_value None kept) from value changed.put brings-kept);
-    })
+    from-timeline = record {
+      rising = rising-changed changed rising-kept;
+      joined = joined-put changed (subst (IsJoinedAfter None) (sym early-kept) (joined-front None kept rest.0 (subst (IsJoinedAfter None) rest.1 lawful.joined))) (subst (IsJoinedAfter value) (sym late-kept) tt);
+    }

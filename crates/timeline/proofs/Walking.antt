@@ -1,10 +1,10 @@
 -- The pieces of a time: how a walk goes along them, and what they say of the values.
 use Rattle.std.proofs.Common.{◌≡◌, ◌≢◌, ℕ, ◌<◌, ◌≤◌, List, [], ◌∷◌, ◌++◌, map, Option, Some, None, IsSome, refl, sym, ap, subst, ◌∙◌, arith, inl, inr, append_assoc}
-use Rattle.std.proofs.{lemmas.Grind.common_steps, lemmas.Bool.le-leb, lemmas.Bool.lt-leb, lemmas.Bool.Decides.leb_tells}
+use Rattle.std.proofs.{lemmas.Bool.le-leb, lemmas.Bool.lt-leb, lemmas.Bool.Decides.leb_tells}
 use Rattle.std.specs.Option.{option_map, option_and_then}
-use Rattle.sorted_arena.specs.Chain.{times, IsDistinct, item_of, from_index}
+use Rattle.sorted_arena.specs.Chain.{IsDistinct, item_of}
 use Rattle.sorted_arena.specs.Gap.{first_of}
-use Rattle.sorted_arena.proofs.OrdLemmas.{not_before}
+use Rattle.sorted_arena.proofs.OrdLemmas.{from_index-here}
 use Rattle.sorted_arena.specs.Sorted.{pointer_of, next_of, item_of as entry_item}
 use Rattle.sorted_arena.proofs.CallerLemmas.{next-here, found-here}
 use Rattle.timeline.specs.Timeline.{Change, value_after, value_at, IsRising, IsJoinedAfter, AreChanges, HasNone, AreSpans, HasValues, AreGaps}
@@ -15,15 +15,11 @@ use Rattle.timeline.proofs.Values.{value-early, value-late}
 use Rattle.timeline.proofs.{Around.changes-cut, Around.held-around, Places.Item, Places.unmapped, Places.value-found}
 
 module _ {V : Type 0} where
-  from-behind : (front : List (Item V)) (e : Item V) (back : List (Item V)) → times e.index front ≡ 0 → from_index (front ++ e ∷ back) e.index ≡ e ∷ back
-  from-behind [] e back none = grind (arith, common_steps)
-  from-behind (f ∷ front) e back none = grind (arith, common_steps, from-behind front e back)
-
   -- what is left from the pointer behind a cut on
   module _ (es : List (Item V)) (distinct : IsDistinct es) where
     pub left-behind : (front back : List (Item V)) → es ≡ front ++ back → (next : Option (ℕ × ℕ)) → next ≡ option_map pointer_of (first_of back) → left_from es next ≡ back
     left-behind front [] cut next is = rw is refl
-    left-behind front (e ∷ back) cut next is = rw is (ap (λ (xs : List (Item V)). from_index xs e.index) cut ∙ from-behind front e back (not_before es distinct front e back cut))
+    left-behind front (e ∷ back) cut next is = rw is (from_index-here es distinct front e back cut)
 
     -- a walk begins
     pub pieces-begun : (from until : ℕ) (beside : Option (ℕ × ℕ) × Option (ℕ × ℕ)) (around : IsAround es from beside) (held : Option V)
@@ -61,7 +57,7 @@ module _ {V : Type 0} where
                 found = ap (item_of es) named ∙ found-here es distinct behind.front e rest cut;
                 passed = λ next is.
                     let at : next ≡ option_map pointer_of (first_of rest) = sym (unmapped next) ∙ is ∙ ap (next_of es) named ∙ next-here es distinct behind.front e rest cut in
-                    (record { front = behind.front ++ e ∷ []; back = rest; cut = cut_behind; named = at }, left-behind (behind.front ++ e ∷ []) rest cut_behind next at);
+                    (record { distinct = distinct; front = behind.front ++ e ∷ []; back = rest; cut = cut_behind; named = at }, left-behind (behind.front ++ e ∷ []) rest cut_behind next at);
               }
 
   -- no piece is left
@@ -169,21 +165,22 @@ module _ {V : Type 0} where
         (subst (λ (v : Option V). IsJoinedAfter v high) (sym last) (joined-back None parts.0 high (subst (IsJoinedAfter None) parts.1 lawful.joined)))
         (λ t past. ap (λ cs. value_at cs t) parts.1 ∙ value-late None parts.0 high t (all-weaker _ _ (λ c is. omega (arith, is, past)) parts.0 parts.2) ∙ ap (λ (v : Option V). value_after v high t) (sym last))
 
+    -- what is true from one time until another, and from then until a third, is true from the first until the third
+    throughout : (P : ℕ → Type 0) (from mid until : ℕ) → ((t : ℕ) → from ≤ t → t < mid → P t) → ((t : ℕ) → mid ≤ t → t < until → P t) → (t : ℕ) → from ≤ t → t < until → P t
+    throughout P from mid until first second t past sooner = elim (leb_tells mid t) [
+      | inl h ↦ second t h.1 sooner
+      | inr h ↦ first t past h.1
+    ]
+
     -- where none holds before the first of them
     spans-later : (from mid until : ℕ) (spans : List (Span V)) → from ≤ mid → HasNone all from mid → AreSpans all mid until spans → AreSpans all from until spans
-    spans-later from mid until [] before none rest = λ t past sooner. elim (leb_tells mid t) [
-      | inl h ↦ rest t h.1 sooner
-      | inr h ↦ none t past h.1
-    ]
+    spans-later from mid until [] before none rest = throughout (λ t. value_at all t ≡ None) from mid until none rest
     spans-later from mid until (span ∷ spans) before none rest = (
       record {
         begins = omega (arith, before, rest.0.begins);
         lasts = rest.0.lasts;
         ends = rest.0.ends;
-        none_before = λ t past sooner. elim (leb_tells mid t) [
-          | inl h ↦ rest.0.none_before t h.1 sooner
-          | inr h ↦ none t past h.1
-        ];
+        none_before = throughout (λ t. value_at all t ≡ None) from mid span.from none rest.0.none_before;
         holds = rest.0.holds;
         another_after = rest.0.another_after;
       },
@@ -210,19 +207,13 @@ module _ {V : Type 0} where
 
     -- where a value holds before the first of them
     gaps-later : (from mid until : ℕ) (gaps : List _) → from ≤ mid → HasValues all from mid → AreGaps all mid until gaps → AreGaps all from until gaps
-    gaps-later from mid until [] before values rest = λ t past sooner. elim (leb_tells mid t) [
-      | inl h ↦ rest t h.1 sooner
-      | inr h ↦ values t past h.1
-    ]
+    gaps-later from mid until [] before values rest = throughout (λ t. IsSome (value_at all t)) from mid until values rest
     gaps-later from mid until (gap ∷ gaps) before values rest = (
       record {
         begins = omega (arith, before, rest.0.begins);
         lasts = rest.0.lasts;
         ends = rest.0.ends;
-        values_before = λ t past sooner. elim (leb_tells mid t) [
-          | inl h ↦ rest.0.values_before t h.1 sooner
-          | inr h ↦ values t past h.1
-        ];
+        values_before = throughout (λ t. IsSome (value_at all t)) from mid gap.from values rest.0.values_before;
         none = rest.0.none;
         value_after = rest.0.value_after;
       },

@@ -1,7 +1,7 @@
 -- How a timeline lies in its arena, and what its private calls leave (layout).
-use Rattle.std.specs.Prelude.{◌≡◌, ◌≢◌, ℕ, ◌≤◌, ◌<◌, leb, if◌then◌else◌, List, [], ◌∷◌, ◌++◌, length, map, Option, Some, None, ◌⊎◌, IfSome}
+use Rattle.std.specs.Prelude.{◌≡◌, ◌≢◌, ℕ, ◌≤◌, ◌<◌, leb, not, filter, if◌then◌else◌, List, [], ◌∷◌, ◌++◌, length, map, Option, Some, None, ◌⊎◌, IfSome}
 use Rattle.std.specs.{List.AllByRecursion, Option.option_map, Borrow.Bor}
-use Rattle.sorted_arena.specs.Chain.{Entry, from_index}
+use Rattle.sorted_arena.specs.Chain.{Entry, IsDistinct, from_index}
 use Rattle.sorted_arena.specs.Gap.{first_of, last_of}
 use Rattle.sorted_arena.specs.Sorted.{Sorted, pointer_of}
 use Rattle.timeline.specs.{Timeline.Change, Timeline.Timeline, Timeline.value_at, Timeline.IsRising, Timeline.IsSet, Timeline.IsSetFrom, Timeline.HoldsRefusable, Timeline.roomy_capacity, Timeline.capacity_set, declared.walk.Piece.Piece, declared.span.Span.Span}
@@ -24,13 +24,11 @@ IsEmptyTime from (Some until) = until ≤ from
 module _ {V : Type 0} where
   -- the changes before a time
   abbrev pub earlier : ℕ → List (Change V) → List (Change V)
-  earlier t [] = []
-  earlier t (c ∷ cs) = if leb t c.time then earlier t cs else c ∷ earlier t cs
+  earlier t cs = filter (λ c. not (leb t c.time)) cs
 
   -- the changes after a time
   abbrev pub later : ℕ → List (Change V) → List (Change V)
-  later t [] = []
-  later t (c ∷ cs) = if leb c.time t then later t cs else c ∷ later t cs
+  later t cs = filter (λ c. not (leb c.time t)) cs
 
   -- the value behind all changes
   abbrev pub last_value : Option V → List (Change V) → Option V
@@ -67,8 +65,9 @@ module _ {V : Type 0} where
   abbrev pub timeline_of : Sorted ℕ (Option V) → Timeline V
   timeline_of a = record { changes = changes_of a; capacity = a.capacity }
 
-  -- The entries are cut behind a time, and these are the pointers of the entries beside the cut.
+  -- The entries, no two of which share an index, are cut behind a time, and these are the pointers of the entries beside the cut.
   pub record IsAround (es : List (Entry (ℕ × Option V))) (t : ℕ) (beside : Option (ℕ × ℕ) × Option (ℕ × ℕ)) : Type 0 where
+    pub distinct : IsDistinct es
     pub front : List (Entry (ℕ × Option V))
     pub back : List (Entry (ℕ × Option V))
     pub cut : es ≡ front ++ back
@@ -202,8 +201,9 @@ module _ {V : Type 0} where
   left_from es None = []
   left_from es (Some p) = from_index es p.0
 
-  -- the entries are cut, and this is the pointer of the first one behind the cut
+  -- The entries, no two of which share an index, are cut, and this is the pointer of the first one behind the cut.
   pub record IsBehind (es : List (Entry (ℕ × Option V))) (next : Option (ℕ × ℕ)) : Type 0 where
+    pub distinct : IsDistinct es
     pub front : List (Entry (ℕ × Option V))
     pub back : List (Entry (ℕ × Option V))
     pub cut : es ≡ front ++ back

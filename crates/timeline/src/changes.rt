@@ -19,8 +19,6 @@ pub(crate) fn around<V, A: Allocator>(
 ) -> (Option<P0>, Option<P0>)
     ensures { IsAround changes.now.entries time result }
 {
-    // with its length an arena tells what holds of it
-    let _ = changes.len();
     let after = changes.upper_bound(&time);
     let before = match after {
         Some(p) => changes.prev(p),
@@ -71,8 +69,6 @@ pub(crate) fn held_from<V, A: Allocator>(
 pub(crate) fn held_at<V, A: Allocator>(changes: &Changes<V, A>, time: u64) -> Option<&V>
     ensures { option_copied result ≡ value_at (changes_of changes.now) time }
 {
-    // with its length an arena tells what holds of it
-    let _ = changes.len();
     value_of(changes, around(changes, time).0)
 }
 
@@ -81,7 +77,5 @@ pub(crate) fn next_after<V, A: Allocator>(changes: &Changes<V, A>, time: u64) ->
     requires { AreChanges (changes_of changes.now) }
     ensures { IsNextChange (changes_of changes.now) time result }
 {
-    // with its length an arena tells what holds of it
-    let _ = changes.len();
     time_of(changes, around(changes, time).1)
 }

@@ -3,7 +3,7 @@
 ghost use Rattle.std.specs.Prelude.{◌≡◌, ◌≤◌, ◌<◌, ◌+◌, ◌++◌, ◌↔◌, true, false, length, Some, None, Err, IfOk, OnOk, IfErr, OnErr, IfSome, OnSome, IfNone};
 ghost use Rattle.std.specs.Option.{option_copied};
 ghost use Rattle.std.specs.Ordering.{nat_cmp};
-ghost use Rattle.sorted_arena.specs.Sorted.{Inserts};
+ghost use Rattle.sorted_arena.specs.Sorted.{Inserts, IsSound};
 ghost use Rattle.timeline.specs.Timeline.{most_entries, roomy_capacity, value_at, IsRising};
 ghost use Rattle.timeline.specs.Layout.{changes_of, timeline_of, last_value, IsReached, IsBeyond, IsAt, TakesChange, TakesNext, TakesBehind, TakesSame};
 ghost use Rattle.timeline.specs.Layout.{end_value_of, IsOpen, TakesOver, IsJoinedTo, IsFinished, IsPainted, IsRefusable, CannotEnd};
@@ -36,7 +36,6 @@ pub(crate) fn make_room<V: TimelineValue, A: Allocator>(
         → changes.old.capacity < length changes.old.entries + 2 }
     ensures err { OnErr result (changes.new ≡ changes.old) }
 {
-    // with its length an arena tells what holds of it
     let needed = changes.len() + 2;
     if needed <= changes.capacity() {
         return Ok(None);
@@ -64,8 +63,6 @@ fn insert_at<V: Drop, A: Allocator>(changes: &mut Changes<V, A>, time: u64, valu
     ensures capacity { changes.new.capacity ≡ changes.old.capacity }
     ensures count { length changes.new.entries ≡ length changes.old.entries + 1 }
 {
-    // with its length an arena tells what holds of it
-    let _ = changes.len();
     match changes.insert(time, value) {
         Ok(p) => p,
         Err((_, ReallocationError::BeyondMaxCapacity)) => unreachable!(),
@@ -90,15 +87,13 @@ fn take_next<V, A: Allocator>(
     p: P0,
     until: Option<u64>,
 ) -> Option<Option<V>>
-    ensures taken { (at : IsAt changes.old.entries p)
-        → TakesNext until at result changes.new.entries }
-    ensures capacity { changes.new.capacity ≡ changes.old.capacity }
+    ensures takes { TakesChange changes.old p
+        (λ at. TakesNext until at result changes.new.entries) changes.new }
     ensures count { OnSome result
         (length changes.old.entries ≡ length changes.new.entries + 1) }
     ensures kept { IfNone result (changes.new ≡ changes.old) }
+    ensures sound { IsSound nat_cmp most_entries changes.new }
 {
-    // with its length an arena tells what holds of it
-    let _ = changes.len();
     let next = changes.next(p)?;
     let time = *changes.key(next)?;
     if !is_reached(until, time) {
@@ -123,8 +118,6 @@ fn take_behind<V: Drop, A: Allocator>(
     while let Some(value) = take_next(changes, p, until) {
         moved = Some(value);
     }
-    // with its length an arena tells what holds of it
-    let _ = changes.len();
     moved
 }
 
@@ -133,8 +126,6 @@ fn take_same<V, A: Allocator>(changes: &mut Changes<V, A>, p: P0, from: u64) -> 
     ensures { TakesChange changes.old p (λ at. TakesSame from at result changes.new.entries)
         changes.new }
 {
-    // with its length an arena tells what holds of it
-    let _ = changes.len();
     let before = changes.prev(p)?;
     if *changes.key(before)? != from {
         return None;
@@ -155,8 +146,6 @@ fn take_over<V: Drop, A: Allocator>(
     ensures { TakesChange changes.old p (λ at. TakesOver from until at result changes.new.entries)
         changes.new }
 {
-    // with its length an arena tells what holds of it
-    let _ = changes.len();
     let moved = take_behind(changes, p, until);
     let same = take_same(changes, p, from);
     match moved {
@@ -177,8 +166,6 @@ fn end_value<V: TimelineValue, A: Allocator>(
     ensures err { (at : IsAt changes.now.entries p) → IfErr result
         (λ _. IsRefusable V.is_infallible at spare taken) }
 {
-    // with its length an arena tells what holds of it
-    let _ = changes.len();
     match (spare, taken) {
         (Some(value), _) => Ok(value),
         (None, Some(value)) => Ok(value),
@@ -190,8 +177,6 @@ fn end_value<V: TimelineValue, A: Allocator>(
 fn join_before<V: TimelineValue, A: Allocator>(changes: &mut Changes<V, A>, p: P0)
     ensures { TakesChange changes.old p (λ at. IsJoinedTo at changes.new.entries) changes.new }
 {
-    // with its length an arena tells what holds of it
-    let _ = changes.len();
     let (before, here) = (changes.prev(p), Some(p));
     if is_same(value_of(changes, before), value_of(changes, here)) {
         let _ = changes.remove(p);
@@ -215,7 +200,7 @@ fn finish<V: TimelineValue, A: Allocator>(
         → OnErr result (changes.new.entries ≡ at.front ++ at.back) }
     ensures capacity { changes.new.capacity ≡ changes.old.capacity }
 {
-    // with its length an arena tells what holds of it
+    // For the prover: the arena is sound.
     let _ = changes.len();
     let after = match end_value(changes, p, spare, taken) {
         Ok(after) => after,
@@ -252,8 +237,6 @@ pub(crate) fn paint<V: TimelineValue, A: Allocator>(
     ensures err { OnErr result (changes_of changes.new ≡ changes_of changes.old) }
     ensures capacity { changes.new.capacity ≡ changes.old.capacity }
 {
-    // with its length an arena tells what holds of it
-    let _ = changes.len();
     let p = insert_at(changes, from, value);
     let taken = take_over(changes, p, from, until);
     match until {

@@ -84,8 +84,6 @@ impl<V, A: Allocator> Timeline<V, A> {
             (λ span. IsWholeSpan self.now.changes time (shown_whole span)) }
         ensures none { IfNone result (value_at self.now.changes time ≡ None) }
     {
-        // with its length an arena tells what holds of it
-        let _ = self.changes.len();
         let (last, next) = around(&self.changes, time);
         match held_from(&self.changes, last) {
             Some((from, value)) => Some(WholeSpan {
@@ -118,7 +116,7 @@ impl<V, A: Allocator> Timeline<V, A> {
         ensures pieces { result ≡ pieces_of self.now.changes from until }
         ensures lawful { IsTimeline self.now }
     {
-        // with its length a timeline tells what holds of it
+        // For the prover: the timeline is lawful.
         let _ = self.len();
         Walk::new(&self.changes, from, until)
     }
@@ -237,7 +235,7 @@ impl<V: TimelineValue, A: Allocator> Timeline<V, A> {
         ensures err { OnErr result (self.new ≡ self.old) }
         ensures lawful { IsTimeline self.new }
     {
-        // with its length a timeline tells what holds of it
+        // For the prover: the timeline is lawful.
         let _ = self.len();
         if is_empty(from, until) {
             return Ok(());
@@ -245,7 +243,7 @@ impl<V: TimelineValue, A: Allocator> Timeline<V, A> {
         let spare = make_room(&mut self.changes, until)?;
         match paint(&mut self.changes, from, until, value, spare) {
             Ok(()) => {
-                // with its length a timeline tells what holds of it
+                // For the prover: the timeline is lawful.
                 let _ = self.len();
                 Ok(())
             }

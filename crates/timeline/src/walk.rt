@@ -50,8 +50,6 @@ impl<'a, V, A: Allocator> Walk<'a, V, A> {
         requires { IsRising (changes_of changes.now) }
         ensures { result ≡ pieces_of (changes_of changes.now) from until }
     {
-        // with its length an arena tells what holds of it
-        let _ = changes.len();
         let (last, next) = around(changes, from);
         Walk {
             changes,
@@ -71,8 +69,6 @@ impl<'a, V, A: Allocator> Walk<'a, V, A> {
             return None;
         }
         let (from, value) = (self.from, self.held);
-        // with its length an arena tells what holds of it
-        let _ = self.changes.len();
         match self.next {
             Some(p) => match self.changes.get(p) {
                 Some((time, next)) => {

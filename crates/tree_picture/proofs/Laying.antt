@@ -1,14 +1,9 @@
 -- The steps of a layout.
-use Rattle.std.proofs.Common.{◌≡◌, ℕ, ◌+◌, Option, Some, List, [], ◌∷◌, ◌++◌, Result, Ok, Err, OnOk, length, ap, ◌∙◌, arith, append_assoc, length-append}
+use Rattle.std.proofs.Common.{◌≡◌, ℕ, ◌+◌, Option, Some, List, [], ◌∷◌, ◌++◌, length, ap, ◌∙◌, arith, append_assoc, length-append}
 use Rattle.triple_ord.specs.Shape.{Shape, node, rank_of, size_of}
 use Rattle.tree_picture.specs.declared.place.{Kind.Kind, Place.Place}
 use Rattle.tree_picture.specs.Layout.{laid, kind_of}
 use Rattle.tree_picture.proofs.LayoutLaws.{length-laid}
-
--- what holds of an `Ok`
-pub on_ok : {X E : Type 0} (r : Result X E) (P Q : Type 0) → OnOk r P → (P → Q) → OnOk r Q
-on_ok (Ok x) P Q holds then_holds = then_holds holds
-on_ok (Err e) P Q holds then_holds = tt
 
 -- the lesser side and the node, appended one after the other
 pub length-node : (old first second : List Place) (depth at : ℕ) (l : Shape) (place : Place) → at ≡ length old + size_of l

@@ -1,5 +1,5 @@
 -- The parts of a shape below its links.
-use Rattle.std.proofs.Common.{◌≡◌, ℕ, ◌≤◌, Option, Some, None, refl, sym, ap, ◌∙◌, arith, inl, inr}
+use Rattle.std.proofs.Common.{◌≡◌, ℕ, ◌≤◌, Option, Some, None, refl, sym, ap, subst, ◌∙◌, arith, inl, inr}
 use Rattle.std.proofs.lemmas.Bool.Decides.{nat_tests}
 use Rattle.triple_ord.specs.{Parents.HasParentUnder, Shape.Shape, Shape.missing, Shape.node, Shape.root_of, Slots.here, Slots.times_in}
 use Rattle.triple_ord.specs.Node.{IsPart}
@@ -9,15 +9,13 @@ use Rattle.tree_picture.specs.Below.{part_at, part_below}
 pub record IsOnceIn (s : Shape) : Type 0 where
   pub once : (j : ℕ) → times_in j s ≤ 1
 
-here-same : (i : ℕ) → here i i ≡ 1
-here-same i = grind (arith, nat_tests)
+here-alike : (i j : ℕ) → i ≡ j → here i j ≡ 1
+here-alike i j same = grind (arith, nat_tests, same)
 
 -- the root of a part occurs in the shape
 occurs : (l r s : Shape) (i k : ℕ) → IsPart (node l i k r) s → 1 ≤ times_in i s
 occurs l r missing i k part = absurd (cc)
-occurs l r (node a j m b) i k (inl whole) =
-    let same : i ≡ j = cc in
-    omega (arith, here-same i, ap (here i) same)
+occurs l r (node a j m b) i k (inl whole) = omega (arith, here-alike i j (cc))
 occurs l r (node a j m b) i k (inr (inl part)) = omega (arith, occurs l r a i k part)
 occurs l r (node a j m b) i k (inr (inr part)) = omega (arith, occurs l r b i k part)
 
@@ -38,7 +36,7 @@ found-lesser l r i j k o some = let few = o.once i in grind (arith, nat_tests)
 found-greater : (l r : Shape) (i j k : ℕ) → IsOnceIn (node l j k r) → 1 ≤ times_in i r → part_at (node l j k r) i ≡ part_at r i
 found-greater l r i j k o some = let few = o.once i in grind (arith, nat_tests)
 
--- a part is found by its root
+-- a node that is part of the shape is found at its index
 part-found : (l r s : Shape) (i k : ℕ) → IsOnceIn s → IsPart (node l i k r) s → part_at s i ≡ node l i k r
 part-found l r missing i k o part = absurd (cc)
 part-found l r (node a j m b) i k o (inl whole) =
@@ -49,41 +47,33 @@ part-found l r (node a j m b) i k o (inr (inl part)) =
 part-found l r (node a j m b) i k o (inr (inr part)) =
     found-greater a b i j m o (occurs l r b i k part) ∙ part-found l r b i k (once-greater a b j m o) part
 
--- a node on a side of a part's root is a part
-module _ (c d : Shape) (h n : ℕ) where
-  lesser-part : (r s : Shape) (i k : ℕ) → IsPart (node (node c h n d) i k r) s → IsPart (node c h n d) s
-  lesser-part r missing i k part = absurd (cc)
-  lesser-part r (node (node e f g x) j m b) i k (inl whole) = inr (inl (inl (cc)))
-  lesser-part r (node missing j m b) i k (inl whole) = absurd (cc)
-  lesser-part r (node a j m b) i k (inr (inl part)) = inr (inl (lesser-part r a i k part))
-  lesser-part r (node a j m b) i k (inr (inr part)) = inr (inr (lesser-part r b i k part))
+-- a shape is part of itself, and both sides of a part are parts
+whole : (s : Shape) → IsPart s s
+whole missing = refl
+whole (node l i k r) = inl refl
 
-  greater-part : (l s : Shape) (i k : ℕ) → IsPart (node l i k (node c h n d)) s → IsPart (node c h n d) s
-  greater-part l missing i k part = absurd (cc)
-  greater-part l (node a j m (node e f g x)) i k (inl whole) = inr (inr (inl (cc)))
-  greater-part l (node a j m missing) i k (inl whole) = absurd (cc)
-  greater-part l (node a j m b) i k (inr (inl part)) = inr (inl (greater-part l a i k part))
-  greater-part l (node a j m b) i k (inr (inr part)) = inr (inr (greater-part l b i k part))
+sides : (l r s : Shape) (i k : ℕ) → IsPart (node l i k r) s → IsPart l s × IsPart r s
+sides l r missing i k part = absurd (cc)
+sides l r (node a j m b) i k (inl same) = subst (λ s. IsPart l s × IsPart r s) same (inr (inl (whole l)), inr (inr (whole r)))
+sides l r (node a j m b) i k (inr (inl part)) = let both = sides l r a i k part in (inr (inl both.0), inr (inl both.1))
+sides l r (node a j m b) i k (inr (inr part)) = let both = sides l r b i k part in (inr (inr both.0), inr (inr both.1))
 
-lesser-found : (l r s : Shape) (i k : ℕ) → IsOnceIn s → IsPart (node l i k r) s → part_below s (root_of l) ≡ l
-lesser-found missing r s i k o part = refl
-lesser-found (node c h n d) r s i k o part = part-found c d s h n o (lesser-part c d h n r s i k part)
-
-greater-found : (l r s : Shape) (i k : ℕ) → IsOnceIn s → IsPart (node l i k r) s → part_below s (root_of r) ≡ r
-greater-found l missing s i k o part = refl
-greater-found l (node c h n d) s i k o part = part-found c d s h n o (greater-part c d h n l s i k part)
+-- a part is found by its root
+root-found : (part s : Shape) → IsOnceIn s → IsPart part s → part_below s (root_of part) ≡ part
+root-found missing s o part = refl
+root-found (node l i k r) s o part = part-found l r s i k o part
 
 -- a node is found with both its sides
 pub node-found : (l r s : Shape) (i k : ℕ) (lesser greater : Option ℕ) → IsOnceIn s → IsPart (node l i k r) s → lesser ≡ root_of l → greater ≡ root_of r
     → part_at s i ≡ node (part_below s lesser) i k (part_below s greater)
 node-found l r s i k lesser greater o part is_lesser is_greater =
-    rw (is_lesser, is_greater, lesser-found l r s i k o part, greater-found l r s i k o part, part-found l r s i k o part) refl
+    let both = sides l r s i k part in
+    rw (is_lesser, is_greater, root-found l s o both.0, root-found r s o both.1, part-found l r s i k o part) refl
 
 -- an index that doesn't occur has no part
 pub none-found : (s : Shape) (i : ℕ) → times_in i s ≡ 0 → part_at s i ≡ missing
 none-found missing i none = refl
-none-found (node a j m b) i none =
-    grind (arith, nat_tests, here-same i, none-found a i, none-found b i)
+none-found (node a j m b) i none = grind (arith, nat_tests, here-alike i i refl, none-found a i, none-found b i)
 
 -- the whole is found by its root
 pub whole-found : (s : Shape) → part_below s (root_of s) ≡ s
@@ -107,7 +97,7 @@ root-alone (node l j k r) i (inr (inr has)) = absurd (under-another r j i has)
 -- what has a parent in a shape occurs in it
 has-occurs : (s : Shape) (above : Option ℕ) (i : ℕ) (p : Option ℕ) → HasParentUnder above s i p → 1 ≤ times_in i s
 has-occurs missing above i p has = absurd has
-has-occurs (node l j k r) above i p (inl at) = omega (arith, here-same i, ap (here i) at.0)
+has-occurs (node l j k r) above i p (inl at) = omega (arith, here-alike i j at.0)
 has-occurs (node l j k r) above i p (inr (inl has)) = omega (arith, has-occurs l (Some j) i p has)
 has-occurs (node l j k r) above i p (inr (inr has)) = omega (arith, has-occurs r (Some j) i p has)
 
@@ -115,16 +105,10 @@ has-occurs (node l j k r) above i p (inr (inr has)) = omega (arith, has-occurs r
 pub root-has-none : (s : Shape) (i : ℕ) (p : Option ℕ) → IsOnceIn s → root_of s ≡ Some i → HasParentUnder None s i p → p ≡ None
 root-has-none missing i p o is has = absurd has
 root-has-none (node l j k r) i p o is (inl at) = at.1
-root-has-none (node l j k r) i p o is (inr (inl has)) =
-    let same : j ≡ i = cc in
-    absurd (omega (arith, o.once i, has-occurs l (Some j) i p has, here-same i, ap (here i) same))
-root-has-none (node l j k r) i p o is (inr (inr has)) =
-    let same : j ≡ i = cc in
-    absurd (omega (arith, o.once i, has-occurs r (Some j) i p has, here-same i, ap (here i) same))
+root-has-none (node l j k r) i p o is (inr (inl has)) = absurd (omega (arith, o.once i, has-occurs l (Some j) i p has, here-alike i j (cc)))
+root-has-none (node l j k r) i p o is (inr (inr has)) = absurd (omega (arith, o.once i, has-occurs r (Some j) i p has, here-alike i j (cc)))
 
 -- the root occurs in its shape
 pub root-occurs : (s : Shape) (i : ℕ) → root_of s ≡ Some i → 1 ≤ times_in i s
 root-occurs missing i is = absurd (cc)
-root-occurs (node l j k r) i is =
-    let same : j ≡ i = cc in
-    omega (arith, here-same i, ap (here i) same)
+root-occurs (node l j k r) i is = omega (arith, here-alike i j (cc))

@@ -1,7 +1,7 @@
-use Rattle.std.proofs.{Common.◌≡◌, Common.◌-◌, Common.◌∙◌, Common.arith, lemmas.Grind.common_steps}
+use Rattle.std.proofs.{Common.◌≡◌, Common.◌-◌, Common.◌∙◌, Common.refl, Common.arith, lemmas.Grind.common_steps}
 use Rattle.order_queue.specs.Queue.{traded}
-use Rattle.order_book.specs.Book.{limit_of, dealt}
-use Rattle.order_book.proofs.{Volumes.settled, Deals.rests-others, Deals.behind-others, Deals.deals-limited, Deals.deals-none}
+use Rattle.order_book.specs.Book.{dealt}
+use Rattle.order_book.proofs.{Deals.rests-others, Deals.deals-settle, Deals.deals-none}
 use Rattle.order_book.proofs.settling.settle.Goals as goal
 
 pub returns-in_default-clause-memory : goal.returns-in_default-clause-memory
@@ -14,18 +14,7 @@ pub returns-in-Ok-rest-clause-settles : goal.returns-in-Ok-rest-clause-settles
 returns-in-Ok-rest-clause-settles g c =
     let q = c.args.other.now in
     let amount : c.args.order.quantity - c.in-Ok.left ≡ dealt q c.args.order = omega (arith, rw c.limit-price.ensures at c.in-Ok.ensures.left) in
-    record {
-      names = grind (arith, common_steps);
-      taken = grind (arith, common_steps);
-      trades = grind (arith, common_steps);
-      bought = grind (arith, settled);
-      sold = grind (arith, settled);
-      others = λ p untraded. rw (c.take.ensures, amount) (behind-others q.side p (dealt q c.args.order) q.orders c.offer.ensures.sound.of_side c.offer.ensures.sound.some_left untraded);
-      limited = deals-limited q (limit_of c.args.order.side c.args.order.kind) c.args.order.quantity c.offer.ensures.sound.in_order;
-      own_kept = tt;
-      other_kept = tt;
-      trades_kept = tt;
-    }
+    deals-settle c.args.own.now q _ _ c.args.order _ _ c.in-Ok-rest.id c.offer.ensures.sound (grind (arith, common_steps)) (rw (c.take.ensures, amount) refl) (grind (arith, common_steps))
 
 pub returns-in-Err-clause-full : goal.returns-in-Err-clause-full
 returns-in-Err-clause-full g c = grind (arith, common_steps)

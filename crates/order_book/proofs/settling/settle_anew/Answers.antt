@@ -1,8 +1,7 @@
-use Rattle.std.proofs.{Common.◌≡◌, Common.◌≢◌, Common.◌-◌, Common.◌∙◌, Common.Some, Common.sym, Common.subst, Common.arith, lemmas.Grind.common_steps}
+use Rattle.std.proofs.{Common.◌≡◌, Common.◌≢◌, Common.◌-◌, Common.◌∙◌, Common.Some, Common.sym, Common.subst, Common.refl, Common.arith, lemmas.Grind.common_steps}
 use Rattle.order_queue.specs.declared.side.Side.{Side}
-use Rattle.order_book.specs.Book.{limit_of, dealt}
-use Rattle.order_book.proofs.Volumes.{settled}
-use Rattle.order_book.proofs.Deals.{id_of, side-left, rests-others, behind-others, deals-limited}
+use Rattle.order_book.specs.Book.{dealt}
+use Rattle.order_book.proofs.Deals.{id_of, side-left, rests-others, deals-settle}
 use Rattle.order_book.proofs.settling.settle_anew.Goals as goal
 
 pub unreachable-requires : goal.unreachable-requires
@@ -13,24 +12,13 @@ returns-clause-rests g c = grind (arith, common_steps)
 
 pub returns-clause-own_others : goal.returns-clause-own_others
 returns-clause-own_others g c = λ p other apart.
-    let side = side-left c.remove.result c.args.own.now c.remove.new.self c.args.pointer c.remove.ensures.gone c.remove.ensures.none in
+    let side = side-left c.remove.result c.args.own.now c.remove.new.self c.args.pointer c.remove.ensures.gone c.remove.ensures.changes.none in
     rests-others c.remove.new.self c.rest.new.own c.limit-price.result c.rest_of.result c.args.order.tag c.in-Ok.id c.in-Ok.ensures.rests p
     (subst (λ (s : Side). Some (id_of s p) ≢ c.in-Ok.id) (sym side) other)
-    ∙ c.remove.ensures.updates.others p apart
+    ∙ c.remove.ensures.changes.updates.others p apart
 
 pub returns-clause-settles : goal.returns-clause-settles
 returns-clause-settles g c =
     let q = c.args.other.now in
     let amount : c.args.order.quantity - c.in_ok-left.left ≡ dealt q c.args.order = omega (arith, rw c.limit-price.ensures at c.in_ok-left.ensures.left) in
-    record {
-      names = grind (arith, common_steps);
-      taken = grind (arith, common_steps);
-      trades = grind (arith, common_steps);
-      bought = grind (arith, settled);
-      sold = grind (arith, settled);
-      others = λ p untraded. rw (c.take.ensures, amount) (behind-others q.side p (dealt q c.args.order) q.orders c.offer.ensures.sound.of_side c.offer.ensures.sound.some_left untraded);
-      limited = deals-limited q (limit_of c.args.order.side c.args.order.kind) c.args.order.quantity c.offer.ensures.sound.in_order;
-      own_kept = tt;
-      other_kept = tt;
-      trades_kept = tt;
-    }
+    deals-settle c.args.own.now q _ _ c.args.order _ _ c.in-Ok.id c.offer.ensures.sound (grind (arith, common_steps)) (rw (c.take.ensures, amount) refl) (grind (arith, common_steps))

@@ -8,7 +8,7 @@ use Rattle.timeline.proofs.paint.join_before.Goals as goal
 pub returns-then-is_same : goal.returns-then-is_same
 returns-then-is_same g c =
     let es = c.args.changes.now.entries in
-    let distinct = c.len.ensures.sound.distinct in
+    let distinct = c.prev-before.ensures.sound.distinct in
     record {
       taken = λ at.
           let found = found-there es distinct c.args.p at in
@@ -23,7 +23,7 @@ returns-then-is_same g c =
 pub returns-else-is_same : goal.returns-else-is_same
 returns-else-is_same g c =
     let es = c.args.changes.now.entries in
-    let distinct = c.len.ensures.sound.distinct in
+    let distinct = c.prev-before.ensures.sound.distinct in
     record {
       taken = λ at.
           let found = found-there es distinct c.args.p at in

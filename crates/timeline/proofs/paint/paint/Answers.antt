@@ -1,4 +1,4 @@
-use Rattle.std.proofs.Common.{subst, Option, ℕ, IfSome, ◌<◌}
+use Rattle.std.proofs.Common.{subst, rules, Option, ℕ, IfSome, ◌<◌}
 use Rattle.timeline.specs.Layout.{changes_of}
 use Rattle.timeline.proofs.Painting.{IsCleared, at_put, cleared, painted-none, painted-some, painted-refused, painted-kept, stands}
 use Rattle.timeline.proofs.paint.paint.Given.{Over}
@@ -14,24 +14,17 @@ cleared-put g c =
     cleared c.args.changes.now c.insert_at-p.new.changes c.insert_at-p.result c.args.from c.args.until c.args.value inserted c.requires.rising c.requires.later
     c.take_over-taken.result c.take_over-taken.new.changes.entries over
 
-pub returns-in-Some-clause-painted : goal.returns-in-Some-clause-painted
-returns-in-Some-clause-painted g c =
-    let clear = cleared-put g (goal.at.returns-in-Some-clause-painted g c).After-take_over-taken in
+pub returns-in-Some : goal.returns-in-Some
+returns-in-Some g c =
+    let clear = cleared-put g (goal.at.returns-in-Some g c).After-take_over-taken in
     let ordered = subst (λ (o : Option ℕ). IfSome o (λ u. c.args.from < u)) c.in-Some.is c.requires.later in
-    painted-some (changes_of c.args.changes.now) c.requires.rising c.args.from c.args.until c.args.value c.take_over-taken.result c.take_over-taken.new.changes.entries c.insert_at-p.result clear c.in-Some.until c.in-Some.is ordered c.args.spare c.requires.spare (changes_of c.finish.new.changes) c.finish.result
-    (c.finish.ensures.finished (stands (changes_of c.args.changes.now) c.requires.rising c.args.from c.args.until c.args.value c.take_over-taken.result c.take_over-taken.new.changes.entries c.insert_at-p.result clear c.in-Some.until c.in-Some.is ordered))
-
-pub returns-in-Some-clause-refused : goal.returns-in-Some-clause-refused
-returns-in-Some-clause-refused g c =
-    let clear = cleared-put g (goal.at.returns-in-Some-clause-refused g c).After-take_over-taken in
-    let ordered = subst (λ (o : Option ℕ). IfSome o (λ u. c.args.from < u)) c.in-Some.is c.requires.later in
-    painted-refused (changes_of c.args.changes.now) c.requires.rising c.args.from c.args.until c.args.value c.take_over-taken.result c.take_over-taken.new.changes.entries c.insert_at-p.result clear c.in-Some.until c.in-Some.is ordered g.V.Clone.is_infallible c.args.spare c.finish.result (c.finish.ensures.refused clear.at)
-
-pub returns-in-Some-clause-err : goal.returns-in-Some-clause-err
-returns-in-Some-clause-err g c =
-    let clear = cleared-put g (goal.at.returns-in-Some-clause-err g c).After-take_over-taken in
-    let ordered = subst (λ (o : Option ℕ). IfSome o (λ u. c.args.from < u)) c.in-Some.is c.requires.later in
-    painted-kept (changes_of c.args.changes.now) c.requires.rising c.args.from c.args.until c.args.value c.take_over-taken.result c.take_over-taken.new.changes.entries c.insert_at-p.result clear c.in-Some.until c.in-Some.is ordered g.V.Clone.is_infallible c.args.spare c.finish.new.changes.entries c.finish.result (c.finish.ensures.refused clear.at) (c.finish.ensures.err clear.at)
+    record {
+      painted = painted-some (changes_of c.args.changes.now) c.requires.rising c.args.from c.args.until c.args.value c.take_over-taken.result c.take_over-taken.new.changes.entries c.insert_at-p.result clear c.in-Some.until c.in-Some.is ordered c.args.spare c.requires.spare (changes_of c.finish.new.changes) c.finish.result
+          (c.finish.ensures.finished (stands (changes_of c.args.changes.now) c.requires.rising c.args.from c.args.until c.args.value c.take_over-taken.result c.take_over-taken.new.changes.entries c.insert_at-p.result clear c.in-Some.until c.in-Some.is ordered));
+      refused = painted-refused (changes_of c.args.changes.now) c.requires.rising c.args.from c.args.until c.args.value c.take_over-taken.result c.take_over-taken.new.changes.entries c.insert_at-p.result clear c.in-Some.until c.in-Some.is ordered g.V.Clone.is_infallible c.args.spare c.finish.result (c.finish.ensures.refused clear.at);
+      err = painted-kept (changes_of c.args.changes.now) c.requires.rising c.args.from c.args.until c.args.value c.take_over-taken.result c.take_over-taken.new.changes.entries c.insert_at-p.result clear c.in-Some.until c.in-Some.is ordered g.V.Clone.is_infallible c.args.spare c.finish.new.changes.entries c.finish.result (c.finish.ensures.refused clear.at) (c.finish.ensures.err clear.at);
+      capacity = search rules;
+    }
 
 pub returns-in-None-clause-painted : goal.returns-in-None-clause-painted
 returns-in-None-clause-painted g c =

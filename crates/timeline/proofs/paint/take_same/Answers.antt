@@ -5,14 +5,14 @@ use Rattle.timeline.proofs.paint.take_same.Goals as goal
 
 pub returns-in_err-before : goal.returns-in_err-before
 returns-in_err-before g c = record {
-  taken = λ at. rw c.from_residual.ensures (none-before c.args.changes.now.entries c.len.ensures.sound.distinct c.args.p at c.args.from c.in_err-before.ensures.value);
+  taken = λ at. rw c.from_residual.ensures (none-before c.args.changes.now.entries c.in_err-before.ensures.sound.distinct c.args.p at c.args.from c.in_err-before.ensures.value);
   capacity = refl;
   count = omega arith;
 }
 
 pub returns-then-branch-from : goal.returns-then-branch-from
 returns-then-branch-from g c = record {
-  taken = λ at. (refl, apart-before c.args.changes.now.entries c.len.ensures.sound.distinct c.args.p at c.args.from c.in_ok-before.before c.in_ok-key.field-0.now c.in_ok-before.ensures.value c.in_ok-key.ensures c.if-branch-from.true);
+  taken = λ at. (refl, apart-before c.args.changes.now.entries c.in_ok-before.ensures.sound.distinct c.args.p at c.args.from c.in_ok-before.before c.in_ok-key.field-0.now c.in_ok-before.ensures.value c.in_ok-key.ensures c.if-branch-from.true);
   capacity = refl;
   count = omega arith;
 }
@@ -20,7 +20,7 @@ returns-then-branch-from g c = record {
 pub returns-in-Some : goal.returns-in-Some
 returns-in-Some g c = record {
   taken = λ at.
-      takes-same c.args.changes.now.entries c.len.ensures.sound.distinct c.args.p at c.args.from c.in_ok-before.before c.in_ok-key.field-0.now c.in_ok-before.ensures.value c.in_ok-key.ensures c.if-branch-from.false
+      takes-same c.args.changes.now.entries c.in_ok-before.ensures.sound.distinct c.args.p at c.args.from c.in_ok-before.before c.in_ok-key.field-0.now c.in_ok-before.ensures.value c.in_ok-key.ensures c.if-branch-from.false
       (c.in-Some.field-0-0, c.in-Some.value) c.in-Some.ensures.value c.remove.new.self.entries (ap (λ a. a.entries) c.in-Some.ensures.removes.gone);
   capacity = search rules;
   count = grind (arith, common_steps);

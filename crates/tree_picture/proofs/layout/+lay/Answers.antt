@@ -1,7 +1,8 @@
 use Rattle.std.proofs.Common.{◌≡◌, ◌+◌, option_map, length, ap, arith, rules}
+use Rattle.std.proofs.lemmas.Result.{on_ok_weaker}
 use Rattle.triple_ord.specs.Shape.{rank_of, size_of, height}
 use Rattle.tree_picture.specs.{Below.part_below, Layout.kind_of}
-use Rattle.tree_picture.proofs.Laying.{laid-node, length-node, on_ok}
+use Rattle.tree_picture.proofs.Laying.{laid-node, length-node}
 use Rattle.tree_picture.proofs.layout.+lay.Goals as goal
 
 pub lay-requires-2 : goal.lay-requires-2
@@ -22,6 +23,6 @@ returns g t c =
     let kind : c.kind_of.result ≡ kind_of c.in-Some-branch_at.branch.rank (rank_of l) (rank_of r) =
     rw (← c.extent_below-lesser.ensures.rank, ← c.extent_below-greater.ensures.rank) c.kind_of.ensures in
     rw (c.in-Some.is, c.in-Some-branch_at.ensures)
-    (on_ok c.lay-2.result _ _ c.lay-2.ensures
+    (on_ok_weaker c.lay-2.result
     (laid-node c.args.places.now.items c.lay.new.places.items c.push.new.self.items c.lay-2.new.places.items c.args.depth
-    (c.len.result + c.extent_below-lesser.result.nodes) (g.P.Inx.BasePtrInx.number c.in-Some.i) c.in-Some-branch_at.branch.rank c.args.above l r c.kind_of.result is c.in_ok-lay.ensures c.in_ok-push.ensures.items kind))
+    (c.len.result + c.extent_below-lesser.result.nodes) (g.P.Inx.BasePtrInx.number c.in-Some.i) c.in-Some-branch_at.branch.rank c.args.above l r c.kind_of.result is c.in_ok-lay.ensures c.in_ok-push.ensures.items kind) c.lay-2.ensures)

@@ -11,14 +11,8 @@ invariant_of-self g c =
     let asks = c.self.inside.asks in
     let settled = c.settle-settled in
     let lawful : IsBook (record { bids = bids; asks = asks }) = subst (λ (b : Book). IsBook b) (sym c.self.view_is) c.count.ensures.lawful in
-    pair-settled_bid bids asks settled.new.own settled.new.other c.self.invariant c.args.order bids c.self.invariant settled.result
-    (record {
-      in_order = lawful.asks.in_order;
-      rests = settled.ensures.rests;
-      taken = settled.ensures.settles.taken;
-      own_kept = settled.ensures.settles.own_kept;
-      other_kept = settled.ensures.settles.other_kept;
-    })
+    pair-settled_bid bids asks settled.new.own settled.new.other c.self.invariant c.args.order _ _ bids c.self.invariant settled.result
+    lawful.asks.in_order settled.ensures.rests settled.ensures.settles
 
 pub invariant_of-self-in-Sell : goal.invariant_of-self-in-Sell
 invariant_of-self-in-Sell g c =
@@ -26,14 +20,8 @@ invariant_of-self-in-Sell g c =
     let asks = c.self.inside.asks in
     let settled = c.settle-settled-in-Sell in
     let lawful : IsBook (record { bids = bids; asks = asks }) = subst (λ (b : Book). IsBook b) (sym c.self.view_is) c.count.ensures.lawful in
-    pair-settled_ask bids asks settled.new.other settled.new.own c.self.invariant c.args.order asks c.self.invariant settled.result
-    (record {
-      in_order = lawful.bids.in_order;
-      rests = settled.ensures.rests;
-      taken = settled.ensures.settles.taken;
-      own_kept = settled.ensures.settles.own_kept;
-      other_kept = settled.ensures.settles.other_kept;
-    })
+    pair-settled_ask bids asks settled.new.other settled.new.own c.self.invariant c.args.order _ _ asks c.self.invariant settled.result
+    lawful.bids.in_order settled.ensures.rests settled.ensures.settles
 
 pub returns-in-Ok-clause-steps : goal.returns-in-Ok-clause-steps
 returns-in-Ok-clause-steps g c =

@@ -13,14 +13,8 @@ invariant_of-self g c =
     let asks = c.self.inside.asks in
     let settled = c.settle_anew-settled in
     let lawful : IsBook (record { bids = bids; asks = asks }) = subst (λ (b : Book). IsBook b) (sym c.self.view_is) c.count.ensures.lawful in
-    pair-settled_bid bids asks settled.new.own settled.new.other c.self.invariant (record { side = c.side-2.result; kind = Limit c.args.price; quantity = c.args.quantity; tag = c.in-Some.old.tag }) (with_left bids c.pointer-pointer.result) (pair-without_bid bids asks c.self.invariant c.pointer-pointer.result) settled.result
-    (record {
-      in_order = lawful.asks.in_order;
-      rests = settled.ensures.rests;
-      taken = settled.ensures.settles.taken;
-      own_kept = settled.ensures.settles.own_kept;
-      other_kept = settled.ensures.settles.other_kept;
-    })
+    pair-settled_bid bids asks settled.new.own settled.new.other c.self.invariant (record { side = c.side-2.result; kind = Limit c.args.price; quantity = c.args.quantity; tag = c.in-Some.old.tag }) _ _ (with_left bids c.pointer-pointer.result) (pair-without_bid bids asks c.self.invariant c.pointer-pointer.result) settled.result
+    lawful.asks.in_order settled.ensures.rests settled.ensures.settles
 
 pub invariant_of-self-in-Sell : goal.invariant_of-self-in-Sell
 invariant_of-self-in-Sell g c =
@@ -28,14 +22,8 @@ invariant_of-self-in-Sell g c =
     let asks = c.self.inside.asks in
     let settled = c.settle_anew-settled-in-Sell in
     let lawful : IsBook (record { bids = bids; asks = asks }) = subst (λ (b : Book). IsBook b) (sym c.self.view_is) c.count.ensures.lawful in
-    pair-settled_ask bids asks settled.new.other settled.new.own c.self.invariant (record { side = c.side-2.result; kind = Limit c.args.price; quantity = c.args.quantity; tag = c.in-Some.old.tag }) (with_left asks c.pointer-pointer.result) (pair-without_ask bids asks c.self.invariant c.pointer-pointer.result) settled.result
-    (record {
-      in_order = lawful.bids.in_order;
-      rests = settled.ensures.rests;
-      taken = settled.ensures.settles.taken;
-      own_kept = settled.ensures.settles.own_kept;
-      other_kept = settled.ensures.settles.other_kept;
-    })
+    pair-settled_ask bids asks settled.new.other settled.new.own c.self.invariant (record { side = c.side-2.result; kind = Limit c.args.price; quantity = c.args.quantity; tag = c.in-Some.old.tag }) _ _ (with_left asks c.pointer-pointer.result) (pair-without_ask bids asks c.self.invariant c.pointer-pointer.result) settled.result
+    lawful.bids.in_order settled.ensures.rests settled.ensures.settles
 
 pub returns-in-Ok-clause-steps : goal.returns-in-Ok-clause-steps
 returns-in-Ok-clause-steps g c =

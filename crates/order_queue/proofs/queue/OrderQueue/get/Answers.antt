@@ -5,10 +5,10 @@ use Rattle.order_queue.proofs.queue.OrderQueue.get.Goals as goal
 
 pub returns-in_err-rank : goal.returns-in_err-rank
 returns-in_err-rank g c =
-    rw (← c.self.view_is) (c.from_residual.ensures ∙ sym (order_of-found c.self.inside.side c.self.inside.orders.entries c.len.ensures.sound.distinct c.args.pointer
+    rw (← c.self.view_is) (c.from_residual.ensures ∙ sym (order_of-found c.self.inside.side c.self.inside.orders.entries c.self.invariant.distinct c.args.pointer
     ∙ ap (option_map (order_under c.self.inside.side c.args.pointer)) (sym c.in_err-rank.ensures)))
 
 pub returns : goal.returns
 returns g c =
-    rw (← c.self.view_is, c.order_at.ensures) (sym (order_of-found c.self.inside.side c.self.inside.orders.entries c.len.ensures.sound.distinct c.args.pointer
+    rw (← c.self.view_is, c.order_at.ensures) (sym (order_of-found c.self.inside.side c.self.inside.orders.entries c.self.invariant.distinct c.args.pointer
     ∙ ap (option_map (order_under c.self.inside.side c.args.pointer)) (sym c.in_ok-rank.ensures)))

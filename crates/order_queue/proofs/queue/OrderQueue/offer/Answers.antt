@@ -1,6 +1,6 @@
 use Rattle.std.proofs.Common.{◌≡◌, ◌<◌, List, [], ◌∷◌, ◌++◌, length, take, true, false, Result, Ok, Err, OnErr, is_ok, is_err, if◌then◌else◌, sym, ap, ◌∙◌, arith, rules}
 use Rattle.order_queue.specs.{Layout.queue_of, Queue.Queue, Queue.meets, Queue.trade_with}
-use Rattle.order_queue.proofs.Trading.{IsOffering, offering-start, offering-next, left-done, trades-done, done-ended, done-filled, done-missed, room-wanted, front-kept}
+use Rattle.order_queue.proofs.Trading.{IsOffering, offering-start, offering-next, offer-done, done-ended, done-filled, done-missed, room-wanted, front-kept}
 use Rattle.order_queue.proofs.queue.OrderQueue.offer.Goals as goal
 
 -- what a push leaves that went well or was refused
@@ -24,45 +24,27 @@ loop-order-init g c =
       room = omega arith;
     }
 
-pub returns-in-None-clause-left : goal.returns-in-None-clause-left
-returns-in-None-clause-left g c =
-    left-done c.args.self.now c.args.limit c.args.quantity c.args.trades.now.items c.loop-order.left c.loop-order.trades.items c.loop-order.order-iterator c.loop-order.invariant.offering
-    (done-ended c.args.self.now c.args.limit c.args.quantity c.args.trades.now.items c.loop-order.left c.loop-order.trades.items c.loop-order.order-iterator c.in-None.ensures.steps.0)
+pub returns-in-None : goal.returns-in-None
+returns-in-None g c =
+    let done = offer-done c.args.self.now c.args.limit c.args.quantity c.args.trades.now.items c.loop-order.left c.loop-order.trades.items c.loop-order.order-iterator c.loop-order.invariant.offering
+    (done-ended c.args.self.now c.args.limit c.args.quantity c.args.trades.now.items c.loop-order.left c.loop-order.trades.items c.loop-order.order-iterator c.in-None.ensures.steps.0) in
+    record { left = done.0; trades = done.1; memory = tt; err = tt; sound = search rules }
 
-pub returns-in-None-clause-trades : goal.returns-in-None-clause-trades
-returns-in-None-clause-trades g c =
-    trades-done c.args.self.now c.args.limit c.args.quantity c.args.trades.now.items c.loop-order.left c.loop-order.trades.items c.loop-order.order-iterator c.loop-order.invariant.offering
-    (done-ended c.args.self.now c.args.limit c.args.quantity c.args.trades.now.items c.loop-order.left c.loop-order.trades.items c.loop-order.order-iterator c.in-None.ensures.steps.0)
+pub returns-then-left-eq0 : goal.returns-then-left-eq0
+returns-then-left-eq0 g c =
+    let done = offer-done c.args.self.now c.args.limit c.args.quantity c.args.trades.now.items c.loop-order.left c.loop-order.trades.items c.loop-order.order-iterator c.loop-order.invariant.offering
+    (done-filled c.args.self.now c.args.limit c.args.quantity c.args.trades.now.items c.loop-order.left c.loop-order.trades.items c.loop-order.order-iterator c.if-left-eq0.true) in
+    record { left = done.0; trades = done.1; memory = tt; err = tt; sound = search rules }
 
-pub returns-then-left-eq0-clause-left : goal.returns-then-left-eq0-clause-left
-returns-then-left-eq0-clause-left g c =
-    left-done c.args.self.now c.args.limit c.args.quantity c.args.trades.now.items c.loop-order.left c.loop-order.trades.items c.loop-order.order-iterator c.loop-order.invariant.offering
-    (done-filled c.args.self.now c.args.limit c.args.quantity c.args.trades.now.items c.loop-order.left c.loop-order.trades.items c.loop-order.order-iterator c.if-left-eq0.true)
-
-pub returns-then-left-eq0-clause-trades : goal.returns-then-left-eq0-clause-trades
-returns-then-left-eq0-clause-trades g c =
-    trades-done c.args.self.now c.args.limit c.args.quantity c.args.trades.now.items c.loop-order.left c.loop-order.trades.items c.loop-order.order-iterator c.loop-order.invariant.offering
-    (done-filled c.args.self.now c.args.limit c.args.quantity c.args.trades.now.items c.loop-order.left c.loop-order.trades.items c.loop-order.order-iterator c.if-left-eq0.true)
-
-pub returns-then-not-meets-clause-left : goal.returns-then-not-meets-clause-left
-returns-then-not-meets-clause-left g c =
+pub returns-then-not-meets : goal.returns-then-not-meets
+returns-then-not-meets g c =
     let q : Queue = queue_of c.self.inside.side c.self.inside.orders in
     let x = c.in-Some.order in
     let now : IsOffering q c.args.limit c.args.quantity c.args.trades.now.items c.loop-order.left c.loop-order.trades.items (x ∷ c.next.new.self) =
     rw (c.self.view_is, ← c.in-Some.ensures.steps) c.loop-order.invariant.offering in
-    let misses : meets q.side x.price c.args.limit ≡ false = sym c.if-not-meets.ensures in
-    rw (← c.self.view_is) (left-done q c.args.limit c.args.quantity c.args.trades.now.items c.loop-order.left c.loop-order.trades.items (x ∷ c.next.new.self) now
-    (done-missed q c.args.limit c.args.quantity c.args.trades.now.items c.loop-order.left c.loop-order.trades.items x c.next.new.self now misses))
-
-pub returns-then-not-meets-clause-trades : goal.returns-then-not-meets-clause-trades
-returns-then-not-meets-clause-trades g c =
-    let q : Queue = queue_of c.self.inside.side c.self.inside.orders in
-    let x = c.in-Some.order in
-    let now : IsOffering q c.args.limit c.args.quantity c.args.trades.now.items c.loop-order.left c.loop-order.trades.items (x ∷ c.next.new.self) =
-    rw (c.self.view_is, ← c.in-Some.ensures.steps) c.loop-order.invariant.offering in
-    let misses : meets q.side x.price c.args.limit ≡ false = sym c.if-not-meets.ensures in
-    rw (← c.self.view_is) (trades-done q c.args.limit c.args.quantity c.args.trades.now.items c.loop-order.left c.loop-order.trades.items (x ∷ c.next.new.self) now
-    (done-missed q c.args.limit c.args.quantity c.args.trades.now.items c.loop-order.left c.loop-order.trades.items x c.next.new.self now misses))
+    let done = offer-done q c.args.limit c.args.quantity c.args.trades.now.items c.loop-order.left c.loop-order.trades.items (x ∷ c.next.new.self) now
+    (done-missed q c.args.limit c.args.quantity c.args.trades.now.items c.loop-order.left c.loop-order.trades.items x c.next.new.self now (sym c.if-not-meets.ensures)) in
+    record { left = rw (← c.self.view_is) done.0; trades = rw (← c.self.view_is) done.1; memory = tt; err = tt; sound = search rules }
 
 pub loop-order-preserved : goal.loop-order-preserved
 loop-order-preserved g c =

@@ -1,6 +1,6 @@
 use Rattle.std.proofs.Common.{◌≡◌, ◌<◌, ◌+◌, ◌∷◌, [], ◌++◌, true, false, sym, arith, rules}
 use Rattle.order_queue.specs.{Layout.queue_of, Queue.Queue, Queue.meets, Queue.traded, Queue.trade_with}
-use Rattle.order_queue.proofs.Trading.{IsOffering, offering-start, offering-next, left-done, done-ended, done-filled, done-missed}
+use Rattle.order_queue.proofs.Trading.{IsOffering, offering-start, offering-next, offer-done, done-ended, done-filled, done-missed}
 use Rattle.order_queue.proofs.queue.OrderQueue.offered.Goals as goal
 use Rattle.order_queue.proofs.queue.OrderQueue.offered.Goals.{in-None, in-Some+then-left-eq0, in-Some+else-left-eq0+then-not-meets}
 
@@ -39,13 +39,13 @@ returns g c =
     let coming = c.loop-order.order-iterator in
     let here = c.loop-order.invariant.offering.1 in
     let whole : left + traded q limit quantity ≡ quantity = elim c.match-next.branch [
-      | in-None w ↦ left-done q limit quantity [] left trades coming here (done-ended q limit quantity [] left trades coming w.in-None.ensures.steps.0)
-      | in-Some+then-left-eq0 w ↦ left-done q limit quantity [] left trades coming here (done-filled q limit quantity [] left trades coming w.if-left-eq0.true)
+      | in-None w ↦ (offer-done q limit quantity [] left trades coming here (done-ended q limit quantity [] left trades coming w.in-None.ensures.steps.0)).0
+      | in-Some+then-left-eq0 w ↦ (offer-done q limit quantity [] left trades coming here (done-filled q limit quantity [] left trades coming w.if-left-eq0.true)).0
       | in-Some+else-left-eq0+then-not-meets w ↦
           let p : Queue = queue_of c.self.inside.side c.self.inside.orders in
           let x = w.in-Some.order in
           let now : IsOffering p limit quantity [] left trades (x ∷ c.next.new.self) = rw (c.self.view_is, ← w.in-Some.ensures.steps) here in
           let misses : meets p.side x.price limit ≡ false = sym w.if-not-meets.ensures in
-          rw (← c.self.view_is) (left-done p limit quantity [] left trades (x ∷ c.next.new.self) now (done-missed p limit quantity [] left trades x c.next.new.self now misses))
+          rw (← c.self.view_is) ((offer-done p limit quantity [] left trades (x ∷ c.next.new.self) now (done-missed p limit quantity [] left trades x c.next.new.self now misses)).0)
     ] in
     omega (arith, whole)

@@ -11,13 +11,13 @@ returns-then-self-clause-none g c =
 
 pub unreachable-requires : goal.unreachable-requires
 unreachable-requires g c =
-    walked-lost c.self.inside.changes.now.entries c.len.ensures.sound.distinct c.self.inside.next c.self.invariant (option_copied c.self.inside.held) c.self.inside.from c.self.inside.until c.if-self.false
+    walked-lost c.self.inside.changes.now.entries c.self.invariant.distinct c.self.inside.next c.self.invariant (option_copied c.self.inside.held) c.self.inside.from c.self.inside.until c.if-self.false
     c.in-Some.p c.in-Some.is c.in-None-get.ensures
 
 pub invariant_of-self : goal.invariant_of-self
 invariant_of-self g c = elim c.match-self.branch [
   | in-Some+in-Some-get+then-time-self w ↦
-      rw w.self-inside-is (walked-behind c.self.inside.changes.now.entries c.len.ensures.sound.distinct c.self.inside.next c.self.invariant (option_copied c.self.inside.held) c.self.inside.from c.self.inside.until c.if-self.false
+      rw w.self-inside-is (walked-behind c.self.inside.changes.now.entries c.self.invariant.distinct c.self.inside.next c.self.invariant (option_copied c.self.inside.held) c.self.inside.from c.self.inside.until c.if-self.false
       w.in-Some.p w.in-Some.is w.next-self-inside.result w.next-self-inside.ensures.value)
   | in-Some+in-Some-get+else-time-self w ↦ rw w.self-inside-is c.self.invariant
   | in-None w ↦ rw w.self-inside-is c.self.invariant
@@ -26,11 +26,11 @@ invariant_of-self g c = elim c.match-self.branch [
 pub returns-clause-some : goal.returns-clause-some
 returns-clause-some g c = sym c.self.view_is ∙ elim c.match-self.branch [
   | in-Some+in-Some-get+then-time-self w ↦
-      rw w.self-inside-is (walked c.self.inside.changes.now.entries c.len.ensures.sound.distinct c.self.inside.next c.self.invariant (option_copied c.self.inside.held) c.self.inside.from c.self.inside.until c.if-self.false
+      rw w.self-inside-is (walked c.self.inside.changes.now.entries c.self.invariant.distinct c.self.inside.next c.self.invariant (option_copied c.self.inside.held) c.self.inside.from c.self.inside.until c.if-self.false
       w.in-Some.p w.in-Some.is (w.in-Some-get.time.now, w.in-Some-get.next.now) w.in-Some-get.ensures w.if-time-self.true w.next-self-inside.result w.next-self-inside.ensures.value _ w.as_ref-self-inside.ensures.value)
   | in-Some+in-Some-get+else-time-self w ↦
-      rw w.self-inside-is (walked-far c.self.inside.changes.now.entries c.len.ensures.sound.distinct c.self.inside.next c.self.invariant (option_copied c.self.inside.held) c.self.inside.from c.self.inside.until c.if-self.false
+      rw w.self-inside-is (walked-far c.self.inside.changes.now.entries c.self.invariant.distinct c.self.inside.next c.self.invariant (option_copied c.self.inside.held) c.self.inside.from c.self.inside.until c.if-self.false
       w.in-Some.p w.in-Some.is (w.in-Some-get.time.now, w.in-Some-get.next.now) w.in-Some-get.ensures w.if-time-self.false)
   | in-None w ↦
-      rw w.self-inside-is (walked-end c.self.inside.changes.now.entries c.len.ensures.sound.distinct c.self.inside.next c.self.invariant (option_copied c.self.inside.held) c.self.inside.from c.self.inside.until c.if-self.false w.in-None.is)
+      rw w.self-inside-is (walked-end c.self.inside.changes.now.entries c.self.invariant.distinct c.self.inside.next c.self.invariant (option_copied c.self.inside.held) c.self.inside.from c.self.inside.until c.if-self.false w.in-None.is)
 ]
