@@ -6,12 +6,11 @@ use Rattle.triple_ord.specs.Chain.{Entry, Chain, times, IsSound}
 use Rattle.triple_ord.specs.Insert.{IsInsertion}
 use Rattle.triple_ord.proofs.ChainLemmas.{after-insertion, entry_at-absent}
 use Rattle.triple_ord.specs.Tree.{Tree}
-use Rattle.triple_ord.specs.Insertion.{with_room_by, InsertsNew}
+use Rattle.triple_ord.specs.Insertion.{with_room_by}
 use Rattle.triple_ord.specs.declared.growth.Growth.{Growth}
 use Rattle.triple_ord.specs.{Gap.Gap, Gap.before, Gap.after, Gap.with_between}
-use Rattle.triple_ord.specs.{Place.behind_key}
 use Rattle.triple_ord.proofs.CallerLemmas.{entries-with_room_by, numbers-with_room_by, numbers-inserted, capacity-inserted}
-use Rattle.agenda.specs.Layout.{scheduled, deadline_of, agenda_of, IsArenaOfJobs}
+use Rattle.agenda.specs.Layout.{scheduled, agenda_of, IsArenaOfJobs, PutsBehind}
 use Rattle.triple_ord.specs.PlainArena.{doubled_capacity}
 use Rattle.agenda.specs.Agenda.{greatest_generation, Schedules, IsInOrder, most_entries, count}
 use Rattle.agenda.proofs.Deadlines.{in_order-between, in_order-back, none-later, all-later}
@@ -69,11 +68,12 @@ module _ {J : Type 0} (growth : Growth) (old new : Tree (ℕ × J)) (d : ℕ) (j
     }
 
 -- what an insertion behind its deadline makes of an agenda
-module _ {J : Type 0} (growth : Growth) (old new : Tree (ℕ × J)) (d : ℕ) (job : J) (p : ℕ × ℕ)
-    (inserts : InsertsNew deadline_of nat_cmp most_entries growth (behind_key d) old (d, job) p new)
-    (sound : IsSound most_entries greatest_generation old.list) (holds : IsArenaOfJobs old) where
+module _ {J : Type 0} (growth : Growth) (old new : Tree (ℕ × J)) (d : ℕ) (job : J) (p : ℕ × ℕ) (puts : PutsBehind growth old d job p new)
+    (holds : IsArenaOfJobs old) where
   pub schedules-inserted : Schedules (agenda_of old) p d job (agenda_of new)
-  schedules-inserted = schedules-put growth old new d job p inserts.gap inserts.place.at_most_before inserts.place.greater_after inserts.inserted sound holds
+  schedules-inserted = schedules-put growth old new d job p puts.inserted.gap puts.inserted.place.at_most_before puts.inserted.place.greater_after
+      puts.inserted.inserted puts.sound holds
 
   pub arena-inserted : IsArenaOfJobs new
-  arena-inserted = arena-put growth old new d job p inserts.gap inserts.place.at_most_before inserts.place.greater_after inserts.inserted sound holds
+  arena-inserted = arena-put growth old new d job p puts.inserted.gap puts.inserted.place.at_most_before puts.inserted.place.greater_after
+      puts.inserted.inserted puts.sound holds

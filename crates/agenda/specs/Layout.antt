@@ -1,8 +1,11 @@
 -- How an agenda lies in its arena (layout).
 use Rattle.std.specs.Prelude.{◌≡◌, ℕ, None, map}
-use Rattle.triple_ord.specs.Chain.{Entry}
+use Rattle.std.specs.Ordering.{nat_cmp}
+use Rattle.triple_ord.specs.Chain.{Entry, IsSound}
 use Rattle.triple_ord.specs.Tree.{Tree}
-use Rattle.agenda.specs.Agenda.{Scheduled, Agenda, IsInOrder}
+use Rattle.triple_ord.specs.{Insertion.InsertsNew, Place.behind_key}
+use Rattle.triple_ord.specs.declared.growth.Growth.{Growth}
+use Rattle.agenda.specs.Agenda.{greatest_generation, most_entries, Scheduled, Agenda, IsInOrder}
 
 -- the key of an item
 abbrev pub deadline_of : {J : Type 0} → ℕ × J → ℕ
@@ -21,3 +24,8 @@ module _ {J : Type 0} where
   pub record IsArenaOfJobs (a : Tree (ℕ × J)) : Type 0 where
     pub in_order : IsInOrder (agenda_of a).jobs
     pub unlimited : a.list.maximum ≡ None
+
+  -- An entry of this job is inserted behind all whose deadline is at most its own. The list was sound.
+  pub record PutsBehind (growth : Growth) (old : Tree (ℕ × J)) (deadline : ℕ) (job : J) (p : ℕ × ℕ) (new : Tree (ℕ × J)) : Type 0 where
+    pub sound : IsSound most_entries greatest_generation old.list
+    pub inserted : InsertsNew deadline_of nat_cmp most_entries growth (behind_key deadline) old (deadline, job) p new

@@ -4,3 +4,5 @@ pub mod Tickets
 pub mod Calls
 -- How an agenda lies in its arena. No public clause cites these files.
 pub mod Layout
+-- What contracts above cite of the layer below.
+pub use Rattle.triple_ord.specs.Walk

@@ -1,9 +1,9 @@
 //! `Iter`: the jobs of an agenda, in the order in which they leave.
 
-ghost use Rattle.std.specs.Prelude.{◌≡◌, Some, IfSome, length};
-ghost use Rattle.std.specs.Iterator.{YieldsFirstBy, UpTo, item_count};
-ghost use Rattle.std.specs.Iterator.SizeHint.{IsWithinCount};
+ghost use Rattle.std.specs.Prelude.{◌≡◌};
+ghost use Rattle.std.specs.Iterator.{YieldsFirstBy, item_count};
 ghost use Rattle.agenda.specs.Agenda.{shown_job};
+ghost use Rattle.triple_ord.specs.Walk.{IsExactHint};
 
 use crate::agenda::Agenda;
 use crate::ticket::Ticket;
@@ -56,9 +56,7 @@ impl<'a, J, A: Allocator> Iterator for Iter<'a, J, A> {
     }
 
     fn size_hint(&self) -> (usize, Option<usize>)
-        ensures exact { result ≡ (length self.now, Some (length self.now)) }
-        ensures lower { IsWithinCount result.0 (item_count (λ left. left) self.now) }
-        ensures upper { IfSome result.1 (UpTo (item_count (λ left. left) self.now)) }
+        ensures { IsExactHint self.now result }
     {
         self.entries.size_hint()
     }

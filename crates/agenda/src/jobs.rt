@@ -1,13 +1,11 @@
 //! The arena of an agenda: a new entry goes behind all whose deadline is at most its own.
 
-ghost use Rattle.std.specs.Prelude.{◌≡◌, ◌<◌, ◌↔◌, Err, IfOk, IfErr, OnErr, length};
-ghost use Rattle.std.specs.Ordering.{nat_cmp};
+ghost use Rattle.std.specs.Prelude.{◌≡◌, ◌<◌, ◌↔◌, Err, IsOk, IfOk, IfErr, OnErr, length};
 ghost use Rattle.triple_ord.specs.Chain.{chain_limit, IsSound};
-ghost use Rattle.triple_ord.specs.Insertion.{InsertsNew};
 ghost use Rattle.triple_ord.specs.declared.growth.Growth.TheVariants.{Within, Reallocating};
 ghost use Rattle.triple_ord.specs.Place.{aim_of, behind_key, kind_now};
 ghost use Rattle.agenda.specs.Agenda.{greatest_generation, most_entries};
-ghost use Rattle.agenda.specs.Layout.{deadline_of};
+ghost use Rattle.agenda.specs.Layout.{PutsBehind};
 
 use std::alloc::Allocator;
 use triple_ord::{
@@ -24,8 +22,11 @@ fn kind_behind<'k, J, A: Allocator>(
     jobs: &Jobs<J, A>,
     deadline: &'k u64,
 ) -> OrdInsertKind<P0, &'k u64>
-    ensures { aim_of (λ i. i) (kind_now result) ≡ behind_key deadline.now }
+    ensures aim { aim_of (λ i. i) (kind_now result) ≡ behind_key deadline.now }
+    ensures sound { IsSound most_entries greatest_generation jobs.now.list }
 {
+    // For the prover: the list is sound.
+    let _ = jobs.len();
     match jobs.last() {
         Some(last) => OrdInsertKind::NonhereditaryLinear {
             p_init: last.inx(),
@@ -42,23 +43,21 @@ pub(crate) fn put<J: Drop, A: Allocator>(
     deadline: u64,
     job: J,
 ) -> Result<P0, (J, ReallocationError)>
-    ensures ok { IfOk result (λ p. InsertsNew deadline_of nat_cmp most_entries Reallocating
-        (behind_key deadline) jobs.old (deadline, job) p jobs.new) }
+    ensures ok { IfOk result (λ p. PutsBehind Reallocating jobs.old deadline job p jobs.new) }
     ensures back { IfErr result (λ e. e.0 ≡ job) }
     ensures full { (result ≡ Err (job, ReallocationError.BeyondMaxCapacity))
         ↔ (length jobs.old.list.entries ≡ chain_limit most_entries jobs.old.list) }
     ensures memory { result ≡ Err (job, ReallocationError.AllocError)
         → length jobs.old.list.entries ≡ jobs.old.list.capacity }
+    ensures fits { length jobs.old.list.entries < jobs.old.list.capacity → IsOk result }
     ensures err { OnErr result (jobs.new ≡ jobs.old) }
-    ensures sound { IsSound most_entries greatest_generation jobs.old.list }
 {
-    // For the prover: the list is sound.
-    let _ = jobs.len();
     let kind = kind_behind(jobs, &deadline);
     match jobs.entry_insert(kind) {
         Ok(entry) => {
             let p = entry.ptr().any();
             let _ = entry.insert(OrdPair::new(deadline, job));
+            // For the prover: with the new job the list is sound, so there was room.
             let _ = jobs.len();
             Ok(p)
         }
@@ -74,12 +73,8 @@ pub(crate) fn put<J: Drop, A: Allocator>(
 /// Inserts a job into an arena with a vacant slot.
 pub(crate) fn put_within<J: Drop, A: Allocator>(jobs: &mut Jobs<J, A>, deadline: u64, job: J) -> P0
     requires { length jobs.old.list.entries < jobs.old.list.capacity }
-    ensures inserted { InsertsNew deadline_of nat_cmp most_entries Within
-        (behind_key deadline) jobs.old (deadline, job) result jobs.new }
-    ensures sound { IsSound most_entries greatest_generation jobs.old.list }
+    ensures { PutsBehind Within jobs.old deadline job result jobs.new }
 {
-    // For the prover: the list is sound.
-    let _ = jobs.len();
     let kind = kind_behind(jobs, &deadline);
     match jobs.entry_insert_within_capacity(kind) {
         Ok(entry) => {

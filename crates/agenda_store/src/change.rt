@@ -94,8 +94,8 @@ fn number_of(bytes: &[u8]) -> Option<u64>
 
 // Returns the deadline and the bytes of the job that these bytes are.
 fn job_of(bytes: &[u8]) -> Option<(u64, &[u8])>
-    ensures some { IfSome result (λ x. (bytes.now ≡ to_be_bytes w64 x.0 ++ x.1.now) × (x.0 < 2 ^ 64)) }
-    ensures short { IfSome result (λ x. length x.1.now ≤ MAX_BYTES) }
+    ensures some { IfSome result (λ x. (bytes.now ≡ to_be_bytes w64 x.0 ++ x.1.now) × (x.0 < 2 ^ 64)
+        × (length x.1.now ≤ MAX_BYTES)) }
     ensures none { IfNone result ((length bytes.now < 8) ⊎ (8 + MAX_BYTES < length bytes.now)) }
 {
     let (deadline, job) = number_at(bytes)?;

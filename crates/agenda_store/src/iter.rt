@@ -1,8 +1,7 @@
 //! `Iter`: the jobs of a store, in the order in which they leave.
 
-ghost use Rattle.std.specs.Prelude.{◌≡◌, Some, IfSome, length};
-ghost use Rattle.std.specs.Iterator.{YieldsFirstBy, UpTo, item_count};
-ghost use Rattle.std.specs.Iterator.SizeHint.{IsWithinCount};
+ghost use Rattle.std.specs.Iterator.{YieldsFirstBy, item_count};
+ghost use Rattle.agenda.specs.Walk.{IsExactHint};
 ghost use Rattle.agenda_store.specs.Store.{shown};
 
 use crate::store::JobId;
@@ -40,9 +39,7 @@ impl<'a> Iterator for Iter<'a> {
     }
 
     fn size_hint(&self) -> (usize, Option<usize>)
-        ensures exact { result ≡ (length self.now, Some (length self.now)) }
-        ensures lower { IsWithinCount result.0 (item_count (λ left. left) self.now) }
-        ensures upper { IfSome result.1 (UpTo (item_count (λ left. left) self.now)) }
+        ensures { IsExactHint self.now result }
     {
         self.entries.size_hint()
     }

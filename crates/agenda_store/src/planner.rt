@@ -1,11 +1,12 @@
 //! `Planner`: jobs in memory, each under a number of its own.
 
-ghost use Rattle.std.specs.Prelude.{◌≡◌, ◌⊎◌, ◌<◌, ◌≤◌, ◌^◌, IfOk, IfErr, OnOk, IsErrOf, length, is_some};
+ghost use Rattle.std.specs.Prelude.{◌≡◌, ◌⊎◌, ◌<◌, ◌^◌, IfOk, IfErr, OnOk, IsErrOf, length, is_some};
 ghost use Rattle.std.specs.Option.{option_map};
+ghost use Rattle.agenda.specs.Agenda.{IsDistinct};
 ghost use Rattle.agenda_store.specs.Change.{counts, keeps, Admits};
 ghost use Rattle.agenda_store.specs.Plan.{empty, scheduled, cancelled, moved, counted, kept};
 ghost use Rattle.agenda_store.specs.Plan.{first_deadline, first_due, job_at, told, IsLawful};
-ghost use Rattle.agenda_store.specs.Planner.{plan_of, taken, IsLinked, HasPlan, Takes};
+ghost use Rattle.agenda_store.specs.Planner.{plan_of, taken, ticket_at, IsLinked, HasPlan, Takes};
 
 use crate::error::StoreError;
 use agenda::{Agenda, ReallocationError, Ticket};
@@ -54,6 +55,16 @@ impl Planner {
             Some((_, deadline, entry)) if deadline <= now => Some(entry.0),
             _ => None,
         }
+    }
+
+    // Returns the ticket of the job of a number.
+    fn ticket_at(&self, id: u64) -> Option<Ticket>
+        ensures value { result ≡ ticket_at self.now id }
+        ensures distinct { IsDistinct self.now.agenda.jobs }
+    {
+        // For the prover: the tickets are distinct.
+        let _ = self.agenda.len();
+        Some(*self.tickets.get(&id)?)
     }
 
     /// Returns whether a number names a job.
@@ -147,9 +158,7 @@ impl Planner {
         ensures value { option_map taken result ≡ option_map told (job_at id (plan_of self.old).jobs) }
         ensures plan { HasPlan self.new (cancelled id (plan_of self.old)) }
     {
-        // For the prover: the tickets are distinct.
-        let _ = self.agenda.len();
-        let ticket = *self.tickets.get(&id)?;
+        let ticket = self.ticket_at(id)?;
         let (deadline, (_, bytes)) = self.agenda.cancel(ticket)?;
         let _ = self.tickets.remove(&id);
         Some((deadline, bytes))
@@ -161,10 +170,8 @@ impl Planner {
         ensures value { result ≡ is_some (job_at id (plan_of self.old).jobs) }
         ensures plan { HasPlan self.new (moved id deadline (plan_of self.old)) }
     {
-        // For the prover: the tickets are distinct.
-        let _ = self.agenda.len();
-        match self.tickets.get(&id) {
-            Some(ticket) => self.agenda.reschedule(*ticket, deadline),
+        match self.ticket_at(id) {
+            Some(ticket) => self.agenda.reschedule(ticket, deadline),
             None => false,
         }
     }
@@ -174,9 +181,7 @@ impl Planner {
         requires { IsLinked self.now }
         ensures { option_map (λ x. (x.0, x.1.now)) result ≡ option_map told (job_at id (plan_of self.now).jobs) }
     {
-        // For the prover: the tickets are distinct.
-        let _ = self.agenda.len();
-        let ticket = *self.tickets.get(&id)?;
+        let ticket = self.ticket_at(id)?;
         let (deadline, entry) = self.agenda.get(ticket)?;
         Some((deadline, &entry.1))
     }

@@ -3,7 +3,7 @@
 ghost use Rattle.std.specs.Prelude.{◌≡◌, IsTrue, OnOk};
 ghost use Rattle.record_log.specs.Device.{LeavesOnly};
 ghost use Rattle.agenda_store.specs.Requests.{answered, answered_all, StandsAfterSome};
-ghost use Rattle.agenda_store.specs.Store.{plan_in, disk_of, LeavesEither, IsOpen, IsSound, StaysSound};
+ghost use Rattle.agenda_store.specs.Store.{IsOpen, IsSound, ChangesPlan};
 
 use crate::error::StoreError;
 use crate::store::{JobId, Store};
@@ -27,11 +27,9 @@ pub enum Request {
 impl<D: Device> Store<D> {
     // Does what a request asks for.
     fn answer(&mut self, request: &Request) -> Result<(), StoreError>
-        requires { IsSound D.is_modelled D.seen D.may_leave self.old }
-        ensures sound { StaysSound D.is_modelled D.seen D.may_leave self.old self.new result
-            (answered request.now (plan_in self.old)) }
-        ensures any_moment { LeavesEither D.is_modelled D.moment D.left_since self.old self.new
-            (answered request.now (plan_in self.old)) }
+        ensures { ChangesPlan D.is_modelled D.seen D.may_leave D.moment D.left_since
+            self.old self.new result
+            (answered request.now self.old.plan) }
     {
         match request {
             Request::Schedule(deadline, bytes) => {
@@ -60,14 +58,15 @@ impl<D: Device> Store<D> {
     ///
     /// Those of the request that failed, as of its call. The later ones aren't tried.
     pub fn run(&mut self, requests: &[Request]) -> Result<(), StoreError>
-        requires sound { IsSound D.is_modelled D.seen D.may_leave self.old }
-        requires open { IsOpen self.old }
+        requires { IsOpen self.old }
         ensures sound { IsSound D.is_modelled D.seen D.may_leave self.new }
-        ensures plan { OnOk result (plan_in self.new ≡ answered_all requests.now (plan_in self.old)) }
+        ensures plan { OnOk result (self.new.plan ≡ answered_all requests.now self.old.plan) }
         ensures any_moment { IsTrue D.is_modelled
-            → LeavesOnly D.moment D.left_since (disk_of self.old) (disk_of self.new)
-            (StandsAfterSome requests.now (plan_in self.old)) }
+            → LeavesOnly D.moment D.left_since self.old.device self.new.device
+            (StandsAfterSome requests.now self.old.plan) }
     {
+        // For the prover: the file stands for the plan.
+        let _ = self.device();
         for request in requests {
             self.answer(request)?;
         }

@@ -10,7 +10,7 @@ ghost use Rattle.agenda_store.specs.Plan.{Plan, scheduled, cancelled, moved, wit
 ghost use Rattle.agenda_store.specs.Plan.{job_at, first_due, first_deadline, told, IsLawful};
 ghost use Rattle.agenda_store.specs.Planner.{taken};
 ghost use Rattle.agenda_store.specs.Replay.{StandsFor};
-ghost use Rattle.agenda_store.specs.Store.{plan_in, disk_of, popped, LeavesEither, LeavesPlan, IsOpen, IsSound, StaysSound};
+ghost use Rattle.agenda_store.specs.Store.{popped, IsOpen, IsSound, ChangesPlan, KeepsPlan};
 ghost use Rattle.agenda_store.specs.declared.store.TheConstants.{MAX_BYTES};
 
 use crate::change::{Change, replay, snapshot_of, spell};
@@ -20,6 +20,7 @@ use crate::planner::Planner;
 use record_log::laws::one_reading;
 use record_log::{Device, Log};
 use std::alloc::Global;
+use std::marker::Model;
 
 /// The most bytes that a job may have.
 pub const MAX_BYTES: usize = 65536;
@@ -35,12 +36,26 @@ pub struct JobId(pub u64);
 ///
 /// A call that fails closes the store, unless its `# Errors` says otherwise. Every call that returns a `Result` then fails with `Closed`
 /// until the file is opened again. The log grows with each change; [`compact`](Self::compact) writes it anew from the jobs.
+///
+/// In contracts a store is its plan, its device, and whether it is open. [`device`](Self::device) promises what holds of every store.
 #[derive(Drop)]
 pub struct Store<D: Device> {
     alloc: Global,
     planner: Planner,
     log: Log<D>,
     is_open: bool,
+}
+
+impl<D: Device> Model for Store<D> {
+    ghost use Rattle.agenda_store.specs.Store.{Store};
+
+    ghost Value = { Store D };
+
+    ghost use Rattle.agenda_store.specs.StoreLayout.{store_of, IsStore};
+
+    ghost view = { λ s. store_of s.planner s.log s.is_open };
+
+    ghost invariant = { λ s. IsStore D.is_modelled D.seen D.may_leave s.planner s.log s.is_open };
 }
 
 impl<D: Device> Store<D> {
@@ -56,12 +71,12 @@ impl<D: Device> Store<D> {
         requires { IsTrue D.is_modelled → IsDurable (D.seen device) (D.may_leave device) }
         ensures sound { IfOk result (IsSound D.is_modelled D.seen D.may_leave) }
         ensures open { IfOk result IsOpen }
-        ensures plan { IsTrue D.is_modelled → IfOk result (λ store. StandsFor (D.seen device) (plan_in store)) }
+        ensures plan { IsTrue D.is_modelled → IfOk result (λ store. StandsFor (D.seen device) store.plan) }
         ensures refused { IsTrue D.is_modelled → IfErr result (λ e. e.0 ≡ StoreError.NotAnAgenda
             → (plan : Plan) → StandsFor (D.seen device) plan → ⊥) }
         ensures any_moment { IsTrue D.is_modelled → IfOk result (λ store.
             (plan : Plan) → StandsFor (D.seen device) plan
-            → LeavesOnly D.moment D.left_since device (disk_of store) (λ c. StandsFor c plan)) }
+            → LeavesOnly D.moment D.left_since device store.device (λ c. StandsFor c plan)) }
         ensures any_moment_err { IsTrue D.is_modelled → IfErr result (λ e.
             (plan : Plan) → StandsFor (D.seen device) plan
             → LeavesOnly D.moment D.left_since device e.1 (λ c. StandsFor c plan)) }
@@ -91,37 +106,37 @@ impl<D: Device> Store<D> {
 
     /// Returns the device.
     pub fn device(&self) -> &D
-        ensures { result.now ≡ disk_of self.now }
+        ensures value { result.now ≡ self.now.device }
+        ensures sound { IsSound D.is_modelled D.seen D.may_leave self.now }
     {
         self.log.device()
     }
 
     /// Closes the store, and returns its device.
     pub fn into_device(self) -> D
-        ensures { result ≡ disk_of self }
+        ensures { result ≡ self.device }
     {
         self.log.into_device()
     }
 
     /// Returns the number of jobs.
     pub fn len(&self) -> usize
-        ensures value { result ≡ length (plan_in self.now).jobs }
-        ensures lawful { IsSound D.is_modelled D.seen D.may_leave self.now
-            → IsOpen self.now → IsLawful (plan_in self.now) }
+        ensures value { result ≡ length self.now.plan.jobs }
+        ensures lawful { IsOpen self.now → IsLawful self.now.plan }
     {
         self.planner.len()
     }
 
     /// Returns the deadline of the first job, in O(1).
     pub fn next_deadline(&self) -> Option<u64>
-        ensures { result ≡ first_deadline (plan_in self.now).jobs }
+        ensures { result ≡ first_deadline self.now.plan.jobs }
     {
         self.planner.next_deadline()
     }
 
     /// Returns an iterator over the jobs, in the order in which they leave. Each step is O(1).
     pub fn iter(&self) -> Iter<'_>
-        ensures { result ≡ (plan_in self.now).jobs }
+        ensures { result ≡ self.now.plan.jobs }
     {
         Iter {
             entries: self.planner.agenda.iter(),
@@ -136,14 +151,12 @@ impl<D: Device> Store<D> {
     /// - `OutOfMemory`, if the store is still open: nothing changed.
     /// - Otherwise the store is closed, and its file stands for the agenda with the job or without.
     pub fn schedule(&mut self, deadline: u64, bytes: &[u8]) -> Result<JobId, StoreError>
-        requires { IsSound D.is_modelled D.seen D.may_leave self.old }
-        ensures sound { StaysSound D.is_modelled D.seen D.may_leave self.old self.new result
-            (scheduled deadline bytes.now (plan_in self.old)) }
+        ensures change { ChangesPlan D.is_modelled D.seen D.may_leave D.moment D.left_since
+            self.old self.new result
+            (scheduled deadline bytes.now self.old.plan) }
         ensures too_long { IsErrOf result StoreError.TooLong ↔ (IsOpen self.old × (MAX_BYTES < length bytes.now)) }
         ensures unchanged { IsErrOf result StoreError.TooLong → self.new ≡ self.old }
-        ensures id { IfOk result (λ id. id.0 ≡ (plan_in self.old).next) }
-        ensures any_moment { LeavesEither D.is_modelled D.moment D.left_since self.old self.new
-            (scheduled deadline bytes.now (plan_in self.old)) }
+        ensures id { IfOk result (λ id. id.0 ≡ self.old.plan.next) }
     {
         if !self.is_open {
             return Err(StoreError::Closed);
@@ -166,13 +179,11 @@ impl<D: Device> Store<D> {
     ///
     /// As of [`schedule`](Self::schedule).
     pub fn cancel(&mut self, id: JobId) -> Result<Option<(u64, Vec<u8>)>, StoreError>
-        requires { IsSound D.is_modelled D.seen D.may_leave self.old }
-        ensures sound { StaysSound D.is_modelled D.seen D.may_leave self.old self.new result
-            (cancelled id.0 (plan_in self.old)) }
+        ensures change { ChangesPlan D.is_modelled D.seen D.may_leave D.moment D.left_since
+            self.old self.new result
+            (cancelled id.0 self.old.plan) }
         ensures value { IfOk result (λ job.
-            option_map taken job ≡ option_map told (job_at id.0 (plan_in self.old).jobs)) }
-        ensures any_moment { LeavesEither D.is_modelled D.moment D.left_since self.old self.new
-            (cancelled id.0 (plan_in self.old)) }
+            option_map taken job ≡ option_map told (job_at id.0 self.old.plan.jobs)) }
     {
         if !self.is_open {
             return Err(StoreError::Closed);
@@ -195,12 +206,10 @@ impl<D: Device> Store<D> {
     ///
     /// As of [`schedule`](Self::schedule).
     pub fn move_to(&mut self, id: JobId, deadline: u64) -> Result<bool, StoreError>
-        requires { IsSound D.is_modelled D.seen D.may_leave self.old }
-        ensures sound { StaysSound D.is_modelled D.seen D.may_leave self.old self.new result
-            (moved id.0 deadline (plan_in self.old)) }
-        ensures value { IfOk result (λ found. found ≡ is_some (job_at id.0 (plan_in self.old).jobs)) }
-        ensures any_moment { LeavesEither D.is_modelled D.moment D.left_since self.old self.new
-            (moved id.0 deadline (plan_in self.old)) }
+        ensures change { ChangesPlan D.is_modelled D.seen D.may_leave D.moment D.left_since
+            self.old self.new result
+            (moved id.0 deadline self.old.plan) }
+        ensures value { IfOk result (λ found. found ≡ is_some (job_at id.0 self.old.plan.jobs)) }
     {
         if !self.is_open {
             return Err(StoreError::Closed);
@@ -222,12 +231,10 @@ impl<D: Device> Store<D> {
     ///
     /// As of [`schedule`](Self::schedule).
     pub fn pop_due(&mut self, now: u64) -> Result<Option<(JobId, u64, Vec<u8>)>, StoreError>
-        requires { IsSound D.is_modelled D.seen D.may_leave self.old }
-        ensures sound { StaysSound D.is_modelled D.seen D.may_leave self.old self.new result
-            (without_due now (plan_in self.old)) }
-        ensures value { IfOk result (λ job. option_map popped job ≡ first_due now (plan_in self.old).jobs) }
-        ensures any_moment { LeavesEither D.is_modelled D.moment D.left_since self.old self.new
-            (without_due now (plan_in self.old)) }
+        ensures change { ChangesPlan D.is_modelled D.seen D.may_leave D.moment D.left_since
+            self.old self.new result
+            (without_due now self.old.plan) }
+        ensures value { IfOk result (λ job. option_map popped job ≡ first_due now self.old.plan.jobs) }
     {
         if !self.is_open {
             return Err(StoreError::Closed);
@@ -247,10 +254,9 @@ impl<D: Device> Store<D> {
     ///
     /// `Closed`: a call failed earlier.
     pub fn get(&self, id: JobId) -> Result<Option<(u64, &[u8])>, StoreError>
-        requires { IsSound D.is_modelled D.seen D.may_leave self.now }
         ensures closed { IsErrOf result StoreError.Closed ↔ (self.now.is_open ≡ false) }
         ensures value { IfOk result (λ job.
-            option_map (λ x. (x.0, x.1.now)) job ≡ option_map told (job_at id.0 (plan_in self.now).jobs)) }
+            option_map (λ x. (x.0, x.1.now)) job ≡ option_map told (job_at id.0 self.now.plan.jobs)) }
     {
         if !self.is_open {
             return Err(StoreError::Closed);
@@ -267,14 +273,11 @@ impl<D: Device> Store<D> {
     /// - `OutOfMemory`: nothing changed, and the store is still open.
     /// - Otherwise the store is closed, and its file stands for the agenda.
     pub fn compact(&mut self) -> Result<(), StoreError>
-        requires { IsSound D.is_modelled D.seen D.may_leave self.old }
-        ensures sound { StaysSound D.is_modelled D.seen D.may_leave self.old self.new result
-            (plan_in self.old) }
+        ensures keeps { KeepsPlan D.is_modelled D.seen D.may_leave D.moment D.left_since
+            self.old self.new result }
         ensures memory { IsErrOf result StoreError.OutOfMemory → IsOpen self.new × (self.new ≡ self.old) }
-        ensures plan { plan_in self.new ≡ plan_in self.old }
         ensures compact { IsTrue D.is_modelled → OnOk result
-            (Holds (D.seen (disk_of self.new)) (map spelling (snapshot (plan_in self.old)))) }
-        ensures any_moment { LeavesPlan D.is_modelled D.moment D.left_since self.old self.new }
+            (Holds (D.seen self.new.device) (map spelling (snapshot self.old.plan))) }
     {
         if !self.is_open {
             return Err(StoreError::Closed);
@@ -292,16 +295,11 @@ impl<D: Device> Store<D> {
     ///
     /// The store is closed, and its file stands for the agenda.
     pub fn flush(&mut self) -> Result<(), StoreError>
-        ensures sound { IsSound D.is_modelled D.seen D.may_leave self.old
-            → IsSound D.is_modelled D.seen D.may_leave self.new }
-        ensures open { OnOk result (IsOpen self.new) }
-        ensures closed { IsErrOf result StoreError.Closed ↔ (self.old.is_open ≡ false) }
-        ensures plan { plan_in self.new ≡ plan_in self.old }
-        ensures file { IsTrue D.is_modelled → D.seen (disk_of self.new) ≡ D.seen (disk_of self.old) }
+        ensures keeps { KeepsPlan D.is_modelled D.seen D.may_leave D.moment D.left_since
+            self.old self.new result }
+        ensures file { IsTrue D.is_modelled → D.seen self.new.device ≡ D.seen self.old.device }
         ensures durable { IsTrue D.is_modelled → OnOk result
-            (IsDurable (D.seen (disk_of self.new)) (D.may_leave (disk_of self.new))) }
-        ensures any_moment { IsSound D.is_modelled D.seen D.may_leave self.old
-            → LeavesPlan D.is_modelled D.moment D.left_since self.old self.new }
+            (IsDurable (D.seen self.new.device) (D.may_leave self.new.device)) }
     {
         if !self.is_open {
             return Err(StoreError::Closed);

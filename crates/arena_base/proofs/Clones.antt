@@ -6,7 +6,7 @@ use Rattle.arena_base.proofs.Words.{IsLawful, FindSame, item_if, CloneStep, IsCl
 use Rattle.arena_base.proofs.Steps.{AreLawful, lawful-some, current, Sound, capacity-is, get_or-padded, resized-cons, resized-same, resized-again, entries-padded, relisted, relisted-sound}
 use Rattle.arena_base.proofs.{Words.chained_keeps, Words.ClonesSlots, Words.Inside, Words.Generations, Words.Indexes, Words.Occupied, Words.Vacant, Slots.era, Slots.entries, Slots.greatest_occupied-above, Slots.none-from_generation}
 use Rattle.arena_base.proofs.Words.{◌⊎◌, inl, inr}
-use Rattle.arena_base.specs.Room.{ClonesOrFails}
+use Rattle.arena_base.specs.{Clone.IsArenaClone, Room.ClonesBy, Room.ClonesOrFails}
 use Rattle.arena_base.specs.declared.error.ReallocationError.{ReallocationError, TheVariants.BeyondMaxCapacity, TheVariants.AllocError as NoMemory}
 
 -- the calls of the closure for these entries, from one state to another
@@ -69,6 +69,10 @@ module _ {P U T M F : Type 0} (numbers : P → ℕ × ℕ) (below : M → P → 
       → (last : F) × IsClone numbers above (state m) source old new last
   clone-restated m source old new n c =
       (state n, record { items = c.items; calls = clones-restated (entries_rising source 0) m n c.items c.calls; after = c.after })
+
+-- a clone of an arena, if less is said of it
+pub IsArenaClone-weaker : {T U A B : Type 0} (source : Arena U) (new : Arena T) → (A → B) → IsArenaClone source new A → IsArenaClone source new B
+IsArenaClone-weaker source new weaker c = record { made = weaker c.made; pointers = c.pointers; fresh = c.fresh }
 
 -- the same for a refusal
 module _ {P U T M F : Type 0} (numbers : P → ℕ × ℕ) (below : M → P → U → Result T AllocError → M → Type 0) (above : F → P → U → Result T AllocError → F → Type 0) (state : M → F)
@@ -310,3 +314,18 @@ pub failed-clone : {R : Type 0} {limit capacity needed : ℕ} {r : Result R Real
     → ClonesOrFails limit capacity needed r After Same Refused → (e : ReallocationError) → r ≡ Err e → Same ⊎ Refused
 failed-clone c BeyondMaxCapacity is = inl (c.beyond_kept is)
 failed-clone c NoMemory is = elim (c.memory is) [ inl kept ↦ inl kept.1 | inr refused ↦ inr refused ]
+
+-- such a call in terms of another container: of its numbers, and of what is true after it
+module _ {R C S A K F C' S' A' K' F' : Type 0} (l c n l' c' n' : ℕ) (same : (l ≡ l') × (c ≡ c') × (n ≡ n'))
+    (callable : C → C') (source : S → S') (kept : K → K') (refused : F → F') where
+  pub failed-clone-retold : (r : Result R ReallocationError) (e : ReallocationError) → r ≡ Err e → ClonesBy l c n r C S A K F → ClonesBy l' c' n' r C' S' A' K' F'
+  failed-clone-retold r e is clones = record {
+    callable = callable clones.callable;
+    source = source clones.source;
+    clones = record {
+      ok = rw is tt;
+      beyond = rw (← same.0, ← same.2) clones.clones.beyond;
+      beyond_kept = λ b. kept (clones.clones.beyond_kept b);
+      memory = λ m. elim (clones.clones.memory m) [ inl h ↦ inl (rw (← same.1, ← same.2) h.0, kept h.1) | inr h ↦ inr (refused h) ];
+    };
+  }

@@ -1,5 +1,5 @@
 -- An arena as contracts see it: its slots by index, and its free list.
-use Rattle.std.specs.Prelude.{◌≡◌, ◌≢◌, ◌⊎◌, ℕ, ◌+◌, ◌-◌, ◌*◌, ◌<◌, ◌≤◌, nat_lt, Option, Some, None, List, [], ◌∷◌, ◌++◌, ◌==◌, min, max, if◌then◌else◌, is_some, length, take, drop, replicate, count_by, slice_get, slice_index_or, slice_set, IsSome}
+use Rattle.std.specs.Prelude.{◌≡◌, ◌≢◌, ◌⊎◌, ℕ, ◌+◌, ◌-◌, ◌*◌, ◌<◌, ◌≤◌, nat_lt, Bool, false, Result, IfOk, IfSome, IsNone, ◌↔◌, Option, Some, None, List, [], ◌∷◌, ◌++◌, ◌==◌, min, max, if◌then◌else◌, is_some, length, take, drop, replicate, count_by, slice_get, slice_index_or, slice_set, IsSome}
 use Rattle.std.specs.{Option.option_map, Option.ForSome, List.list_any}
 use Rattle.arena_base.specs.Generation.{first_generation, next_generation, IsLawfulGeneration}
 
@@ -70,6 +70,11 @@ module _ {T : Type 0} where
   abbrev pub FindSameBut : ℕ × ℕ → Arena T → Arena T → Type 0
   FindSameBut p a b = (q : ℕ × ℕ) → (q.0 ≢ p.0) ⊎ (q.1 ≢ p.1) → item_of a q ≡ item_of b q
 
+  -- A call on the pointer p: every other pointer finds the same afterwards. If the call did nothing, every pointer does.
+  pub record ChangesOnly (p : ℕ × ℕ) (done : Bool) (old new : Arena T) : Type 0 where
+    pub others : FindSameBut p new old
+    pub nothing : done ≡ false → FindSame new old
+
   -- the number of entries
   abbrev pub arena_len : Arena T → ℕ
   arena_len a = count_by is_some a.slots
@@ -118,6 +123,14 @@ module _ {T : Type 0} where
     pub vacant_listed : (i : ℕ) → times i a.vacant ≡ times i (vacant_indexes a.slots)
     pub counted : arena_len a + length a.vacant ≡ arena_capacity a
 
+  -- A call that returns a number of the arena also says that the arena is sound, that its entries fit in the capacity, and that the capacity
+  -- is an index.
+  pub record Measures (most : ℕ) (greatest : Option ℕ) (a : Arena T) (result measure : ℕ) : Type 0 where
+    pub value : result ≡ measure
+    pub sound : IsSound most greatest a
+    pub within : arena_len a ≤ arena_capacity a
+    pub limit : arena_capacity a ≤ most
+
   -- the generation of the entry at index i
   abbrev pub generation_at : Arena T → ℕ → Option ℕ
   generation_at a i = option_map (λ e. e.0) (slot a i)
@@ -131,6 +144,16 @@ module _ {T : Type 0} where
   pub record IsLastEntry (a : Arena T) (i g : ℕ) : Type 0 where
     pub entry : generation_at a i ≡ Some g
     pub greatest : (k : ℕ) → i < k → slot a k ≡ None
+
+  -- a call returns the pointer of the entry with the least index, or nothing if there are no entries
+  pub record FindsFirstEntry {P : Type 0} (numbers : P → ℕ × ℕ) (a : Arena T) (result : Option P) : Type 0 where
+    pub first : IfSome result (λ p. IsFirstEntry a (numbers p).0 (numbers p).1)
+    pub empty : IsNone result ↔ (arena_len a ≡ 0)
+
+  -- a call returns the pointer of the entry with the greatest index, or nothing if there are no entries
+  pub record FindsLastEntry {P : Type 0} (numbers : P → ℕ × ℕ) (a : Arena T) (result : Option P) : Type 0 where
+    pub last : IfSome result (λ p. IsLastEntry a (numbers p).0 (numbers p).1)
+    pub empty : IsNone result ↔ (arena_len a ≡ 0)
 
   -- an arena without entries and with capacity 0
   abbrev pub new_arena : Option ℕ → Arena T
@@ -208,6 +231,14 @@ module _ {T : Type 0} where
     pub generation : g ≡ old.generation
     pub after : new ≡ with_entry old item
     pub fresh : IsFresh old → IsFresh new
+
+  -- A call that inserts `item` returns its pointer: `new` is `before` with the item. Whatever the result, the arena is sound. `Refused` says
+  -- when the call fails, `HasRoom` what becomes of the capacity.
+  pub record InsertsItem {P E : Type 0} (numbers : P → ℕ × ℕ) (most : ℕ) (greatest : Option ℕ) (before new : Arena T) (item : T) (result : Result P E) (Refused HasRoom : Type 0) : Type 0 where
+    pub ok : IfOk result (λ p. IsInsertion before new item (numbers p).0 (numbers p).1)
+    pub refused : Refused
+    pub sound : IsSound most greatest new
+    pub room : HasRoom
 
   -- the arenas hold the same, whatever the order of their free lists
   pub record HoldsSame (a b : Arena T) : Type 0 where

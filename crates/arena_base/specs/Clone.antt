@@ -1,7 +1,7 @@
 -- A clone of an arena: it has the source's pointers, and items made from the source's.
 use Rattle.std.specs.Prelude.{◌≡◌, ℕ, ◌+◌, Option, Some, None, Result, Ok, Err, List, [], ◌∷◌, ◌++◌, max, is_some}
 use Rattle.std.specs.{Borrow.Bor, List.FoldsTo, declared.alloc.AllocError.AllocError}
-use Rattle.arena_base.specs.{Arena.Arena, Arena.HoldsSame, Arena.arena_capacity, Arena.greatest_occupied, Arena.item_of, Arena.resized, Arena.vacant_indexes, Walk.entries_rising}
+use Rattle.arena_base.specs.{Arena.Arena, Arena.HoldsSame, Arena.IsFresh, Arena.arena_capacity, Arena.greatest_occupied, Arena.item_of, Arena.resized, Arena.vacant_indexes, Walk.entries_rising}
 
 module _ {T U : Type 0} where
   -- the same pointers find something in both
@@ -24,6 +24,12 @@ module _ {T U : Type 0} where
   -- the receiver with the source's pointers and generation, and with these items
   abbrev pub cloned : Arena U → Arena T → List T → Arena T
   cloned source old items = taken_over source old (with_items source.slots items)
+
+-- An arena became a clone of the source, as `Made` says. The same pointers find something in both, and its free list is ascending.
+pub record IsArenaClone {T U : Type 0} (source : Arena U) (new : Arena T) (Made : Type 0) : Type 0 where
+  pub made : Made
+  pub pointers : HasSamePointers new source
+  pub fresh : IsFresh new
 
 -- a call that shows the closure an item
 abbrev pub IsShown : {P U R F : Type 0} → (F → P → Bor U → R → F → Type 0) → F → P → U → R → F → Type 0

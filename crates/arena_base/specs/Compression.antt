@@ -2,7 +2,7 @@
 use Rattle.std.specs.Prelude.{◌≡◌, ℕ, ◌+◌, Bool, false, if◌then◌else◌, Option, Some, None, List, [], ◌∷◌, ◌++◌, length, map}
 use Rattle.std.specs.List.{FoldsTo}
 use Rattle.arena_base.specs.{declared.invalidation.InvalidationOption.InvalidationOption, Invalidation.is_overflow}
-use Rattle.arena_base.specs.{Generation.first_generation, Generation.next_generation, Generation.overflows_after, Arena.Arena, Arena.HoldsSame, Arena.resized, Arena.vacant_indexes, Walk.entries_rising}
+use Rattle.arena_base.specs.{Generation.first_generation, Generation.next_generation, Generation.overflows_after, Arena.Arena, Arena.HoldsSame, Arena.IsFresh, Arena.resized, Arena.vacant_indexes, Walk.entries_rising}
 
 -- the generation after a compression: the first if it is reset, else the next
 abbrev pub compressed_generation : Option ℕ → Bool → ℕ → ℕ
@@ -17,6 +17,12 @@ compression_overflows greatest reset g = if reset then false else overflows_afte
 pub record Restarts {R : Type 0} (greatest : Option ℕ) (reset : Bool) (before : ℕ) (result : InvalidationOption R) (After : ℕ → Type 0) : Type 0 where
   pub after : After (compressed_generation greatest reset before)
   pub overflow : is_overflow result ≡ compression_overflows greatest reset before
+
+-- A call compressed an arena. It raised the generation or reset it, as in `Restarts`, and afterwards the free list is ascending.
+pub record CompressesArena {R T : Type 0} (greatest : Option ℕ) (reset : Bool) (old new : Arena T) (result : InvalidationOption R) (After : ℕ → Type 0) : Type 0 where
+  pub after : After (compressed_generation greatest reset old.generation)
+  pub overflow : is_overflow result ≡ compression_overflows greatest reset old.generation
+  pub fresh : IsFresh new
 
 -- a with these items at the indexes from 1 on, all with generation g, which becomes the arena's; its free list is ascending
 abbrev pub compressed : {T : Type 0} → Arena T → ℕ → List T → Arena T

@@ -23,12 +23,20 @@ pub record Reallocates {R : Type 0} (limit capacity needed : ℕ) (result : Resu
   pub err : OnErr result Same
 
 -- A call that makes a container a clone of another, whose greatest index is `needed`. It fails if that index is beyond the limit, if
--- growing failed, or if an item was refused memory. `Refused` holds in the last case.
+-- growing failed, or if an item was refused memory. `After` is true if it succeeds, `Refused` if an item was refused. `Same` says that
+-- nothing has changed, as in the other two cases.
 pub record ClonesOrFails {R : Type 0} (limit capacity needed : ℕ) (result : Result R ReallocationError) (After Same Refused : Type 0) : Type 0 where
   pub ok : OnOk result After
   pub beyond : (result ≡ Err BeyondMaxCapacity) ↔ (limit < needed)
   pub beyond_kept : result ≡ Err BeyondMaxCapacity → Same
   pub memory : result ≡ Err ReallocationAlloc → ((capacity < needed) × Same) ⊎ Refused
+
+-- A call that makes a clone, as in `ClonesOrFails`, by a mapping that it borrows. `IsCallable` says that the mapping can be called again, and
+-- `Source` is what the call says of the container that was cloned.
+pub record ClonesBy {R : Type 0} (limit capacity needed : ℕ) (result : Result R ReallocationError) (IsCallable Source After Same Refused : Type 0) : Type 0 where
+  pub callable : IsCallable
+  pub source : Source
+  pub clones : ClonesOrFails limit capacity needed result After Same Refused
 
 -- A call that sets the maximum of the capacity to n. It fails if the capacity is greater.
 pub record LimitsCapacity {R E : Type 0} (capacity n : ℕ) (result : Result R E) (After Same : Type 0) : Type 0 where

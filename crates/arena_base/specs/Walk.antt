@@ -1,5 +1,5 @@
 -- Walks over an arena by index: the pointers that an advancer has yet to return, and the entries that a drain has yet to remove.
-use Rattle.std.specs.Prelude.{◌≡◌, ℕ, ◌+◌, ◌-◌, Bool, true, false, Option, Some, None, List, [], ◌∷◌, ◌==◌, ◌&&◌, count_by, if◌then◌else◌, take, drop, reverse, MatchOption, IsSome}
+use Rattle.std.specs.Prelude.{◌≡◌, ℕ, ◌+◌, ◌-◌, Bool, true, false, Option, Some, None, List, [], ◌∷◌, ◌==◌, ◌&&◌, count_by, if◌then◌else◌, take, drop, reverse, MatchOption, IfSome, IsSome}
 use Rattle.arena_base.specs.Arena.{Arena, item_of}
 
 -- a walk is between the indexes `at` and `at + 1`, and goes up or down from there
@@ -56,9 +56,27 @@ module _ {T : Type 0} where
   abbrev pub falling_from : Arena T → ℕ → List (ℕ × ℕ)
   falling_from a i = reverse (pointers_from 0 (take (i + 1) a.slots))
 
+  -- A call that looks for the next entry of a walk returns a place and the first pointer that is left, or `None` if none is. `way` has the
+  -- pointers that are left, and `rest` those that are left behind a place. The entry is there, at the index that `index` reads off the place.
+  pub record FindsNext {P : Type 0} (numbers : P → ℕ × ℕ) (a : Arena T) (way : List (ℕ × ℕ)) (rest : ℕ → List (ℕ × ℕ)) (index : ℕ → ℕ) (result : Option (ℕ × P)) : Type 0 where
+    pub pointers : MatchOption result (way ≡ []) (λ e. way ≡ numbers e.1 ∷ rest e.0)
+    pub there : IfSome result (λ e. IsSome (item_of a (numbers e.1)))
+    pub next : IfSome result (λ e. index e.0 ≡ (numbers e.1).0)
+
   -- what a walk still returns if the arena doesn't change
   abbrev pub walk_rest : Walk → Arena T → List (ℕ × ℕ)
   walk_rest w a = if w.falling then falling_from a w.at else rising_from a (w.at + 1)
+
+  -- a walk begins before the least index, so all pointers are on its way
+  pub record GoesOverAll (w : Walk) (a : Arena T) : Type 0 where
+    pub begins : w ≡ rising_walk 1
+    pub rest : walk_rest w a ≡ pointers a
+
+  -- a walk begins with index i and goes up, or down if `rev` is true
+  pub record GoesFrom (w : Walk) (a : Arena T) (i : ℕ) (rev : Bool) : Type 0 where
+    pub begins : w ≡ (if rev then falling_walk i else rising_walk i)
+    pub rising : rev ≡ false → walk_rest w a ≡ rising_from a i
+    pub falling : rev ≡ true → walk_rest w a ≡ falling_from a i
 
   -- A step over the arena took the walk from `old` to `new` and returned the next entry on its way, which has index i and generation g.
   pub record GivesEntry (old new : Walk) (a : Arena T) (i g : ℕ) : Type 0 where

@@ -1,8 +1,8 @@
 //! `Arena`: entries in the slots of one vector, with a stack of the vacant slots.
-ghost use Rattle.std.specs.Prelude.{◌≡◌, ◌==◌, ◌+◌, ◌<◌, ◌≤◌, ◌↔◌};
+ghost use Rattle.std.specs.Prelude.{◌≡◌, ◌==◌, ◌<◌, ◌≤◌};
 ghost use Rattle.arena_base.specs.Generation.{IsLawfulGeneration};
 ghost use Rattle.arena_base.specs.Invalidation.{Raises};
-ghost use Rattle.arena_base.specs.Arena.{arena_len, arena_capacity, arena_limit, raised, IsSound};
+ghost use Rattle.arena_base.specs.Arena.{arena_len, arena_capacity, arena_limit, raised, Measures};
 
 mod clone;
 mod compress;
@@ -72,9 +72,7 @@ impl<P: BasePtr, T, A: Allocator> Model for Arena<P, T, A> {
 impl<P: BasePtr, T, A: Allocator> Arena<P, T, A> {
     /// Returns how many entries the arena holds without growing.
     pub fn capacity(&self) -> usize
-        ensures value { result ≡ arena_capacity self.now }
-        ensures sound { IsSound P.Inx.most P.Gen.greatest self.now }
-        ensures limit { arena_capacity self.now ≤ P.Inx.most }
+        ensures { Measures P.Inx.most P.Gen.greatest self.now result (arena_capacity self.now) }
     {
         self.slots.len()
     }
@@ -88,9 +86,7 @@ impl<P: BasePtr, T, A: Allocator> Arena<P, T, A> {
 
     /// Returns the number of entries.
     pub fn len(&self) -> usize
-        ensures value { result ≡ arena_len self.now }
-        ensures sound { IsSound P.Inx.most P.Gen.greatest self.now }
-        ensures within { arena_len self.now ≤ arena_capacity self.now }
+        ensures { Measures P.Inx.most P.Gen.greatest self.now result (arena_len self.now) }
     {
         self.slots.len() - self.vacant.len()
     }

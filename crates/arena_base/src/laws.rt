@@ -1,6 +1,6 @@
 //! The laws of every arena as a finite map: a call on one pointer doesn't change what every other pointer finds.
-ghost use Rattle.std.specs.Prelude.{◌≡◌, ◌≢◌, ◌⊎◌, ℕ, IsTrue, true, false, Some, None, is_some, IsSome, IfSome, IfNone, OnOk, OnErr, length, if◌then◌else◌};
-ghost use Rattle.arena_base.specs.Arena.{item_of, FindSame, FindSameBut};
+ghost use Rattle.std.specs.Prelude.{◌≡◌, ◌≢◌, ◌⊎◌, ℕ, IsTrue, true, Some, None, is_some, IsSome, IfSome, IfNone, OnOk, OnErr, length, if◌then◌else◌};
+ghost use Rattle.arena_base.specs.Arena.{item_of, ChangesOnly, FindSame};
 ghost use Rattle.arena_base.specs.Generation.{next_generation};
 ghost use Rattle.arena_base.specs.Walk.{pointers, times_named};
 
@@ -34,8 +34,8 @@ pub fn one_pointer<P: BasePtr, T, A: ArenaTrait<P, T>>(arena: &A)
 pub fn take<P: BasePtr, T, A: ArenaTrait<P, T>>(arena: &mut A, p: P) -> Option<T>
     ensures taken { result ≡ item_of (A.content arena.old) (P.numbers p) }
     ensures gone { item_of (A.content arena.new) (P.numbers p) ≡ None }
-    ensures others { FindSameBut (P.numbers p) (A.content arena.new) (A.content arena.old) }
-    ensures nothing { IfNone result (FindSame (A.content arena.new) (A.content arena.old)) }
+    ensures only { ChangesOnly (P.numbers p) (is_some result)
+        (A.content arena.old) (A.content arena.new) }
 {
     arena.remove(p).allow()
 }
@@ -44,8 +44,7 @@ pub fn take<P: BasePtr, T, A: ArenaTrait<P, T>>(arena: &mut A, p: P) -> Option<T
 pub fn put<P: BasePtr, T: Drop, A: ArenaTrait<P, T>>(arena: &mut A, p: P, item: T) -> bool
     ensures found { result ≡ is_some (item_of (A.content arena.old) (P.numbers p)) }
     ensures written { IsTrue result → item_of (A.content arena.new) (P.numbers p) ≡ Some item }
-    ensures others { FindSameBut (P.numbers p) (A.content arena.new) (A.content arena.old) }
-    ensures nothing { result ≡ false → FindSame (A.content arena.new) (A.content arena.old) }
+    ensures only { ChangesOnly (P.numbers p) result (A.content arena.old) (A.content arena.new) }
 {
     if !arena.contains(p) {
         return false;

@@ -30,18 +30,6 @@ impl<T, G> Slot<T, G> {
         }
     }
 
-    // Takes out the entry with its generation.
-    pub(crate) fn take(&mut self) -> (G, T)
-        requires { IsSome (slot_entry self.old) }
-        ensures value { slot_entry self.old ≡ Some result }
-        ensures after { self.new ≡ Slot.Vacant }
-    {
-        match replace(self, Slot::Vacant) {
-            Slot::Occupied(item, generation) => (generation, item),
-            Slot::Vacant => unreachable!(),
-        }
-    }
-
     // Takes out the entry, if any, with its generation.
     pub(crate) fn vacate(&mut self) -> Option<(G, T)>
         ensures value { result ≡ slot_entry self.old }

@@ -4,7 +4,7 @@ use Rattle.std.proofs.lemmas.Grind.{common_steps}
 use Rattle.std.specs.Option.{option_map, ForSome}
 use Rattle.arena_base.specs.Arena.{Arena, slot, arena_capacity, times as times_among, IsSound as IsSoundArena}
 use Rattle.arena_base.specs.Generation.{IsLawfulGeneration}
-use Rattle.chain_base.specs.{Chain.Entry, Chain.times, Chain.IsSound, Layout.chain_of, Link.Link}
+use Rattle.chain_base.specs.{Chain.Chain, Chain.Entry, Chain.times, Chain.IsSound, Layout.chain_of, Link.Link}
 use Rattle.chain_base.proofs.{Vacancy.HoldIndexes, Vacancy.held-within, Vacancy.vacant-held, Lists.entry_at-link, LaidOut.IsChainIn, Steps.held-laid}
 
 module _ {T : Type 0} where
@@ -40,6 +40,10 @@ module _ {T : Type 0} where
           vacant_listed = λ i. sound.vacant_listed i ∙ ap (times_among i) (vacant-held a.slots es held);
           counted = omega (arith, laid.counted, sound.counted);
         }
+
+    -- the same of a chain that is seen as c
+    pub IsSound-viewed : (c : Chain T) → chain_of a first ≡ c → IsSoundArena most greatest a → IsSound most greatest c
+    IsSound-viewed c is sound = rw is at (IsSound-laid_out sound)
 
   -- a call that may set the maximum keeps the slots
   pub slots-kept : {X E : Type 0} (r : Result X E) (old new : Arena (Link T)) (maximum : Option ℕ) → OnOk r (new ≡ record old { maximum = maximum }) → OnErr r (new ≡ old) → new.slots ≡ old.slots

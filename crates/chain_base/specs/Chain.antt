@@ -1,5 +1,5 @@
 -- A chain arena as contracts see it: one list of entries, and the numbers around it.
-use Rattle.std.specs.Prelude.{◌≡◌, ℕ, zero, suc, ◌+◌, ◌*◌, ◌<◌, ◌≤◌, ◌==◌, if◌then◌else◌, min, max, List, [], ◌∷◌, length, Option, Some, None, IsSome, is_some, slice_get}
+use Rattle.std.specs.Prelude.{◌≡◌, ℕ, zero, suc, ◌+◌, ◌<◌, ◌≤◌, ◌==◌, if◌then◌else◌, max, List, [], ◌∷◌, length, Option, Some, None, IsSome, IfSome, IsNone, ◌↔◌, is_some, slice_get}
 use Rattle.std.specs.Option.{option_map, ForSome}
 use Rattle.arena_base.specs.Arena.{Arena, times as times_among, limit_of, doubled_capacity, slot, item_if, arena_capacity}
 use Rattle.arena_base.specs.Generation.{first_generation, next_generation, IsLawfulGeneration}
@@ -203,6 +203,16 @@ module _ {T : Type 0} where
   pub record IsLastIndex (es : List (Entry T)) (i g : ℕ) : Type 0 where
     pub entry : generation_at es i ≡ Some g
     pub greatest : (k : ℕ) → i < k → times k es ≡ 0
+
+  -- a call returns the pointer of the entry with the least index, or nothing if there are no entries
+  pub record FindsFirstEntry {P : Type 0} (numbers : P → ℕ × ℕ) (es : List (Entry T)) (result : Option P) : Type 0 where
+    pub first : IfSome result (λ p. IsFirstIndex es (numbers p).0 (numbers p).1)
+    pub empty : IsNone result ↔ (es ≡ [])
+
+  -- a call returns the pointer of the entry with the greatest index, or nothing if there are no entries
+  pub record FindsLastEntry {P : Type 0} (numbers : P → ℕ × ℕ) (es : List (Entry T)) (result : Option P) : Type 0 where
+    pub last : IfSome result (λ p. IsLastIndex es (numbers p).0 (numbers p).1)
+    pub empty : IsNone result ↔ (es ≡ [])
 
   -- c, grown if it has no vacant slot
   abbrev pub with_room : ℕ → Chain T → Chain T

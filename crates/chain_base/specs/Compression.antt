@@ -1,9 +1,9 @@
 -- The results of a compression, the canonical order and a transfer.
-use Rattle.std.specs.Prelude.{◌≡◌, ℕ, zero, suc, ◌+◌, nat_lt, if◌then◌else◌, max, List, [], ◌∷◌, ◌++◌, length, map, slice_index_or, Option, Some, None}
+use Rattle.std.specs.Prelude.{◌≡◌, ℕ, zero, suc, ◌+◌, nat_lt, if◌then◌else◌, max, List, [], ◌∷◌, ◌++◌, length, map, slice_index_or, Bool, Option, Some, None}
 use Rattle.std.specs.List.{FoldsTo}
-use Rattle.arena_base.specs.{declared.invalidation.InvalidationOption.InvalidationOption, Compression.CompressionStep}
+use Rattle.arena_base.specs.{declared.invalidation.InvalidationOption.InvalidationOption, Compression.CompressionStep, Compression.compressed_generation, Compression.compression_overflows}
 use Rattle.arena_base.specs.{Generation.next_generation, Generation.overflows_after, Invalidation.allowed_value, Invalidation.is_overflow}
-use Rattle.chain_base.specs.Chain.{Entry, Chain, entry_at, vacant_indexes}
+use Rattle.chain_base.specs.Chain.{Entry, Chain, entry_at, vacant_indexes, IsSound}
 
 module _ {T : Type 0} where
   -- how many entries have a lesser index
@@ -75,6 +75,13 @@ module _ {P T F : Type 0} (numbers : P → ℕ × ℕ) (step : F → P → T →
     pub last : F
     pub calls : FoldsTo (CompressionStep numbers step g) (f, []) (entries_rising old) (last, items)
     pub after : new ≡ compressed old g items
+
+-- A call that compresses a chain, which is sound before. It raises the generation, or resets it to the first if `reset` is true. `After`
+-- holds with the new generation, and the result says whether the generations overflow.
+pub record CompressesChain {R T : Type 0} (most : ℕ) (greatest : Option ℕ) (reset : Bool) (old : Chain T) (result : InvalidationOption R) (After : ℕ → Type 0) : Type 0 where
+  pub after : After (compressed_generation greatest reset old.generation)
+  pub overflow : is_overflow result ≡ compression_overflows greatest reset old.generation
+  pub sound : IsSound most greatest old
 
 -- the state of a transfer: the closure, the items so far, and the source's generation
 pub record Transferring (F T : Type 0) : Type 0 where

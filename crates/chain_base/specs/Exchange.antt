@@ -1,7 +1,7 @@
 -- Two entries of a chain swap their indexes. No public clause cites this file.
 use Rattle.std.specs.Prelude.{◌≡◌, ℕ, ◌==◌, if◌then◌else◌, List, map, Option}
 use Rattle.std.specs.Option.{option_and_then, ForSome}
-use Rattle.chain_base.specs.Chain.{Entry, Chain, entry_at, link_at}
+use Rattle.chain_base.specs.Chain.{Entry, Chain, entry_at, link_at, IsOccupied}
 
 -- the index that k becomes if i and j are swapped
 abbrev pub exchanged_index : ℕ → ℕ → ℕ → ℕ
@@ -19,6 +19,12 @@ module _ {T : Type 0} where
   -- all entries have the generation of the chain
   abbrev pub IsEven : Chain T → Type 0
   IsEven c = (i : ℕ) → ForSome (entry_at c.entries i) (λ e. e.0 ≡ c.generation)
+
+  -- indexes i and j have entries, and all entries have the generation of the chain
+  pub record MayExchange (c : Chain T) (i j : ℕ) : Type 0 where
+    pub first : IsOccupied c i
+    pub second : IsOccupied c j
+    pub even : IsEven c
 
   -- the index of the entry before the one at index i
   abbrev pub index_before : List (Entry T) → ℕ → Option ℕ

@@ -1,5 +1,5 @@
 -- Where a new entry goes in a chain, and what an insertion does.
-use Rattle.std.specs.Prelude.{◌≡◌, ℕ, ◌<◌, ◌≤◌, List, [], ◌∷◌, ◌++◌, Option, Some, None}
+use Rattle.std.specs.Prelude.{◌≡◌, ℕ, ◌<◌, ◌≤◌, List, [], ◌∷◌, ◌++◌, Option, Some, None, Result, IfOk}
 use Rattle.chain_base.specs.declared.chain.insert.LinkInsertKind.TheVariants.{Disconnected, NextToInx, PrevToInx}
 use Rattle.chain_base.specs.Chain.{Entry, Chain, times, first_or, last_or, insert_after, insert_before, IsOccupied, IsFresh, next_index, inserted}
 use Rattle.chain_base.specs.declared.chain.insert.LinkInsertKind.{LinkInsertKind}
@@ -32,6 +32,13 @@ module _ {T : Type 0} where
     pub generation : g ≡ old.generation
     pub after : new ≡ inserted old place item
     pub fresh : IsFresh old → IsFresh new
+
+  -- A call that inserts `item` returns its pointer: `new` is `before` with the item, at the place of the list that `place` puts it.
+  -- `Refused` says when the call fails, `HasRoom` what becomes of the capacity.
+  pub record InsertsItem {P E : Type 0} (numbers : P → ℕ × ℕ) (before new : Chain T) (place : Entry T → List (Entry T)) (item : T) (result : Result P E) (Refused HasRoom : Type 0) : Type 0 where
+    pub ok : IfOk result (λ p. IsInsertion before new place item (numbers p).0 (numbers p).1)
+    pub refused : Refused
+    pub room : HasRoom
 
   -- `place` puts a new entry into the list between these two neighbours
   pub record PutsBetween (es : List (Entry T)) (place : Entry T → List (Entry T)) (prev next : Option ℕ) : Type 0 where

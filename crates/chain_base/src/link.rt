@@ -1,7 +1,8 @@
 //! `LinkNoGen`: an item with its neighbours in a chain.
-ghost use Rattle.std.specs.Prelude.{◌≡◌, ◌≤◌, Some, None};
-ghost use Rattle.std.specs.Option.{option_map, ForSome};
+ghost use Rattle.std.specs.Prelude.{◌≡◌, None};
+ghost use Rattle.std.specs.Option.{option_map};
 ghost use Rattle.arena_base.specs.Pointer.{named_of};
+ghost use Rattle.chain_base.specs.Link.{ReadsNeighbour};
 
 use arena_base::{BasePtr, OptInx};
 use std::marker::Model;
@@ -39,16 +40,14 @@ impl<P: BasePtr, T> LinkNoGen<P, T> {
 
     /// Returns the index of the entry before this one; `None` for the first.
     pub fn prev(&self) -> Option<P::Inx>
-        ensures value { option_map P.Inx.number result ≡ self.now.prev }
-        ensures named { named_of self.now.prev ≡ self.now.prev }
+        ensures { ReadsNeighbour (option_map P.Inx.number result) self.now.prev }
     {
         self.prev.get()
     }
 
     /// Returns the index of the entry after this one; `None` for the last.
     pub fn next(&self) -> Option<P::Inx>
-        ensures value { option_map P.Inx.number result ≡ self.now.next }
-        ensures named { named_of self.now.next ≡ self.now.next }
+        ensures { ReadsNeighbour (option_map P.Inx.number result) self.now.next }
     {
         self.next.get()
     }

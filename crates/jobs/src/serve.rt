@@ -1,7 +1,5 @@
 //! Lines of commands, and their answers.
 
-ghost use Rattle.agenda_store.specs.Store.{IsSound};
-
 use crate::command::{Command, Misread};
 use agenda_store::{Device, JobId, Store, StoreError};
 use std::io;
@@ -67,10 +65,7 @@ fn pop_due<D: Device>(
     rt: &(impl Print + AllocGlobal),
     store: &mut Store<D>,
     now: u64,
-) -> Result<(), Fault>
-    requires { IsSound D.is_modelled D.seen D.may_leave store.old }
-    ensures { IsSound D.is_modelled D.seen D.may_leave store.new }
-{
+) -> Result<(), Fault> {
     for _ in 0..u64::MAX {
         let Some((id, deadline, bytes)) = store.pop_due(now)? else {
             break;
@@ -93,10 +88,7 @@ fn obey<D: Device>(
     rt: &(impl Print + AllocGlobal),
     store: &mut Store<D>,
     line: &str,
-) -> Result<(), Fault>
-    requires { IsSound D.is_modelled D.seen D.may_leave store.old }
-    ensures { IsSound D.is_modelled D.seen D.may_leave store.new }
-{
+) -> Result<(), Fault> {
     match Command::read(line)? {
         Command::At(deadline, name) => {
             let id = store.schedule(deadline, name.as_bytes())?;
@@ -130,10 +122,7 @@ fn take<D: Device>(
     rt: &(impl Print + AllocGlobal),
     store: &mut Store<D>,
     line: io::Result<String>,
-) -> Result<(), Fault>
-    requires { IsSound D.is_modelled D.seen D.may_leave store.old }
-    ensures { IsSound D.is_modelled D.seen D.may_leave store.new }
-{
+) -> Result<(), Fault> {
     match line {
         Ok(line) if line.trim().is_empty() => Ok(()),
         Ok(line) => obey(rt, store, line.as_str()),
@@ -148,10 +137,7 @@ fn take_and_flush<D: Device>(
     store: &mut Store<D>,
     line: io::Result<String>,
     is_flushed: bool,
-) -> Result<(), Fault>
-    requires { IsSound D.is_modelled D.seen D.may_leave store.old }
-    ensures { IsSound D.is_modelled D.seen D.may_leave store.new }
-{
+) -> Result<(), Fault> {
     take(rt, store, line)?;
     if is_flushed && store.is_open() {
         store.flush()?;
@@ -165,10 +151,7 @@ pub fn serve<D: Device>(
     rt: &(impl Input + Print + AllocGlobal),
     store: &mut Store<D>,
     is_flushed: bool,
-) -> io::Result<()>
-    requires { IsSound D.is_modelled D.seen D.may_leave store.old }
-    ensures { IsSound D.is_modelled D.seen D.may_leave store.new }
-{
+) -> io::Result<()> {
     let mut lines: u64 = 0;
     for line in BufReader::new(rt.alloc(), rt.reader())?.lines(rt.alloc()) {
         lines = lines.saturating_add(1);

@@ -16,7 +16,7 @@ use std::alloc::{AllocError, Allocator};
 use std::cmp::Ordering;
 use std::mem;
 use triple_ord::{
-    BasePtr, ItemsMut, OrdEntryKind, OrdInsertKind, OrdInsertionError, ReallocationError,
+    BasePtr, Growth, ItemsMut, OrdEntryKind, OrdInsertKind, OrdInsertionError, ReallocationError,
     SimpleOrdArena, SimpleOrdItem,
 };
 
@@ -43,8 +43,8 @@ where
     match command {
         Command::Insert(item) => insert(arena, item),
         Command::InsertWithin(item) => insert_within(arena, item),
-        Command::Entry(kind, item) => entry(arena, &kind, item),
-        Command::EntryWithin(kind, item) => entry_within(arena, &kind, item),
+        Command::Entry(kind, item) => entry(arena, Growth::Reallocating, &kind, item),
+        Command::EntryWithin(kind, item) => entry(arena, Growth::Within, &kind, item),
         Command::Set(p, item) => set(arena, p, item),
         Command::Rekey(p, item) => rekey(arena, p, item),
         Command::Remove(p) => remove(arena, p),
@@ -115,40 +115,20 @@ fn reply_to_insertion<P: BasePtr, T, A: Allocator>(
     }
 }
 
-/// Runs `Command::Entry`.
+/// Runs `Command::Entry` or `Command::EntryWithin`.
 fn entry<P: BasePtr, T: SimpleOrdItem + Drop, A: Allocator>(
     arena: &mut SimpleOrdArena<P, T, A>,
+    growth: Growth,
     kind: &OrdInsertKind<P, T::Key>,
     item: T,
 ) -> Reply<P, T, A>
-    ensures { Inserts T.key_of T.Key.cmp P.Inx.most Reallocating (aim_of P.Inx.number kind.now)
+    ensures { Inserts T.key_of T.Key.cmp P.Inx.most growth (aim_of P.Inx.number kind.now)
         P.numbers
         arena.old item result arena.new }
 {
     // For the prover: the arena's pointers are distinct.
     let _ = arena.len();
-    match arena.entry_insert(kind.as_ref()) {
-        Ok(entry) => {
-            let shown = entry.ptr();
-            let before = entry.insert(item);
-            Reply::Inserted(shown, before)
-        }
-        Err(refusal) => Reply::Refused(refusal),
-    }
-}
-
-/// Runs `Command::EntryWithin`.
-fn entry_within<P: BasePtr, T: SimpleOrdItem + Drop, A: Allocator>(
-    arena: &mut SimpleOrdArena<P, T, A>,
-    kind: &OrdInsertKind<P, T::Key>,
-    item: T,
-) -> Reply<P, T, A>
-    ensures { Inserts T.key_of T.Key.cmp P.Inx.most Within (aim_of P.Inx.number kind.now) P.numbers
-        arena.old item result arena.new }
-{
-    // For the prover: the arena's pointers are distinct.
-    let _ = arena.len();
-    match arena.entry_insert_within_capacity(kind.as_ref()) {
+    match arena.entry_insert_by_growth(growth, kind.as_ref()) {
         Ok(entry) => {
             let shown = entry.ptr();
             let before = entry.insert(item);

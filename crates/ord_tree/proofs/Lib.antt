@@ -37,6 +37,7 @@ pub mod Compressing
 pub mod Appending
 pub mod Appended
 pub mod Cloning
+pub mod Lookups
 pub mod CallerLemmas
 -- The lemmas of the layers below, for callers.
 pub use Rattle.chain_base.proofs.ArenaLemmas

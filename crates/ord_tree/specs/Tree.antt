@@ -1,9 +1,10 @@
 -- A tree as its users see it: a list of entries, with a shape.
-use Rattle.std.specs.Prelude.{◌≡◌, ℕ, Bool, Option, None, Some, List, [], ◌∷◌, length, refl}
+use Rattle.std.specs.Prelude.{◌≡◌, ◌<◌, ℕ, Bool, Option, None, Some, IsSome, Result, IfOk, OnOk, List, [], ◌∷◌, length, refl}
 use Rattle.std.specs.Coded.{Coded, code_by, coded×, coded_ℕ, coded_list, coded_option}
 use Rattle.chain_base.specs.InvalidationOption.{InvalidationOption}
 use Rattle.chain_base.specs.ArenaCompression.{compressed_generation, compression_overflows}
-use Rattle.chain_base.specs.Chain.{Entry, Chain, insert_after, insert_before, with_item as chain_with_item, IsOccupied}
+use Rattle.chain_base.specs.Chain.{Entry, Chain, insert_after, insert_before, next_index, link_at, IsArenaOf, with_item as chain_with_item, IsOccupied, IsSound}
+use Rattle.chain_base.specs.{Insert.IsInsertion, Link.Link, PlainArena.Arena}
 use Rattle.chain_base.specs.Invalidation.{is_overflow}
 use Rattle.ord_tree.specs.{declared.node.SimpleOrdArenaNode.SimpleOrdArenaNode as Node, Shape.Shape, Shape.root_of, Shape.walk, Shape.missing, Slots.Holds}
 use Rattle.ord_tree.specs.{declared.tree_links.Side.Side, declared.tree_links.Side.TheVariants.Lesser, declared.tree_links.Side.TheVariants.Greater}
@@ -41,6 +42,20 @@ pub record IsChainOf {P T I G : Type 0} (t : Tree T) (c : Chain (Node P T I G)) 
   pub list : bare c ≡ t.list
   pub held : Holds (slots_of c) None (root_of t.shape) t.shape
 
+-- The arena below the tree: its slots hold the entries of a chain below the tree, with their links.
+pub record IsArenaBelow {P T I G : Type 0} (t : Tree T) (a : Arena (Link (Node P T I G))) : Type 0 where
+  pub chain : Chain (Node P T I G)
+  pub below : IsChainOf t chain
+  pub holds : IsArenaOf chain a
+  pub sound : IsSoundTree t
+
+-- A look-up at index i shows a node of generation g with its link, as a chain below the tree has it.
+pub record ShowsNode {P T I G : Type 0} (t : Tree T) (i g : ℕ) (link : Link (Node P T I G)) : Type 0 where
+  pub chain : Chain (Node P T I G)
+  pub below : IsChainOf t chain
+  pub shown : link_at chain.entries i ≡ Some (g, link)
+  pub sound : IsSoundTree t
+
 -- the list with a new entry directly before or after the entry with this index
 abbrev pub put_on : {T : Type 0} → Side → ℕ → List (Entry T) → Entry T → List (Entry T)
 put_on Lesser i es new = insert_before i new es
@@ -56,6 +71,12 @@ abbrev pub CanPutAt : {I T : Type 0} → (I → ℕ) → Option (I × Side) → 
 CanPutAt number None c = c.entries ≡ []
 CanPutAt number (Some at) c = IsOccupied c (number at.0)
 
+-- A call that returns a number of the tree also says that its list and the tree are sound.
+pub record Measures {T : Type 0} (most : ℕ) (greatest : Option ℕ) (t : Tree T) (result measure : ℕ) : Type 0 where
+  pub value : result ≡ measure
+  pub list : IsSound most greatest t.list
+  pub sound : IsSoundTree t
+
 -- What an insertion does to the shape. A tight shape stays tight, and at most five entries get another parent. The number of old entries
 -- whose rank changes, plus the new potential, is at most the old potential plus 4.
 pub record IsGrown (old new : Shape) : Type 0 where
@@ -63,6 +84,22 @@ pub record IsGrown (old new : Shape) : Type 0 where
   pub tight : IsTight old → IsTight new
   pub moved : MovesAtMost 5 old new
   pub rank_changes : ChangesRanksWithin 4 old new
+
+-- A call that inserts `item` returns its pointer: the new list is `before` with the item, at the place of the list that `place` puts it, and
+-- the shape grows. `Refused` says when the call fails.
+pub record InsertsItem {P E T : Type 0} (numbers : P → ℕ × ℕ) (before : Chain T) (old new : Tree T) (place : Entry T → List (Entry T)) (item : T) (result : Result P E) (Refused : Type 0) : Type 0 where
+  pub ok : IfOk result (λ p. IsInsertion before new.list place item (numbers p).0 (numbers p).1)
+  pub shape : OnOk result (IsGrown old.shape new.shape)
+  pub refused : Refused
+
+-- A call makes room for one more entry, and no entry changes. `After` is true if it succeeds, `Refused` says when it fails.
+pub record MakesRoom {R E T : Type 0} (old new : Tree T) (result : Result R E) (After Refused : Type 0) : Type 0 where
+  pub ok : OnOk result After
+  pub room : OnOk result (length new.list.entries < new.list.capacity)
+  pub next : OnOk result (IsSome (next_index new.list))
+  pub entries : new.list.entries ≡ old.list.entries
+  pub shape : new.shape ≡ old.shape
+  pub refused : Refused
 
 -- What a removal does to the shape. At most nine entries get another parent. The number of entries whose rank changes, plus the new
 -- potential, is at most the old potential plus 9.

@@ -3,15 +3,16 @@
 ghost use Rattle.std.specs.Prelude.{◌≡◌, ◌==◌, None, IfSome, is_some, length};
 ghost use Rattle.std.specs.Option.{option_map};
 ghost use Rattle.chain_base.specs.Generation.{IsLawfulGeneration};
-ghost use Rattle.chain_base.specs.Chain.{raised, entry_at, next_index, IsSound};
+ghost use Rattle.chain_base.specs.Chain.{raised, entry_at, next_index};
 ghost use Rattle.chain_base.specs.Invalidation.{Raises};
 ghost use Rattle.ord_tree.specs.Shape.{root_of};
-ghost use Rattle.ord_tree.specs.Tree.{IsChainOf, IsSoundTree};
+ghost use Rattle.ord_tree.specs.Tree.{IsChainOf, IsSoundTree, Measures};
 
 mod append;
 mod clone;
 mod growth;
 mod insert;
+mod lookup;
 mod moving;
 mod rebuild;
 mod remove;
@@ -70,9 +71,7 @@ impl<P: BasePtr, T, A: Allocator> OrdTree<P, T, A> {
 
     /// Returns the number of entries.
     pub fn len(&self) -> usize
-        ensures value { result ≡ length self.now.list.entries }
-        ensures list { IsSound P.Inx.most P.Gen.greatest self.now.list }
-        ensures sound { IsSoundTree self.now }
+        ensures { Measures P.Inx.most P.Gen.greatest self.now result (length self.now.list.entries) }
     {
         self.chain.len()
     }

@@ -10,9 +10,6 @@ use crate::new_order::NewOrder;
 use order_queue::{OrderId, OrderQueue, P0, ReallocationError, Trade};
 use std::alloc::{AllocError, Allocator};
 
-/// How many orders one side can have.
-const MOST_ORDERS: usize = 4_294_967_294;
-
 // Puts what is left of an order on its side.
 fn rest<A: Allocator>(
     own: &mut OrderQueue<A>,
@@ -70,7 +67,7 @@ pub(crate) fn settle<A: Allocator, B: Allocator>(
 {
     let price = order.kind.limit(order.side);
     // If the side is full, that is the refusal, also if the trades would be refused memory.
-    if own.len() == MOST_ORDERS {
+    if own.len() == OrderQueue::<A>::limit() {
         let offered = other.offered(price, order.quantity);
         if rest_of(order, order.quantity - offered) > 0 {
             return Err(ReallocationError::BeyondMaxCapacity);

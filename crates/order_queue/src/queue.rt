@@ -1,6 +1,6 @@
 //! `OrderQueue`: the resting orders of one side.
 
-ghost use Rattle.std.specs.Prelude.{◌≡◌, ◌↔◌, ◌+◌, ◌-◌, ◌≤◌, ◌<◌, List, [], ◌∷◌, ◌++◌, Err, Some, None, length, vec_capacity};
+ghost use Rattle.std.specs.Prelude.{◌≡◌, ◌↔◌, ◌+◌, ◌-◌, ◌≤◌, ◌<◌, [], ◌++◌, Err, Some, None, length, vec_capacity};
 ghost use Rattle.std.specs.Prelude.{IfOk, OnOk, OnErr, OnSome, IfSome};
 ghost use Rattle.std.specs.Option.{option_map};
 ghost use Rattle.sorted_arena.specs.PlainArena.{capacity_for};
@@ -10,7 +10,7 @@ ghost use Rattle.order_queue.specs.Queue.{ChangesOrder, HasRoomFor, IsSound, Res
 
 use crate::order::{Lot, Order, Trade, order_at};
 use crate::side::{Side, ranked};
-use sorted_arena::{P0, ReallocationError, SortedArena};
+use sorted_arena::{BasePtrInx, P0, ReallocationError, SortedArena};
 use std::alloc::{AllocError, Allocator, Global};
 use std::marker::Model;
 
@@ -77,6 +77,13 @@ impl<A: Allocator> OrderQueue<A> {
         ensures sound { IsSound self.now }
     {
         self.orders.len()
+    }
+
+    /// Returns how many orders a side can have at most: 4,294,967,294, as many as pointers have indexes.
+    pub fn limit() -> usize
+        ensures { result ≡ most_entries }
+    {
+        u32::limit()
     }
 
     /// Returns how many orders the side holds without growing.

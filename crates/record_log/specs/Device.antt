@@ -1,5 +1,5 @@
 -- What the calls of a device do to its file, and what a crash leaves of them.
-use Rattle.std.specs.Prelude.{◌<◌, ◌≡◌, ◌⊎◌, ℕ, ◌+◌, ◌≤◌, max, List, ◌++◌, length, take, drop, Result, IsErrOf, OnOk, IsTrue, false}
+use Rattle.std.specs.Prelude.{◌<◌, ◌≡◌, ◌⊎◌, ℕ, ◌+◌, ◌≤◌, max, List, ◌++◌, length, take, drop, Result, IfOk, IsErrOf, OnOk, IsTrue, false}
 use Rattle.std.proofs.lemmas.Bool.{false≢true}
 use Rattle.record_log.specs.declared.device.DeviceError.{DeviceError}
 use Rattle.record_log.specs.declared.device.DeviceError.TheVariants.{Failed}
@@ -57,8 +57,9 @@ pub record HasCause {D T E : Type 0} (faults : D → ℕ) (old new : D) (result 
   pub failed : IsErrOf result failure → faults old < faults new
 
 module _ {D : Type 0} (moment : D → ℕ) (left_since : D → ℕ → List ℕ → Type 0) (may_leave : D → List ℕ → Type 0) where
-  -- A call of a device takes its time, and its `Failed` has a cause.
-  pub record IsCall {T : Type 0} (faults : D → ℕ) (old new : D) (result : Result T DeviceError) : Type 0 where
+  -- A call of a device takes its time, and its `Failed` has a cause. At `Ok`, `Holds` is true of what it returns.
+  pub record IsCall {T : Type 0} (faults : D → ℕ) (old new : D) (result : Result T DeviceError) (Holds : T → Type 0) : Type 0 where
+    pub ok : IfOk result Holds
     pub time : Elapses moment left_since may_leave old new
     pub cause : HasCause faults old new result Failed
 
@@ -69,10 +70,10 @@ module _ {D : Type 0} (seen : D → List ℕ) (may_leave : D → List ℕ → Ty
     pub holds : P (seen device)
 
   module _ (moment : D → ℕ) (left_since : D → ℕ → List ℕ → Type 0) (faults : D → ℕ) (old new : D) where
-    -- A call of a device leaves the file alone, takes its time, and has a cause for `Failed`.
-    pub record IsQuietCall {T : Type 0} (result : Result T DeviceError) : Type 0 where
+    -- A call of a device leaves the file alone. At `Ok`, `Holds` is true of what it returns.
+    pub record IsQuietCall {T : Type 0} (result : Result T DeviceError) (Holds : T → Type 0) : Type 0 where
       pub stays : Stays seen may_leave old new
-      pub call : IsCall moment left_since may_leave faults old new result
+      pub call : IsCall moment left_since may_leave faults old new result Holds
 
     -- A step ends with a sync: at `Ok` the file is on the disk. A crash at any moment leaves a file that has P, and this failure has a cause.
     pub record EndsOnDisk {T E : Type 0} (result : Result T E) (failure : E) (P : List ℕ → Type 0) : Type 0 where

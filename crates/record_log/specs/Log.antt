@@ -1,13 +1,14 @@
 -- An open log.
-use Rattle.std.specs.Prelude.{◌≡◌, ◌≢◌, ◌⊎◌, ◌<◌, ◌≤◌, ◌^◌, ℕ, Bool, IsTrue, List, [], ◌∷◌, ◌++◌, length, map, take, drop, Vec, Result, IfOk, IsErrOf}
+use Rattle.std.specs.Prelude.{◌≡◌, ◌≢◌, ◌⊎◌, ◌<◌, ◌≤◌, ◌^◌, ℕ, Bool, IsTrue, List, [], ◌∷◌, ◌++◌, length, map, take, drop, Vec, Result, IfOk, IfErr, OnOk, IsErrOf}
 use Rattle.std.specs.List.{AllByRecursion}
 use Rattle.std.specs.declared.alloc.Global.{Global}
-use Rattle.record_log.specs.Device.{IsDurable, IsPartlyCut, IsTorn, IsQuiet, HasCause}
+use Rattle.record_log.specs.Device.{IsDurable, IsPartlyCut, IsTorn, IsQuiet, HasCause, EndsOnDisk}
 use Rattle.record_log.specs.Format.{header, front, blocks, Fits, IsEnd, HasBlocks, Holds}
 use Rattle.record_log.specs.declared.device.DeviceError.TheVariants.{Failed}
 use Rattle.record_log.specs.declared.error.LogError.{LogError}
 use Rattle.record_log.specs.declared.error.LogError.TheVariants.{Device, Full, NotALog, Corrupt}
 use Rattle.record_log.specs.declared.log.Log.{Log}
+use Rattle.record_log.specs.declared.recovery.Recovered.{Recovered}
 
 -- the device of a log
 abbrev pub device_of : {D : Type 0} → Log D → D
@@ -61,6 +62,11 @@ pub record IsAtRest (n : ℕ) (file : List ℕ) (records : List (List ℕ)) : Ty
   pub end : n ≡ length (front records)
   pub fit : AllByRecursion Fits records
 
+-- The old file holds the records, and the new one is at rest with them: the last one ends at n.
+pub record Rests (old new : List ℕ) (n : ℕ) (records : List (List ℕ)) : Type 0 where
+  pub held : Holds old records
+  pub rest : IsAtRest n new records
+
 -- It says that the device failed, or that no memory was left.
 abbrev pub IsDeviceError : LogError → Type 0
 IsDeviceError (Device error) = Unit {0}
@@ -72,6 +78,10 @@ IsRefused file (Device error) = Unit {0}
 IsRefused file Full = ⊥
 IsRefused file NotALog = (8 < length file) × (take 8 file ≢ header)
 IsRefused file Corrupt = (take 8 file ≡ header) × HasNoBlocks (drop 8 file)
+
+-- Whatever records the old file holds, the new one holds.
+abbrev pub HoldsTheSame : List ℕ → List ℕ → Type 0
+HoldsTheSame old new = (records : List (List ℕ)) → Holds old records → Holds new records
 
 module _ {D : Type 0} (is_modelled : Bool) (faults : D → ℕ) (old new : D) where
   -- Why a call of a log failed: at `Failed` the device has failed since, and at `Full` this holds.
@@ -87,14 +97,19 @@ module _ {D : Type 0} (is_modelled : Bool) (seen : D → List ℕ) (may_leave : 
       pub cause : IsTrue is_modelled → HasCause faults old new result (Device Failed)
       pub full : IsErrOf result Full → IsFull
 
-    -- A call writes a log of these records beside, and returns where the last one ends. At `Full` they take 2^62 bytes.
-    pub record WritesLogBeside (result : Result ℕ LogError) (records : List (List ℕ)) : Type 0 where
-      pub end : IfOk result (λ end. end ≡ length (front records))
-      pub beside : WritesBeside result (2 ^ 62 ≤ length (front records))
+    -- A call reads the records of a file and may repair the file, which keeps its records at each moment. At `Ok`, `Found` is true of where
+    -- the last record ends and of the records. An error says why the file is refused.
+    pub record ReadsRecords (result : Result Recovered LogError) (Found : ℕ → List (List ℕ) → Type 0) : Type 0 where
+      pub ok : IsTrue is_modelled → IfOk result (λ found. Found found.end (contents found.records.items))
+      pub step : IsTrue is_modelled
+          → EndsOnDisk seen may_leave moment left_since faults old new result (Device Failed) (HoldsTheSame (seen old))
+      pub refused : IsTrue is_modelled → IfErr result (IsRefused (seen old))
 
--- Whatever records the old file holds, the new one holds.
-abbrev pub HoldsTheSame : List ℕ → List ℕ → Type 0
-HoldsTheSame old new = (records : List (List ℕ)) → Holds old records → Holds new records
+    -- A call writes this file beside, a log of these records, and returns where the last one ends. At `Full` they take 2^62 bytes.
+    pub record WritesLogBeside (beside_of : D → List ℕ) (result : Result ℕ LogError) (list : List (List ℕ)) (file : List ℕ) : Type 0 where
+      pub end : IfOk result (λ end. end ≡ length (front list))
+      pub records : IsTrue is_modelled → OnOk result (beside_of new ≡ file)
+      pub beside : WritesBeside result (2 ^ 62 ≤ length (front list))
 
 -- A file holds one list of records at most.
 abbrev pub OneReading : Type 0

@@ -1,6 +1,6 @@
 //! `Device`: a file as a log sees it.
 
-ghost use Rattle.std.specs.Prelude.{◌≡◌, ◌⊎◌, ◌≤◌, ◌++◌, [], Bool, List, ℕ, length, take, IfOk, OnOk, IsTrue};
+ghost use Rattle.std.specs.Prelude.{◌≡◌, ◌⊎◌, ◌≤◌, ◌++◌, [], Bool, List, ℕ, length, take, IsTrue};
 ghost use Rattle.record_log.specs.declared.device.DeviceError.TheVariants.{OutOfMemory};
 ghost use Rattle.record_log.specs.Device.{IsDurable, Follows, IsTorn, IsPartlyCut, Overwrites, IsCall, IsQuietCall};
 
@@ -68,64 +68,60 @@ pub trait Device {
 
     /// Returns all bytes of the file.
     fn read(&mut self, alloc: Global) -> Result<Vec<u8>, DeviceError>
-        ensures bytes { IsTrue is_modelled → IfOk result (λ bytes. bytes.items ≡ seen self.old) }
-        ensures call { IsTrue is_modelled
-            → IsQuietCall seen may_leave moment left_since faults self.old self.new result };
+        ensures { IsTrue is_modelled
+            → IsQuietCall seen may_leave moment left_since faults self.old self.new result
+            (λ bytes. bytes.items ≡ seen self.old) };
 
     /// Writes over what is there, and past the end.
     fn write_at(&mut self, at: usize, bytes: &[u8]) -> Result<(), DeviceError>
         requires { IsTrue is_modelled → at ≤ length (seen self.old) }
-        ensures written { IsTrue is_modelled
-            → OnOk result (Overwrites (seen self.old) at bytes.now (seen self.new)) }
-        ensures crash { IsTrue is_modelled
-            → Follows (IsTorn at (length bytes.now)) (may_leave self.old) (may_leave self.new) }
         ensures call { IsTrue is_modelled
-            → IsCall moment left_since may_leave faults self.old self.new result };
+            → IsCall moment left_since may_leave faults self.old self.new result
+            (λ _. Overwrites (seen self.old) at bytes.now (seen self.new)) }
+        ensures crash { IsTrue is_modelled
+            → Follows (IsTorn at (length bytes.now)) (may_leave self.old) (may_leave self.new) };
 
     /// Cuts the file to a length.
     fn cut(&mut self, len: usize) -> Result<(), DeviceError>
         requires { IsTrue is_modelled → len ≤ length (seen self.old) }
-        ensures cut { IsTrue is_modelled → OnOk result (seen self.new ≡ take len (seen self.old)) }
-        ensures crash { IsTrue is_modelled
-            → Follows (IsPartlyCut len) (may_leave self.old) (may_leave self.new) }
         ensures call { IsTrue is_modelled
-            → IsCall moment left_since may_leave faults self.old self.new result };
+            → IsCall moment left_since may_leave faults self.old self.new result
+            (λ _. seen self.new ≡ take len (seen self.old)) }
+        ensures crash { IsTrue is_modelled
+            → Follows (IsPartlyCut len) (may_leave self.old) (may_leave self.new) };
 
     /// Puts all writes on the disk: from now on, a crash leaves what a read returns.
     fn sync(&mut self) -> Result<(), DeviceError>
-        ensures durable { IsTrue is_modelled
-            → OnOk result (IsDurable (seen self.old) (may_leave self.new)) }
-        ensures call { IsTrue is_modelled
-            → IsQuietCall seen may_leave moment left_since faults self.old self.new result };
+        ensures { IsTrue is_modelled
+            → IsQuietCall seen may_leave moment left_since faults self.old self.new result
+            (λ _. IsDurable (seen self.old) (may_leave self.new)) };
 
     /// Begins an empty file beside this one, in the place of any that is there.
     fn begin_beside(&mut self) -> Result<(), DeviceError>
-        ensures empty { IsTrue is_modelled → OnOk result (beside self.new ≡ []) }
-        ensures call { IsTrue is_modelled
-            → IsQuietCall seen may_leave moment left_since faults self.old self.new result };
+        ensures { IsTrue is_modelled
+            → IsQuietCall seen may_leave moment left_since faults self.old self.new result
+            (λ _. beside self.new ≡ []) };
 
     /// Appends to the file beside.
     fn append_beside(&mut self, bytes: &[u8]) -> Result<(), DeviceError>
-        ensures appended { IsTrue is_modelled
-            → OnOk result (beside self.new ≡ beside self.old ++ bytes.now) }
-        ensures call { IsTrue is_modelled
-            → IsQuietCall seen may_leave moment left_since faults self.old self.new result };
+        ensures { IsTrue is_modelled
+            → IsQuietCall seen may_leave moment left_since faults self.old self.new result
+            (λ _. beside self.new ≡ beside self.old ++ bytes.now) };
 
     /// Puts the file beside on the disk.
     fn sync_beside(&mut self) -> Result<(), DeviceError>
-        ensures durable { IsTrue is_modelled
-            → OnOk result (IsDurable (beside self.old) (beside_may_leave self.new)) }
-        ensures beside { IsTrue is_modelled → OnOk result (beside self.new ≡ beside self.old) }
-        ensures call { IsTrue is_modelled
-            → IsQuietCall seen may_leave moment left_since faults self.old self.new result };
+        ensures { IsTrue is_modelled
+            → IsQuietCall seen may_leave moment left_since faults self.old self.new result
+            (λ _. IsDurable (beside self.old) (beside_may_leave self.new)
+            × (beside self.new ≡ beside self.old)) };
 
     /// The file beside takes this one's place, as a whole. Until a [`sync`](Self::sync) a crash may undo that, also if the call fails.
     fn take_place(&mut self) -> Result<(), DeviceError>
-        ensures taken { IsTrue is_modelled → OnOk result (seen self.new ≡ beside self.old) }
-        ensures crash { IsTrue is_modelled → (c : List ℕ) → may_leave self.new c
-            → may_leave self.old c ⊎ beside_may_leave self.old c }
         ensures call { IsTrue is_modelled
-            → IsCall moment left_since may_leave faults self.old self.new result };
+            → IsCall moment left_since may_leave faults self.old self.new result
+            (λ _. seen self.new ≡ beside self.old) }
+        ensures crash { IsTrue is_modelled → (c : List ℕ) → may_leave self.new c
+            → may_leave self.old c ⊎ beside_may_leave self.old c };
 
     /// This moment is one of those since an earlier one.
     ghost counts_now: { IsTrue is_modelled

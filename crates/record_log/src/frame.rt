@@ -1,6 +1,6 @@
 //! A record as bytes: its length, its checksum and the bytes themselves.
 
-ghost use Rattle.std.specs.Prelude.{◌≡◌, ◌<◌, ◌≤◌, ◌^◌, [], ◌∷◌, ◌++◌, List, ℕ, length, IfOk, OnOk, IfSome, IfNone};
+ghost use Rattle.std.specs.Prelude.{◌≡◌, ◌<◌, ◌^◌, [], ◌∷◌, ◌++◌, List, ℕ, length, IfOk, OnOk, IfSome, IfNone};
 ghost use Rattle.std.specs.Int.{w32, to_be_bytes};
 ghost use Rattle.record_log.specs.Checksum.{checksum};
 ghost use Rattle.record_log.specs.Format.{frame, Fits};
@@ -19,6 +19,13 @@ pub(crate) const OPEN: u8 = 1;
 /// The gate behind the last record.
 pub(crate) const CLOSED: u8 = 0;
 
+/// Bytes that a record may have.
+#[derive(Clone, Copy)]
+pub(crate) struct Payload<'a> {
+    pub(crate) bytes: &'a [u8],
+    ghost fits: { Fits bytes.now },
+}
+
 /// Returns the checksum, FNV-1a of 32 bits.
 fn checksum_of(bytes: &[u8]) -> u32
     ensures { result ≡ checksum bytes.now }
@@ -31,10 +38,10 @@ fn checksum_of(bytes: &[u8]) -> u32
 }
 
 /// Appends the frame of a record.
-fn push_frame(to: &mut Vec<u8>, bytes: &[u8]) -> Result<(), AllocError>
-    requires { Fits bytes.now }
-    ensures { OnOk result (to.new.items ≡ to.old.items ++ frame bytes.now) }
+fn push_frame(to: &mut Vec<u8>, payload: Payload<'_>) -> Result<(), AllocError>
+    ensures { OnOk result (to.new.items ≡ to.old.items ++ frame payload.entry.bytes.now) }
 {
+    let bytes = payload.bytes;
     to.extend_from_slice(&(bytes.len() as u32).to_be_bytes())?;
     to.extend_from_slice(&checksum_of(bytes).to_be_bytes())?;
     to.extend_from_slice(bytes)?;
@@ -42,24 +49,22 @@ fn push_frame(to: &mut Vec<u8>, bytes: &[u8]) -> Result<(), AllocError>
 }
 
 /// Returns the frame of a record, and a closed gate behind it.
-pub(crate) fn framed(alloc: Global, bytes: &[u8]) -> Result<Vec<u8>, AllocError>
-    requires { Fits bytes.now }
-    ensures { IfOk result (λ framed. framed.items ≡ frame bytes.now ++ 0 ∷ []) }
+pub(crate) fn framed(alloc: Global, payload: Payload<'_>) -> Result<Vec<u8>, AllocError>
+    ensures { IfOk result (λ framed. framed.items ≡ frame payload.entry.bytes.now ++ 0 ∷ []) }
 {
     let mut framed = Vec::new(alloc);
-    push_frame(&mut framed, bytes)?;
+    push_frame(&mut framed, payload)?;
     framed.push(CLOSED)?;
     Ok(framed)
 }
 
 /// Returns the frame of a record, and an open gate in front of it.
-pub(crate) fn block_of(alloc: Global, bytes: &[u8]) -> Result<Vec<u8>, AllocError>
-    requires { Fits bytes.now }
-    ensures { IfOk result (λ block. block.items ≡ 1 ∷ frame bytes.now) }
+pub(crate) fn block_of(alloc: Global, payload: Payload<'_>) -> Result<Vec<u8>, AllocError>
+    ensures { IfOk result (λ block. block.items ≡ 1 ∷ frame payload.entry.bytes.now) }
 {
     let mut block = Vec::new(alloc);
     block.push(OPEN)?;
-    push_frame(&mut block, bytes)?;
+    push_frame(&mut block, payload)?;
     Ok(block)
 }
 

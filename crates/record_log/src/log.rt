@@ -8,7 +8,7 @@ ghost use Rattle.record_log.specs.Log.{contents, device_of, Keeps, IsSettled, Is
 
 use crate::device::{Device, DeviceError};
 use crate::error::LogError;
-use crate::frame::{OPEN, framed};
+use crate::frame::{OPEN, Payload, framed};
 use crate::recovery::{Recovered, recover};
 use crate::rewrite::{take_place_and_sync, write_beside};
 use crate::steps::write_and_sync;
@@ -97,7 +97,7 @@ impl<D: Device> Log<D> {
             return Err(LogError::Full);
         }
         let gate = self.end;
-        let behind = framed(alloc, bytes)?;
+        let behind = framed(alloc, Payload { bytes })?;
         // The gate stays closed on the disk until the record is there.
         write_and_sync(&mut self.device, gate + 1, &behind)?;
         write_and_sync(&mut self.device, gate, &[OPEN])?;

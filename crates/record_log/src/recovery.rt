@@ -2,8 +2,8 @@
 
 ghost use Rattle.std.specs.Prelude.{◌≡◌, ◌⊎◌, ◌<◌, ◌≤◌, ◌∷◌, IfSome, IfNone, IfOk, IfErr, IsErrOf, IsTrue, length};
 ghost use Rattle.record_log.specs.Device.{IsDurable, LeavesOnly, IsOnDisk, EndsOnDisk};
-ghost use Rattle.record_log.specs.Format.{IsEnd, Holds};
-ghost use Rattle.record_log.specs.Log.{contents, IsReadTo, IsLaidOut, LaysOut, IsAtRest, IsDeviceError, IsRefused, HasNoBlocks, HoldsTheSame};
+ghost use Rattle.record_log.specs.Format.{IsEnd};
+ghost use Rattle.record_log.specs.Log.{contents, IsReadTo, IsLaidOut, LaysOut, Rests, IsDeviceError, IsRefused, HasNoBlocks, ReadsRecords};
 
 use crate::device::{Device, DeviceError};
 use crate::error::LogError;
@@ -93,12 +93,9 @@ fn begin<D: Device>(alloc: Global, device: &mut D) -> Result<Recovered, LogError
 fn lay_out<D: Device>(alloc: Global, device: &mut D, bytes: &[u8]) -> Result<Recovered, LogError>
     requires { IsTrue D.is_modelled
         → IsOnDisk D.seen D.may_leave device.old (λ file. bytes.now ≡ file) }
-    ensures ok { IsTrue D.is_modelled → IfOk result
-        (λ found. LaysOut (D.seen device.old) (D.seen device.new) found.end (contents found.records.items)) }
-    ensures step { IsTrue D.is_modelled
-        → EndsOnDisk D.seen D.may_leave D.moment D.left_since D.faults device.old device.new
-        result (LogError.Device DeviceError.Failed) (HoldsTheSame (D.seen device.old)) }
-    ensures refused { IsTrue D.is_modelled → IfErr result (IsRefused (D.seen device.old)) }
+    ensures reads { ReadsRecords D.is_modelled D.seen D.may_leave D.moment D.left_since D.faults
+        device.old device.new result
+        (LaysOut (D.seen device.old) (D.seen device.new)) }
     ensures unchanged { IfErr result (λ e. IsDeviceError e ⊎ (device.new ≡ device.old)) }
 {
     if bytes.len() <= HEADER.len() {
@@ -111,14 +108,9 @@ fn lay_out<D: Device>(alloc: Global, device: &mut D, bytes: &[u8]) -> Result<Rec
 /// Reads the records of a file that a crash may have left, and repairs its end.
 pub(crate) fn recover<D: Device>(alloc: Global, device: &mut D) -> Result<Recovered, LogError>
     requires { IsTrue D.is_modelled → IsDurable (D.seen device.old) (D.may_leave device.old) }
-    ensures records { IsTrue D.is_modelled
-        → IfOk result (λ found. Holds (D.seen device.old) (contents found.records.items)) }
-    ensures at_rest { IsTrue D.is_modelled → IfOk result
-        (λ found. IsAtRest found.end (D.seen device.new) (contents found.records.items)) }
-    ensures step { IsTrue D.is_modelled
-        → EndsOnDisk D.seen D.may_leave D.moment D.left_since D.faults device.old device.new
-        result (LogError.Device DeviceError.Failed) (HoldsTheSame (D.seen device.old)) }
-    ensures refused { IsTrue D.is_modelled → IfErr result (IsRefused (D.seen device.old)) }
+    ensures reads { ReadsRecords D.is_modelled D.seen D.may_leave D.moment D.left_since D.faults
+        device.old device.new result
+        (Rests (D.seen device.old) (D.seen device.new)) }
     ensures unchanged { IsTrue D.is_modelled → IfErr result (λ e. IsDeviceError e
         ⊎ LeavesOnly D.moment D.left_since device.old device.new (λ c. c ≡ D.seen device.old)) }
 {

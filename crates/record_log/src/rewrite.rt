@@ -8,7 +8,7 @@ ghost use Rattle.record_log.specs.Log.{contents, WritesBeside, WritesLogBeside};
 
 use crate::device::{Device, DeviceError};
 use crate::error::LogError;
-use crate::frame::{CLOSED, HEADER, block_of};
+use crate::frame::{CLOSED, HEADER, Payload, block_of};
 use crate::log::MAX_SIZE;
 use std::alloc::Global;
 
@@ -25,16 +25,15 @@ fn begin<D: Device>(device: &mut D) -> Result<(), DeviceError>
 }
 
 /// Appends a record to the file beside, and returns by how many bytes.
-fn put<D: Device>(alloc: Global, device: &mut D, bytes: &[u8]) -> Result<usize, LogError>
-    requires { Fits bytes.now }
-    ensures len { IfOk result (λ len. len ≡ length (frame bytes.now) + 1) }
+fn put<D: Device>(alloc: Global, device: &mut D, payload: Payload<'_>) -> Result<usize, LogError>
+    ensures len { IfOk result (λ len. len ≡ length (frame payload.entry.bytes.now) + 1) }
     ensures appended { IsTrue D.is_modelled → OnOk result
-        (D.beside device.new ≡ D.beside device.old ++ 1 ∷ frame bytes.now) }
+        (D.beside device.new ≡ D.beside device.old ++ 1 ∷ frame payload.entry.bytes.now) }
     ensures beside { WritesBeside D.is_modelled D.seen D.may_leave D.moment D.left_since D.faults
         device.old device.new result
         ⊥ }
 {
-    let block = block_of(alloc, bytes)?;
+    let block = block_of(alloc, payload)?;
     device.append_beside(&block)?;
     Ok(block.len())
 }
@@ -43,18 +42,16 @@ fn put<D: Device>(alloc: Global, device: &mut D, bytes: &[u8]) -> Result<usize, 
 fn put_all<D: Device>(alloc: Global, device: &mut D, records: &[Vec<u8>]) -> Result<usize, LogError>
     requires size { AllByRecursion Fits (contents records.now) }
     requires begun { IsTrue D.is_modelled → D.beside device.old ≡ header }
-    ensures records { IsTrue D.is_modelled
-        → OnOk result (D.beside device.new ≡ front (contents records.now)) }
-    ensures log { WritesLogBeside D.is_modelled D.seen D.may_leave D.moment D.left_since D.faults
-        device.old device.new result
-        (contents records.now) }
+    ensures { WritesLogBeside D.is_modelled D.seen D.may_leave D.moment D.left_since D.faults
+        device.old device.new D.beside result
+        (contents records.now) (front (contents records.now)) }
 {
     let mut end = HEADER.len();
     for bytes in records {
         if end >= MAX_SIZE {
             return Err(LogError::Full);
         }
-        end += put(alloc, device, bytes)?;
+        end += put(alloc, device, Payload { bytes })?;
     }
     Ok(end)
 }
@@ -66,13 +63,11 @@ pub(crate) fn write_beside<D: Device>(
     records: &[Vec<u8>],
 ) -> Result<usize, LogError>
     requires { AllByRecursion Fits (contents records.now) }
-    ensures records { IsTrue D.is_modelled
-        → OnOk result (D.beside device.new ≡ front (contents records.now) ++ 0 ∷ []) }
     ensures durable { IsTrue D.is_modelled
         → OnOk result (IsDurable (D.beside device.new) (D.beside_may_leave device.new)) }
     ensures log { WritesLogBeside D.is_modelled D.seen D.may_leave D.moment D.left_since D.faults
-        device.old device.new result
-        (contents records.now) }
+        device.old device.new D.beside result
+        (contents records.now) (front (contents records.now) ++ 0 ∷ []) }
 {
     begin(device)?;
     let end = put_all(alloc, device, records)?;

@@ -21,9 +21,9 @@ use Rattle.triple_ord.proofs.CallerLemmas.{entries-with_room_by, numbers-inserte
 use Rattle.triple_ord.specs.Rekey.{Rekeys as RekeysArena}
 use Rattle.triple_ord.proofs.CallerLemmas.{kept_order, rekeyed_order, in_order-without, all_less, IsInOrder-back}
 use Rattle.sorted_arena.specs.Layout.{item_key, sorted_of, IsSortedArena, IsHeld, IsCompact}
-use Rattle.sorted_arena.proofs.Numbering.{none-behind, compact-inserted, compact-roomy, compact-resized, greatest-numbered, vacant-numbered}
+use Rattle.sorted_arena.proofs.Numbering.{none-behind, compact-inserted, compact-roomy, compact-resized, vacant-numbered}
 use Rattle.sorted_arena.specs.Sorted.{Inserts, Rekeys, Updates, IsSound}
-use Rattle.sorted_arena.proofs.Cutting.{sorted-in_order, in_order-sorted, sorted-without, all_at_most, greater}
+use Rattle.sorted_arena.proofs.Cutting.{sorted-in_order, in_order-sorted, sorted-without, fewer-without, shorter-without, all_at_most, greater}
 
 -- a key is equal to itself
 equal-itself : {K : Type 0} (cmp : K → K → Ordering) → IsTotalOrder cmp → (k : K) → cmp k k ≡ Equal
@@ -42,6 +42,14 @@ module _ {K V : Type 0} (cmp : K → K → Ordering) (most : ℕ) (greatest : Op
     distinct = sound.distinct;
     within = omega (arith, sound.counted);
     limited = omega (arith, sound.within_limit, ap (limit_of most) holds.unlimited);
+  }
+
+  pub sound-removed : (old new : Tree (K × V)) (i : ℕ) → new.list ≡ removed greatest old.list i → IsSound cmp most (sorted_of old) → IsSound cmp most (sorted_of new)
+  sound-removed old new i after sound = record {
+    sorted = rw after (sorted-without cmp i old.list.entries sound.sorted);
+    distinct = rw after (λ j. omega (arith, fewer-without i j old.list.entries, sound.distinct j));
+    within = rw after (omega (arith, shorter-without i old.list.entries, sound.within));
+    limited = rw after sound.limited;
   }
 
   pub arena-removed : (old new : Tree (K × V)) (i : ℕ) → new.list ≡ removed greatest old.list i → IsSortedArena cmp old → IsSortedArena cmp new
@@ -110,7 +118,7 @@ module _ {K V : Type 0} (cmp : K → K → Ordering) (most : ℕ) (greatest : Op
         (ap (λ (es : List (Entry (K × V))). option_map (λ (q : ℕ × ℕ). q.0) (last_pointer es)) (sym listed) ∙ last) in
         let front : room.entries ≡ inserts.gap.front = roomy ∙ inserts.gap.cut ∙ ap (λ (es : List (Entry (K × V))). inserts.gap.front ++ es) none ∙ append-nil inserts.gap.front in
         compact-inserted room new.list (with_between inserts.gap) (λ e. ap (λ (es : List (Entry (K × V))). inserts.gap.front ++ e ∷ es) none ∙ ap (λ (es : List (Entry (K × V))). es ++ e ∷ []) (sym front)) (k, v) p.0 p.1
-        (compact-roomy most greatest Reallocating old.list sound compact) inserts.inserted
+        (compact-roomy most Reallocating old.list compact) inserts.inserted
 
 -- an entry that goes to the place of another key
 module _ {K V : Type 0} (cmp : K → K → Ordering) (total : IsTotalOrder cmp) (old new : Tree (K × V)) (p : ℕ × ℕ) (k : K) (holds : IsSortedArena cmp old) where
@@ -166,16 +174,14 @@ pub held-resized : {K V E : Type 0} (cmp : K → K → Ordering) (is_compact : B
     → OnOk r (new ≡ record old { list = with_capacity old.list (max n (greatest_index old.list.entries)) }) → OnErr r (new ≡ old) → IsHeld cmp is_compact old → IsHeld cmp is_compact new
 held-resized cmp is_compact old new n (Ok u) made same held = subst (λ (t : Tree _). IsHeld cmp is_compact t) (sym made) (record {
   order = record { sorted = held.order.sorted; unlimited = held.order.unlimited };
-  compact = λ is.
-      let compact = held.compact is in
-      compact-resized old.list (max n (greatest_index old.list.entries)) compact.numbered (let fits = greatest-numbered old.list.entries compact.numbered in omega arith);
+  compact = λ is. compact-resized old.list (max n (greatest_index old.list.entries)) (held.compact is).numbered;
 })
 held-resized cmp is_compact old new n (Err e) made same held = subst (λ (t : Tree _). IsHeld cmp is_compact t) (sym same) held
 
 -- an arena with room reserved, if memory wasn't refused
-pub held-reserved : {K V E : Type 0} (cmp : K → K → Ordering) (is_compact : Bool) (most : ℕ) (old new : Tree (K × V)) (needed : ℕ) → length old.list.entries ≤ needed → (r : Result (Unit {0}) E)
+pub held-reserved : {K V E : Type 0} (cmp : K → K → Ordering) (is_compact : Bool) (most : ℕ) (old new : Tree (K × V)) (needed : ℕ) (r : Result (Unit {0}) E)
     → OnOk r (new ≡ record old { list = with_room_for most old.list needed }) → OnErr r (new ≡ old) → IsHeld cmp is_compact old → IsHeld cmp is_compact new
-held-reserved cmp is_compact most old new needed fits (Ok u) made same held = subst (λ (t : Tree _). IsHeld cmp is_compact t) (sym made) (go (nat_lt old.list.capacity needed))
+held-reserved cmp is_compact most old new needed (Ok u) made same held = subst (λ (t : Tree _). IsHeld cmp is_compact t) (sym made) (go (nat_lt old.list.capacity needed))
   where
     size : ℕ
     size = max needed (doubled_capacity (chain_limit most old.list) old.list.capacity)
@@ -183,10 +189,10 @@ held-reserved cmp is_compact most old new needed fits (Ok u) made same held = su
     go : (b : Bool) → IsHeld cmp is_compact (record old { list = if b then with_capacity old.list size else old.list })
     go true = record {
       order = record { sorted = held.order.sorted; unlimited = held.order.unlimited };
-      compact = λ is. compact-resized old.list size (held.compact is).numbered (omega (arith, fits));
+      compact = λ is. compact-resized old.list size (held.compact is).numbered;
     }
     go false = held
-held-reserved cmp is_compact most old new needed fits (Err e) made same held = subst (λ (t : Tree _). IsHeld cmp is_compact t) (sym same) held
+held-reserved cmp is_compact most old new needed (Err e) made same held = subst (λ (t : Tree _). IsHeld cmp is_compact t) (sym same) held
 
 -- what a call owes that is refused only if there are fewer vacant slots than it wants
 pub owed-appended : {X E : Type 0} (P : Type 0) (wanted capacity : ℕ) (r : Result X E) → (IsErr r ↔ (capacity < wanted)) → wanted ≤ capacity → OnOk r P → P
@@ -200,5 +206,5 @@ held-cloned cmp is_compact greatest source held = record {
   order = record { sorted = held.order.sorted; unlimited = refl };
   compact = λ is.
       let numbered = (held.compact is).numbered in
-      record { numbered = numbered; free = vacant-numbered source.list.entries numbered (max 0 (greatest_index source.list.entries)) (let fits = greatest-numbered source.list.entries numbered in omega arith) };
+      record { numbered = numbered; free = vacant-numbered source.list.entries numbered (max 0 (greatest_index source.list.entries)) };
 }

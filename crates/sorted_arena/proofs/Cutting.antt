@@ -1,5 +1,5 @@
 -- Lists of entries that are cut at a place: what the words of a sorted arena say there.
-use Rattle.std.proofs.Common.{◌≡◌, ◌≢◌, ℕ, ◌==◌, true, false, Bool, List, [], ◌∷◌, ◌++◌, map, length, length-append, append_assoc, Option, Some, None, Result, Ok, Err, OnOk, IsSome, IfSome, IfNone, IsSomeAnd, OnSome, is_some, refl, sym, ap, subst, ◌∙◌, arith, inl, inr, if◌then◌else◌}
+use Rattle.std.proofs.Common.{◌≡◌, ◌≤◌, ◌≢◌, ℕ, ◌==◌, true, false, Bool, List, [], ◌∷◌, ◌++◌, map, length, length-append, append_assoc, Option, Some, None, IsSome, IfSome, IfNone, IsSomeAnd, is_some, refl, sym, ap, subst, ◌∙◌, arith, inl, inr, if◌then◌else◌}
 use Rattle.std.proofs.{lemmas.Grind.common_steps, lemmas.List.append-nil, lemmas.List.Elements.All-from_recursion, lemmas.List.Elements.recursion_from_All}
 use Rattle.std.proofs.lemmas.Bool.Decides.{eqb_tells}
 use Rattle.std.specs.{List.AllByRecursion, List.All, Option.option_map, Ordering.is_eq, Ordering.is_le, Ordering.is_lt, Ordering.is_gt, Ordering.ordering_reverse, Ordering.ordering_then, Cmp.IsTotalOrder}
@@ -187,6 +187,14 @@ module _ {K V : Type 0} where
     | true ↦ all.1
     | false ↦ (all.0, recursion-without P i es all.1)
   ]
+
+  pub fewer-without : (i j : ℕ) (es : List (Entry (K × V))) → times j (without i es) ≤ times j es
+  fewer-without i j [] = omega arith
+  fewer-without i j (e ∷ es) = grind (arith, common_steps, fewer-without i j es)
+
+  pub shorter-without : (i : ℕ) (es : List (Entry (K × V))) → length (without i es) ≤ length es
+  shorter-without i [] = omega arith
+  shorter-without i (e ∷ es) = grind (arith, common_steps, shorter-without i es)
 
   pub first-named : (es : List (Entry (K × V))) (p : ℕ × ℕ) → Some p ≡ first_pointer es → item_of es p ≡ first_item es
   first-named [] p first = absurd (cc)

@@ -82,13 +82,13 @@ module _ {K V : Type 0} (cmp : K → K → Ordering) where
 
   -- what the calls for a neighbour promise
   module _ (most : ℕ) (a : Sorted K V) (sound : IsSound cmp most a) (p : ℕ × ℕ) {P : Type 0} (numbers : P → ℕ × ℕ) where
-    pub next-found : (o : Option P) → option_map numbers o ≡ next_of a.entries p → FindsNeighbour cmp most numbers a (λ k l. cmp k l ≢ Greater) (next_of a.entries p) o p
+    pub next-found : (o : Option P) → option_map numbers o ≡ next_of a.entries p → FindsNeighbour cmp most numbers a o (λ k l. cmp k l ≢ Greater) (next_of a.entries p) p
     next-found None is = record { value = is; named = tt; in_order = tt; sound = sound }
     next-found (Some q) is =
         let next = next-stands a.entries sound.distinct sound.sorted p (numbers q) (sym is) in
         record { value = is; named = next.named; in_order = next.ordered; sound = sound }
 
-    pub prev-found : (o : Option P) → option_map numbers o ≡ prev_of a.entries p → FindsNeighbour cmp most numbers a (λ k l. cmp l k ≢ Greater) (prev_of a.entries p) o p
+    pub prev-found : (o : Option P) → option_map numbers o ≡ prev_of a.entries p → FindsNeighbour cmp most numbers a o (λ k l. cmp l k ≢ Greater) (prev_of a.entries p) p
     prev-found None is = record { value = is; named = tt; in_order = tt; sound = sound }
     prev-found (Some q) is =
         let prev = prev-stands a.entries sound.distinct sound.sorted p (numbers q) (sym is) in

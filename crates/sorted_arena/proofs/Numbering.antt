@@ -1,8 +1,8 @@
 -- Lists whose entries have the indexes from 1 on, and compact chains.
-use Rattle.std.proofs.Common.{◌≡◌, ◌≢◌, ℕ, zero, suc, ◌+◌, ◌-◌, ◌<◌, ◌≤◌, ◌==◌, Bool, true, false, if◌then◌else◌, List, [], ◌∷◌, ◌++◌, map, length, length-append, slice_get, take, drop, Option, Some, refl, sym, ap, subst, ◌∙◌, arith, is_some, inl, inr}
-use Rattle.std.proofs.{lemmas.Bool.cases_eq, lemmas.Bool.eq-eqb, lemmas.Bool.ne_eqb, lemmas.List.length-map, Math.Seq.take-append_seam, Math.Seq.drop-append_seam}
+use Rattle.std.proofs.Common.{◌≡◌, ◌≢◌, ℕ, zero, suc, ◌+◌, ◌-◌, ◌<◌, ◌≤◌, ◌==◌, Bool, true, false, if◌then◌else◌, List, [], ◌∷◌, ◌++◌, map, length, length-append, slice_get, take, drop, Some, refl, sym, ap, subst, ◌∙◌, arith, is_some, inl, inr}
+use Rattle.std.proofs.{lemmas.Bool.cases_eq, lemmas.Bool.cases_lt, lemmas.Bool.eq-eqb, lemmas.Bool.ne_eqb, Math.Seq.take-append_seam, Math.Seq.drop-append_seam}
 use Rattle.std.specs.{List.range_with_len, Option.option_map}
-use Rattle.triple_ord.specs.Chain.{Entry, Chain, times, entry_at, without, with_item_among, greatest_index, vacant_among, vacant_indexes, with_capacity, last_pointer, inserted_at, next_index, grown_capacity, IsSound}
+use Rattle.triple_ord.specs.Chain.{Entry, Chain, times, entry_at, without, with_item_among, vacant_among, vacant_indexes, with_capacity, last_pointer, inserted_at, next_index, grown_capacity}
 use Rattle.triple_ord.specs.{ChainCompression.numbered, ChainCompression.canonical, Insert.IsInsertion}
 use Rattle.triple_ord.specs.TreeAppend.{Appends}
 use Rattle.triple_ord.specs.Insertion.{with_room_by}
@@ -57,18 +57,15 @@ module _ {T : Type 0} where
         suc_add : (m n : ℕ) → suc m + n ≡ suc (m + n)
         suc_add m n = omega arith
 
-    pub vacant-numbered : (capacity : ℕ) → length es ≤ capacity → vacant_indexes es capacity ≡ range_with_len (length es + 1) (capacity - length es)
-    vacant-numbered capacity fits =
-        ap (λ n. vacant_among es 1 n) (omega arith) ∙ vacant-from (length es) (capacity - length es) 1 (omega arith) (omega arith)
+    vacant-none : (count a : ℕ) → 1 ≤ a → a + count ≤ 1 + length es → vacant_among es a count ≡ []
+    vacant-none zero a above within = refl
+    vacant-none (suc count) a above within = rw (times-in 1 es a h above (omega (arith, within))) (vacant-none count (a + 1) (omega arith) (omega (arith, within)))
 
-  -- the greatest index is the last
-  greatest-more : (from : ℕ) (e : Entry T) (es : List (Entry T)) → AreNumbered from (e ∷ es) → from + length es ≤ greatest_index (e ∷ es)
-  greatest-more from e [] h = omega (arith, h.0)
-  greatest-more from e (f ∷ es) h = let more = greatest-more (from + 1) f es h.1 in omega arith
-
-  pub greatest-numbered : (es : List (Entry T)) → AreNumbered 1 es → length es ≤ greatest_index es
-  greatest-numbered [] h = omega arith
-  greatest-numbered (e ∷ es) h = let more = greatest-more 1 e es h in omega arith
+    pub vacant-numbered : (capacity : ℕ) → vacant_indexes es capacity ≡ range_with_len (length es + 1) (capacity - length es)
+    vacant-numbered capacity = elim (cases_lt capacity (length es)) [
+      | inl less ↦ vacant-none capacity 1 (omega arith) (omega (arith, less)) ∙ ap (λ n. range_with_len (length es + 1) n) (let none : 0 ≡ capacity - length es = omega (arith, less) in none)
+      | inr fits ↦ ap (λ n. vacant_among es 1 n) (omega (arith, fits)) ∙ vacant-from (length es) (capacity - length es) 1 (omega arith) (omega arith)
+    ]
 
   -- another item at an index
   pub numbered-written : (from : ℕ) (es : List (Entry T)) (i : ℕ) (item : T) → AreNumbered from es → AreNumbered from (with_item_among es i item)
@@ -139,8 +136,8 @@ module _ {T : Type 0} where
   none-behind (x ∷ y ∷ front) e back none last = none-behind (y ∷ front) e back none last
 
   -- with other room
-  pub compact-resized : (c : Chain T) (n : ℕ) → AreNumbered 1 c.entries → length c.entries ≤ n → IsCompact (with_capacity c n)
-  compact-resized c n h fits = record { numbered = h; free = vacant-numbered c.entries h n fits }
+  pub compact-resized : (c : Chain T) (n : ℕ) → AreNumbered 1 c.entries → IsCompact (with_capacity c n)
+  compact-resized c n h = record { numbered = h; free = vacant-numbered c.entries h n }
 
   -- with another item
   pub compact-written : (c : Chain T) (i : ℕ) (item : T) → length (with_item_among c.entries i item) ≡ length c.entries → IsCompact c → IsCompact (record c { entries = with_item_among c.entries i item })
@@ -190,16 +187,11 @@ module _ {T : Type 0} where
         }
 
   -- in the canonical order
-  pub compact-canonical : (old new : Chain T) (g : ℕ) → length old.entries ≤ old.capacity → new ≡ canonical old g → IsCompact new
-  compact-canonical old new g fits is =
+  pub compact-canonical : (old new : Chain T) (g : ℕ) → new ≡ canonical old g → IsCompact new
+  compact-canonical old new g is =
       let items : List T = map (λ (e : Entry T). e.item) old.entries in
-      let es = numbered g 1 items in
-      let long : length es ≡ length old.entries = long-numbered g 1 items ∙ length-map old.entries (λ (e : Entry T). e.item) in
-      subst (λ (c : Chain T). IsCompact c) (sym is) (record { numbered = numbered-items g 1 items; free = vacant-numbered es (numbered-items g 1 items) old.capacity (omega (arith, long)) })
-    where
-      long-numbered : (g from : ℕ) (items : List T) → length (numbered g from items) ≡ length items
-      long-numbered g from [] = refl
-      long-numbered g from (x ∷ items) = ap suc (long-numbered g (from + 1) items)
+      let h = numbered-items g 1 items in
+      subst (λ (c : Chain T). IsCompact c) (sym is) (record { numbered = h; free = vacant-numbered (numbered g 1 items) h old.capacity })
 
   -- as many items appended
   pub compact-appended : (old new : Chain T) (ts : List T) → IsCompact old → Appends old ts new → IsCompact new
@@ -208,10 +200,10 @@ module _ {T : Type 0} where
       compact-appended more.0 new ts (compact-inserted old more.0 (λ e. old.entries ++ e ∷ []) (λ e. refl) t more.1.0 more.1.1 h more.2) more.3
 
   -- grown, if there is no vacant slot
-  pub compact-roomy : (most : ℕ) (greatest : Option ℕ) (growth : Growth) (c : Chain T) → IsSound most greatest c → IsCompact c → IsCompact (with_room_by growth most c)
-  compact-roomy most greatest Within c sound h = h
-  compact-roomy most greatest Reallocating c sound h = go (is_some (next_index c))
+  pub compact-roomy : (most : ℕ) (growth : Growth) (c : Chain T) → IsCompact c → IsCompact (with_room_by growth most c)
+  compact-roomy most Within c h = h
+  compact-roomy most Reallocating c h = go (is_some (next_index c))
     where
       go : (b : Bool) → IsCompact (if b then c else with_capacity c (grown_capacity most c))
       go true = h
-      go false = compact-resized c (grown_capacity most c) h.numbered (omega (arith, sound.counted, sound.within_limit))
+      go false = compact-resized c (grown_capacity most c) h.numbered

@@ -3,7 +3,7 @@ use Rattle.std.proofs.iter.runs.Sources.{from_front, from_back}
 use Rattle.std.proofs.lemmas.{Grind.common_steps, List.Sums.length-filter}
 use Rattle.std.specs.Iterator.{YieldsFirstBy, YieldsLastBy}
 use Rattle.sorted_arena.specs.Range.{GivesInOrder, GivesInReverse}
-use Rattle.std.proofs.Common.{◌≡◌, ◌≢◌, ◌≤◌, length, arith, Less, Equal, Greater, ℕ, ◌&&◌, not, true, false, Bool, filter, count_by, List, [], ◌∷◌, ◌++◌, Option, Some, None, IfSome, refl, sym, ap, ◌∙◌, if◌then◌else◌}
+use Rattle.std.proofs.Common.{◌≡◌, ◌≢◌, length, arith, Less, Equal, Greater, ℕ, ◌&&◌, not, true, false, Bool, filter, count_by, List, [], ◌∷◌, ◌++◌, Option, Some, None, IfSome, refl, sym, ap, ◌∙◌, if◌then◌else◌}
 use Rattle.std.proofs.lemmas.List.Elements.{recursion_from_All}
 use Rattle.std.specs.{List.AllByRecursion, Option.option_map, Option.option_and_then, Ordering.is_eq, Ordering.is_le, Ordering.is_lt, Cmp.IsTotalOrder}
 use Rattle.std.specs.declared.cmp.Ordering.{Ordering, TheVariants.Greater}
@@ -25,13 +25,6 @@ module _ {A X : Type 0} (shows : A → X) where
 
   pub gives_in_reverse : GivesInReverse shows
   gives_in_reverse = from_back (YieldsLastBy shows (λ left. left)) shows (λ left. left) (λ s t h. ap length h.0) (λ s x t h. h)
-
-length-filter_le : {X : Type 0} (p : X → Bool) (xs : List X) → length (filter p xs) ≤ length xs
-length-filter_le p [] = omega arith
-length-filter_le p (x ∷ xs) = grind (arith, common_steps, length-filter_le p xs)
-
-pub fewer-between : {K V : Type 0} (cmp : K → K → Ordering) (from until : Bound K) (es : List (Entry (K × V))) → length (entries_between cmp from until es) ≤ length es
-fewer-between cmp from until es = length-filter_le _ es
 
 -- between a key and itself are the entries with an equal key
 pub count-equal : {K V : Type 0} (cmp : K → K → Ordering) (k : K) (es : List (Entry (K × V)))

@@ -1,5 +1,5 @@
 -- Stretches of a list: what a step of an iterator from either end gives, and where it stands then.
-use Rattle.std.proofs.Common.{◌≡◌, ℕ, List, [], ◌∷◌, ◌++◌, append_assoc, Option, Some, None, refl, sym, ap, subst, ◌∙◌, arith}
+use Rattle.std.proofs.Common.{◌≡◌, ◌≤◌, ℕ, length, length-append, List, [], ◌∷◌, ◌++◌, append_assoc, Option, Some, None, refl, sym, ap, subst, ◌∙◌, arith}
 use Rattle.std.proofs.lemmas.{Grind.common_steps, List.append-nil}
 use Rattle.std.specs.Option.{option_map}
 use Rattle.triple_ord.specs.{Chain.Entry, Chain.times, Chain.IsDistinct, Chain.entry_at, Chain.from_index, Chain.link_at, Chain.first_pointer, Chain.last_pointer, Link.Link}
@@ -30,6 +30,10 @@ module _ {T : Type 0} where
   stretch-middle es first end s =
       subst (λ (f : Option ℕ). stretch es f end ≡ s.middle) s.begins
       (subst (λ (x : Option ℕ). stretch es (first_index (s.middle ++ s.back)) x ≡ s.middle) s.ends (between-cuts es s.distinct s.front s.middle s.back s.cut))
+
+  pub shorter-stretch : (es : List (Entry T)) (first end : Option ℕ) → IsStretch es first end → length (stretch es first end) ≤ length es
+  shorter-stretch es first end s =
+      omega (arith, ap length (stretch-middle es first end s), ap length s.cut, length-append s.front (s.middle ++ s.back), length-append s.middle s.back)
 
   -- a stretch that ends where it begins has nothing
   pub stretch-same : (es : List (Entry T)) (first end : Option ℕ) → first ≡ end → stretch es first end ≡ []

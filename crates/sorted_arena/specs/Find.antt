@@ -2,6 +2,7 @@
 use Rattle.std.specs.Prelude.{◌≡◌, ◌≢◌, ℕ, Bool, Option, IfSome, IfNone, IsSome, IsSomeAnd}
 use Rattle.std.specs.{List.All, Option.option_map, Ordering.is_eq, Ordering.is_le, Ordering.is_lt, declared.cmp.Ordering.Ordering}
 use Rattle.std.specs.declared.cmp.Ordering.TheVariants.{Equal, Less, Greater}
+use Rattle.triple_ord.specs.Chain.{first_pointer, last_pointer}
 use Rattle.sorted_arena.specs.Sorted.{Sorted, count, pair_of, first_where, key_of, IsSound, IsWithinRankedBound}
 
 -- Searches by key. The parameters: the order of keys, the greatest index of a pointer, the numbers of a pointer, the arena, and the key.
@@ -29,19 +30,25 @@ pub record IsCountedSearch (n c : ℕ) (Finds : Type 0) : Type 0 where
   pub finds : Finds
   pub visits : IsWithinRankedBound n c
 
--- Searches by place. The parameters: the order of keys, the greatest index of a pointer, the numbers of a pointer, the arena, the
--- relation of keys that the place makes true, the numbers of the pointer there, and what was found.
-module _ {K V P : Type 0} (cmp : K → K → Ordering) (most : ℕ) (numbers : P → ℕ × ℕ) (a : Sorted K V) (R : K → K → Type 0)
-    (place : Option (ℕ × ℕ)) (result : Option P) where
-  -- the entry at an end of the list, whose key has the relation to each key
-  pub record FindsEnd : Type 0 where
-    pub value : option_map numbers result ≡ place
-    pub extreme : IfSome result (λ p. IsSomeAnd (pair_of a (numbers p)) (λ own. All (λ e. R own.0 (key_of e)) a.entries))
+-- Searches by place. The parameters: the order of keys, the greatest index of a pointer, the numbers of a pointer, the arena, and what
+-- was found.
+module _ {K V P : Type 0} (cmp : K → K → Ordering) (most : ℕ) (numbers : P → ℕ × ℕ) (a : Sorted K V) (result : Option P) where
+  -- the first entry, whose key is at most each key
+  pub record FindsLeast : Type 0 where
+    pub value : option_map numbers result ≡ first_pointer a.entries
+    pub least : IfSome result (λ p. IsSomeAnd (pair_of a (numbers p)) (λ own. All (λ e. cmp own.0 (key_of e) ≢ Greater) a.entries))
     pub none : IfNone result (count a ≡ 0)
     pub sound : IsSound cmp most a
 
-  -- the entry beside that of a pointer, whose key has the relation to the neighbour's
-  pub record FindsNeighbour (p : ℕ × ℕ) : Type 0 where
+  -- the last entry, whose key is at least each key
+  pub record FindsGreatest : Type 0 where
+    pub value : option_map numbers result ≡ last_pointer a.entries
+    pub greatest : IfSome result (λ p. IsSomeAnd (pair_of a (numbers p)) (λ own. All (λ e. cmp (key_of e) own.0 ≢ Greater) a.entries))
+    pub none : IfNone result (count a ≡ 0)
+    pub sound : IsSound cmp most a
+
+  -- The neighbour of a pointer's entry at a place, which has these numbers. The relation holds of the entry's key and the neighbour's.
+  pub record FindsNeighbour (R : K → K → Type 0) (place : Option (ℕ × ℕ)) (p : ℕ × ℕ) : Type 0 where
     pub value : option_map numbers result ≡ place
     pub named : IfSome result (λ q. IsSome (pair_of a (numbers q)))
     pub in_order : IfSome result (λ q. IsSomeAnd (pair_of a p) (λ own. IsSomeAnd (pair_of a (numbers q)) (λ other. R own.0 other.0)))

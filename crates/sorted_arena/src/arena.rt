@@ -5,7 +5,7 @@ ghost use Rattle.triple_ord.specs.PlainArena.{capacity_for};
 ghost use Rattle.triple_ord.specs.Generation.{first_generation, next_generation};
 ghost use Rattle.triple_ord.specs.Chain.{greatest_index};
 ghost use Rattle.sorted_arena.specs.Change.{ChangesCapacity};
-ghost use Rattle.sorted_arena.specs.Layout.{sorted_of, IsSortedArena, AreNumbered};
+ghost use Rattle.sorted_arena.specs.Layout.{AreNumbered, LendsPairs};
 ghost use Rattle.sorted_arena.specs.Sorted.{IsSound, count, pair_of, item_of, with_left};
 
 mod access;
@@ -73,9 +73,10 @@ impl<K: Ord, V, P: BasePtr, A: Allocator> SortedArena<K, V, P, A> {
 
     // The ordered arena.
     pub(crate) fn pairs(&self) -> &Pairs<K, V, P, A>
-        ensures view { self.now ≡ sorted_of result.now }
-        ensures holds { IsSortedArena K.cmp result.now }
+        ensures { LendsPairs K.cmp P.Inx.most self.now result.now }
     {
+        // For the prover: the list is sound.
+        let _ = self.pairs.len();
         &self.pairs
     }
 
@@ -152,8 +153,6 @@ impl<K: Ord, V, P: BasePtr, A: Allocator> SortedArena<K, V, P, A> {
         ensures capacity { self.new.capacity ≡ self.old.capacity }
         ensures count { count self.new ≡ count self.old }
     {
-        // For the prover: the list is sound.
-        let _ = self.pairs.len();
         let _ = self.pairs.compress_canonical(false);
         self.is_compact = true;
     }

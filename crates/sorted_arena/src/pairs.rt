@@ -3,16 +3,16 @@
 ghost use Rattle.std.specs.Prelude.{◌≡◌, ◌↔◌, ◌++◌, ℕ, true, List, Some, None, Err, IfOk, IfErr, OnErr, length};
 ghost use Rattle.std.specs.Option.{option_map};
 ghost use Rattle.std.specs.Ordering.{is_le, is_lt};
-ghost use Rattle.triple_ord.specs.Chain.{Entry, last_pointer, chain_limit, IsSound};
+ghost use Rattle.triple_ord.specs.Chain.{Entry, last_pointer, chain_limit, IsDistinct, IsSound as IsSoundChain};
 ghost use Rattle.triple_ord.specs.Gap.{last_of};
 ghost use Rattle.triple_ord.specs.Insertion.{InsertsNew};
 ghost use Rattle.triple_ord.specs.declared.growth.Growth.TheVariants.{Reallocating};
 ghost use Rattle.triple_ord.specs.{PastEquals.order_past_equals, Search.FindsSimilar};
 ghost use Rattle.triple_ord.specs.Place.{aim_of, behind_key, kind_now};
 ghost use Rattle.sorted_arena.specs.Find.{IsCountedSearch};
-ghost use Rattle.sorted_arena.specs.Layout.{item_key, pointer_among, FindsPointer};
+ghost use Rattle.sorted_arena.specs.Layout.{item_key, pointer_among, sorted_of};
 ghost use Rattle.sorted_arena.specs.Stretch.{first_index};
-ghost use Rattle.sorted_arena.specs.Sorted.{AreSorted, key_of, first_where, next_of, prev_of};
+ghost use Rattle.sorted_arena.specs.Sorted.{key_of, first_where, next_of, prev_of, IsSound};
 
 use std::alloc::Allocator;
 use std::cmp::Ordering;
@@ -55,8 +55,8 @@ pub(crate) fn put<K: Ord + Drop, V: Drop, P: BasePtr, A: Allocator>(
     ensures memory { result ≡ Err ((k, v), ReallocationError.AllocError)
         → length pairs.old.list.entries ≡ pairs.old.list.capacity }
     ensures err { OnErr result (pairs.new ≡ pairs.old) }
-    ensures sound { IsSound P.Inx.most P.Gen.greatest pairs.old.list }
-    ensures still_sound { IsSound P.Inx.most P.Gen.greatest pairs.new.list }
+    ensures sound { IsSoundChain P.Inx.most P.Gen.greatest pairs.old.list }
+    ensures still_sound { IsSoundChain P.Inx.most P.Gen.greatest pairs.new.list }
 {
     // For the prover: the list is sound.
     let _ = pairs.len();
@@ -110,11 +110,9 @@ pub(crate) fn next_in<K: Ord, V, P: BasePtr, A: Allocator>(
     pairs: &Pairs<K, V, P, A>,
     p: P,
 ) -> Option<P>
-    ensures { FindsPointer P.Inx.most P.Gen.greatest P.numbers pairs.now
-        (next_of pairs.now.list.entries (P.numbers p)) result }
+    ensures { IsDistinct pairs.now.list.entries → option_map P.numbers result
+        ≡ next_of pairs.now.list.entries (P.numbers p) }
 {
-    // For the prover: the list is sound.
-    let _ = pairs.len();
     if !pairs.contains(p) {
         return None;
     }
@@ -127,11 +125,9 @@ pub(crate) fn prev_in<K: Ord, V, P: BasePtr, A: Allocator>(
     pairs: &Pairs<K, V, P, A>,
     p: P,
 ) -> Option<P>
-    ensures { FindsPointer P.Inx.most P.Gen.greatest P.numbers pairs.now
-        (prev_of pairs.now.list.entries (P.numbers p)) result }
+    ensures { IsDistinct pairs.now.list.entries → option_map P.numbers result
+        ≡ prev_of pairs.now.list.entries (P.numbers p) }
 {
-    // For the prover: the list is sound.
-    let _ = pairs.len();
     if !pairs.contains(p) {
         return None;
     }
@@ -145,7 +141,7 @@ fn lower_bound_by<K: Ord, V, P: BasePtr, A: Allocator>(
     pairs: &Pairs<K, V, P, A>,
     met: Option<(P, Ordering)>,
 ) -> Option<P>
-    ensures { (k : K) (visits : ℕ) → AreSorted K.cmp pairs.now.list.entries
+    ensures { (k : K) (visits : ℕ) → IsSound K.cmp P.Inx.most (sorted_of pairs.now)
         → FindsSimilar item_key K.cmp pairs.now.list.entries k
         (option_map (λ a. (P.numbers a.0, a.1)) met) visits → option_map P.numbers result
         ≡ first_where (λ e. is_le (K.cmp k (key_of e))) pairs.now.list.entries }
@@ -164,7 +160,7 @@ pub(crate) fn lower_bound_in<K: Ord, V, P: BasePtr, A: Allocator>(
     k: &K,
 ) -> (Option<P>, Visits)
     ensures { IsCountedSearch (length pairs.now.list.entries) result.1
-        (AreSorted K.cmp pairs.now.list.entries → option_map P.numbers result.0
+        (IsSound K.cmp P.Inx.most (sorted_of pairs.now) → option_map P.numbers result.0
         ≡ first_where (λ e. is_le (K.cmp k.now (key_of e))) pairs.now.list.entries) }
 {
     let met = pairs.find_similar_key_counted(k);
@@ -177,7 +173,7 @@ fn upper_bound_by<K: Ord, V, P: BasePtr, A: Allocator>(
     pairs: &Pairs<K, V, P, A>,
     met: Option<(P, Ordering)>,
 ) -> Option<P>
-    ensures { (k : K) (visits : ℕ) → AreSorted K.cmp pairs.now.list.entries
+    ensures { (k : K) (visits : ℕ) → IsSound K.cmp P.Inx.most (sorted_of pairs.now)
         → FindsSimilar item_key (order_past_equals K.cmp) pairs.now.list.entries k
         (option_map (λ a. (P.numbers a.0, a.1)) met) visits → option_map P.numbers result
         ≡ first_where (λ e. is_lt (K.cmp k (key_of e))) pairs.now.list.entries }
@@ -196,7 +192,7 @@ pub(crate) fn upper_bound_in<K: Ord, V, P: BasePtr, A: Allocator>(
     k: &K,
 ) -> (Option<P>, Visits)
     ensures { IsCountedSearch (length pairs.now.list.entries) result.1
-        (AreSorted K.cmp pairs.now.list.entries → option_map P.numbers result.0
+        (IsSound K.cmp P.Inx.most (sorted_of pairs.now) → option_map P.numbers result.0
         ≡ first_where (λ e. is_lt (K.cmp k.now (key_of e))) pairs.now.list.entries) }
 {
     let met = pairs.find_behind_key_counted(k);
@@ -208,12 +204,11 @@ pub(crate) fn last_before<K: Ord, V, P: BasePtr, A: Allocator>(
     pairs: &Pairs<K, V, P, A>,
     end: Option<P::Inx>,
 ) -> Option<P::Inx>
-    ensures { (front back : List (Entry (K × V))) → pairs.now.list.entries ≡ front ++ back
+    ensures { IsDistinct pairs.now.list.entries
+        → (front back : List (Entry (K × V))) → pairs.now.list.entries ≡ front ++ back
         → first_index back ≡ option_map P.Inx.number end
         → option_map (λ e. e.index) (last_of None front) ≡ option_map P.Inx.number result }
 {
-    // For the prover: the list is sound.
-    let _ = pairs.len();
     match end {
         Some(i) => {
             let (_, link) = pairs.get_inx_link_no_gen(i)?;

@@ -1,11 +1,11 @@
 //! `Range`: entries in order, from both ends.
-ghost use Rattle.std.specs.Prelude.{◌≡◌, ◌<◌, ◌^◌, true, false, Some, length, slice_get};
+ghost use Rattle.std.specs.Prelude.{◌≡◌, ◌<◌, true, false, Some, length, slice_get};
 ghost use Rattle.std.specs.Iterator.{YieldsFirstBy, YieldsLastBy, item_count};
 ghost use Rattle.std.specs.{Option.option_map, Option.option_and_then, Range.Bound.bound_map};
 ghost use Rattle.std.specs.BTreeMap.Range.{is_from_start, is_past_end};
 ghost use Rattle.std.specs.declared.ops.Bound.TheVariants.{Included, Unbounded};
 ghost use Rattle.sorted_arena.specs.Range.{entries_between, shown_entry, IteratesOver};
-ghost use Rattle.sorted_arena.specs.Sorted.{pair_of, first_where, key_of};
+ghost use Rattle.sorted_arena.specs.Sorted.{pair_of, first_where, key_of, IsSound};
 ghost use Rattle.sorted_arena.specs.Stretch.{stretch, is_forward, IsStretch};
 ghost use Rattle.sorted_arena.specs.{Layout.AreNumbered, Place.position_of};
 
@@ -191,8 +191,6 @@ impl<K: Ord, V, P: BasePtr, A: Allocator> SortedArena<K, V, P, A> {
             (result ≡ entries_between K.cmp (bound_map (λ k. k.now) from.entry)
             (bound_map (λ k. k.now) until.entry) self.now.entries) }
     {
-        // For the prover: the arena is sound.
-        let _ = self.len();
         let end = self.first_past(until);
         let first = self.first_before(from, end);
         self.from_until(first, end)
@@ -200,12 +198,13 @@ impl<K: Ord, V, P: BasePtr, A: Allocator> SortedArena<K, V, P, A> {
 
     // The entries from one on and before another; to the last one, if there is no other.
     fn from_until(&self, first: Option<P>, end: Option<P>) -> Range<'_, K, V, P, A>
-        requires { IsStretch self.now.entries (option_map (λ q. q.0) (option_map P.numbers first))
+        requires { IsSound K.cmp P.Inx.most self.now
+            → IsStretch self.now.entries (option_map (λ q. q.0) (option_map P.numbers first))
             (option_map (λ q. q.0) (option_map P.numbers end)) }
-        ensures entries { result ≡ stretch self.now.entries
+        ensures { IteratesOver K.cmp P.Inx.most P.numbers self.now result
+            (result ≡ stretch self.now.entries
             (option_map (λ q. q.0) (option_map P.numbers first))
-            (option_map (λ q. q.0) (option_map P.numbers end)) }
-        ensures few { length self.now.entries < 2 ^ 64 }
+            (option_map (λ q. q.0) (option_map P.numbers end))) }
     {
         let count = self.len();
         let from = position(first, count);

@@ -1,7 +1,5 @@
 //! A day of calls with compactions among them, and a crash at each step of each.
 
-ghost use Rattle.agenda_store.specs.Store.{IsSound};
-
 use crate::support::{NO_CRASH, Torn};
 use agenda_store::{Device, JobId, Store, StoreError};
 use std::alloc::Global;
@@ -33,10 +31,7 @@ fn contents<D: Device>(alloc: Global, store: &Store<D>) -> Option<Vec<u8>> {
 }
 
 // One call of the day. From the tenth on every third job leaves, and now and then the file is written anew.
-fn call<D: Device>(store: &mut Store<D>, number: usize) -> Result<(), StoreError>
-    requires { IsSound D.is_modelled D.seen D.may_leave store.old }
-    ensures { IsSound D.is_modelled D.seen D.may_leave store.new }
-{
+fn call<D: Device>(store: &mut Store<D>, number: usize) -> Result<(), StoreError> {
     let n = number as u64;
     match n % 7 {
         _ if n % 31 == 30 => store.compact()?,
@@ -60,9 +55,7 @@ fn call<D: Device>(store: &mut Store<D>, number: usize) -> Result<(), StoreError
 }
 
 // The first calls of the day, as far as the disk goes. How many returned `Ok`.
-fn calls_made<D: Device>(store: &mut Store<D>, calls: usize) -> usize
-    requires { IsSound D.is_modelled D.seen D.may_leave store.old }
-{
+fn calls_made<D: Device>(store: &mut Store<D>, calls: usize) -> usize {
     let mut done = 0usize;
     for number in 0..calls {
         if call(store, number).is_err() {
@@ -230,6 +223,25 @@ fn a_failure_of_the_disk_is_reported_and_closes_the_store(rt: HostRuntime) {
     for number in 0..CALLS {
         assert!(rt; each_failure(rt.alloc(), &day, number), "call {number}");
     }
+}
+
+// A store on a disk with an empty file, of which the call after so many fails.
+fn opened(alloc: Global, calls: usize) -> Option<Store<Torn>> {
+    let mut disk = Torn::new(alloc, b"", NO_CRASH).ok()?;
+    disk.calls = calls;
+    Store::open(alloc, disk).ok()
+}
+
+#[test]
+fn a_flush_asks_the_disk_once_and_reports_its_failure(rt: HostRuntime) {
+    let mut store = opened(rt.alloc(), NO_CRASH).expect(&rt, "a store");
+    let left = store.device().calls;
+    assert!(rt; store.flush().is_ok() && store.is_open());
+    assert!(rt; store.device().calls == left.wrapping_sub(1));
+
+    let opening = NO_CRASH.wrapping_sub(left);
+    let mut failing = opened(rt.alloc(), opening).expect(&rt, "a store");
+    assert!(rt; failing.flush().is_err() && !failing.is_open());
 }
 
 #[test]

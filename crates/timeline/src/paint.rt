@@ -1,20 +1,16 @@
 //! Settings: what a new value takes out of the changes, and what it puts between.
 
 ghost use Rattle.std.specs.Prelude.{◌≡◌, ◌≤◌, ◌<◌, ◌+◌, ◌++◌, ◌↔◌, true, false, length, Some, None, Err, IfOk, OnOk, IfErr, OnErr, IfSome, OnSome, IfNone};
-ghost use Rattle.std.specs.Option.{option_copied};
 ghost use Rattle.std.specs.Ordering.{nat_cmp};
 ghost use Rattle.sorted_arena.specs.Sorted.{Inserts, IsSound};
 ghost use Rattle.timeline.specs.Timeline.{most_entries, roomy_capacity, value_at, IsRising};
-ghost use Rattle.timeline.specs.Layout.{changes_of, timeline_of, last_value, IsReached, IsBeyond, IsAt, TakesChange, TakesNext, TakesBehind, TakesSame};
+ghost use Rattle.timeline.specs.Layout.{changes_of, timeline_of, IsReached, IsBeyond, IsAt, TakesChange, TakesNext, TakesBehind, TakesSame};
 ghost use Rattle.timeline.specs.Layout.{end_value_of, IsOpen, TakesOver, IsJoinedTo, IsFinished, IsPainted, IsRefusable, CannotEnd};
 
 use crate::changes::{Changes, held_at, value_of};
 use crate::value::{TimelineValue, clone_of, is_same};
-use sorted_arena::{P0, ReallocationError};
+use sorted_arena::{BasePtrInx, P0, ReallocationError};
 use std::alloc::{AllocError, Allocator};
-
-/// How many changes there can be: so many indexes pointers have.
-const MOST_CHANGES: usize = 4_294_967_294;
 
 /// Makes room for two more changes, in O(n) if the arena has to grow. If it grows and there is an end, it first makes a clone of the value
 /// that holds at the end: then nothing can be refused any more. On `Err` nothing has changed.
@@ -40,7 +36,8 @@ pub(crate) fn make_room<V: TimelineValue, A: Allocator>(
     if needed <= changes.capacity() {
         return Ok(None);
     }
-    if needed > MOST_CHANGES {
+    // There are as many changes at most as pointers have indexes.
+    if needed > u32::limit() {
         return Err(ReallocationError::BeyondMaxCapacity);
     }
     let held = match until {

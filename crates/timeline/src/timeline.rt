@@ -3,7 +3,7 @@
 ghost use Rattle.std.specs.Prelude.{◌≡◌, true, false, ◌<◌, ◌+◌, ◌*◌, ◌↔◌, ◌⊎◌, [], Some, None, Err, OnOk, OnErr, IfSome, IfNone, length};
 ghost use Rattle.std.specs.Option.{option_copied};
 ghost use Rattle.sorted_arena.specs.PlainArena.{capacity_for};
-ghost use Rattle.timeline.specs.Timeline.{most_entries, value_at, shown_whole, IsTimeline, HasRoomFor};
+ghost use Rattle.timeline.specs.Timeline.{most_entries, value_at, shown_whole, AreChanges, IsTimeline, HasRoomFor};
 ghost use Rattle.timeline.specs.Timeline.{IsWholeSpan, IsNextChange, SetsStretch, SetsFrom};
 ghost use Rattle.timeline.specs.Layout.{pieces_of, capacity_put, Sets, CannotEnd, IsEmptyTime};
 
@@ -114,10 +114,8 @@ impl<V, A: Allocator> Timeline<V, A> {
     // The pieces from one time until another.
     pub(crate) fn walk(&self, from: u64, until: u64) -> Walk<'_, V, A>
         ensures pieces { result ≡ pieces_of self.now.changes from until }
-        ensures lawful { IsTimeline self.now }
+        ensures lawful { AreChanges self.now.changes }
     {
-        // For the prover: the timeline is lawful.
-        let _ = self.len();
         Walk::new(&self.changes, from, until)
     }
 

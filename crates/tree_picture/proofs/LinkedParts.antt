@@ -5,8 +5,8 @@ use Rattle.std.proofs.lemmas.Grind.{common_steps}
 use Rattle.std.proofs.lemmas.List.{length-map}
 use Rattle.triple_ord.specs.Chain.{Entry, IsDistinct, times as entry_times, link_at, link_between}
 use Rattle.triple_ord.specs.{Parents.HasParent, Slots.times, Slots.times_in, Tree.Tree, Tree.IsSoundTree}
-use Rattle.triple_ord.specs.Shape.{Shape, missing, node, root_of, size_of, height}
-use Rattle.triple_ord.proofs.TreeLemmas.{times-indexes, times-walk, size_of-walk, height-le-size}
+use Rattle.triple_ord.specs.Shape.{missing, node, root_of, size_of}
+use Rattle.triple_ord.proofs.TreeLemmas.{times-indexes, times-walk, size_of-walk}
 use Rattle.triple_ord.specs.Node.{IsNodeIn}
 use Rattle.tree_picture.specs.Below.{part_at, part_below}
 use Rattle.tree_picture.proofs.Parts.{IsOnceIn, node-found, none-found, root-occurs, root-alone, root-has-none}
@@ -41,11 +41,6 @@ module _ {T : Type 0} where
     -- the whole shape has as many nodes as there are entries
     pub size-listed : size_of t.shape ≡ length t.list.entries
     size-listed = size_of-walk t.shape ∙ ap length sound.listed ∙ length-map t.list.entries (λ (e : Entry T). e.index)
-
--- a part has at most as many nodes as the whole, and as many levels
-pub size-part : (s : Shape) (i : ℕ) → size_of (part_at s i) ≤ size_of s
-size-part missing i = omega arith
-size-part (node l j k r) i = grind (arith, nat_tests, size-part l i, size-part r i)
 
 -- an optional index and its number
 module _ {I : Type 0} (number : I → ℕ) where
@@ -90,13 +85,8 @@ module _ {T : Type 0} where
     pub rootless : ((i : ℕ) → root_of t.shape ≡ Some i → entry_times i t.list.entries ≡ 0) → root_of t.shape ≡ None
     rootless far = no-root (root_of t.shape) refl far
 
--- a part has at most as many levels as the whole has nodes
-pub height-part : (s : Shape) (i : ℕ) → height (part_at s i) ≤ size_of s
-height-part s i = omega (arith, height-le-size (part_at s i), size-part s i)
-
 -- one level more than that of the higher side fits in 16 bits
-pub max-fits : (low high left right both whole size count : ℕ) → low ≡ left → high ≡ right → both ≡ max low high → whole ≡ max left right + 1 → whole ≤ size → size ≡ count
-    → count ≤ 10000 → Fits w16 (both + 1)
-max-fits low high left right both whole size count is_low is_high is_both is_whole few most limit =
-    let bound : both + 1 < 2 ^ 16 = omega (arith, is_low, is_high, is_both, is_whole, few, most, limit) in
+pub max-fits : (low high left right both whole : ℕ) → low ≡ left → high ≡ right → both ≡ max low high → whole ≡ max left right + 1 → whole ≤ 10000 → Fits w16 (both + 1)
+max-fits low high left right both whole is_low is_high is_both is_whole few =
+    let bound : both + 1 < 2 ^ 16 = omega (arith, is_low, is_high, is_both, is_whole, few) in
     omega (arith, bound)

@@ -1,7 +1,7 @@
 //! The tree below a link of the arena.
 ghost use Rattle.std.specs.Prelude.{◌≡◌, ◌≢◌, ◌≤◌, true, false, Some, MatchOption, option_map};
 ghost use Rattle.triple_ord.specs.Shape.{missing, node, rank_of, size_of, height, root_of};
-ghost use Rattle.triple_ord.specs.Arena.{count};
+ghost use Rattle.triple_ord.specs.{Chain.IsDistinct, Tree.IsSoundTree};
 ghost use Rattle.tree_picture.specs.Below.{part_at, part_below};
 ghost use Rattle.tree_picture.specs.declared.picture.TheConstants.{MOST_ENTRIES};
 
@@ -54,11 +54,11 @@ pub fn branch_at<P: BasePtr, T, A: Allocator>(
 
 /// Returns whether the entry at an index is the root.
 fn is_root<P: BasePtr, T, A: Allocator>(arena: &SimpleOrdArena<P, T, A>, i: P::Inx) -> bool
-    ensures yes { result ≡ true → root_of arena.now.shape ≡ Some (P.Inx.number i) }
-    ensures no { result ≡ false → root_of arena.now.shape ≢ Some (P.Inx.number i) }
+    ensures yes { IsSoundTree arena.now → result ≡ true
+        → root_of arena.now.shape ≡ Some (P.Inx.number i) }
+    ensures no { IsSoundTree arena.now → IsDistinct arena.now.list.entries → result ≡ false
+        → root_of arena.now.shape ≢ Some (P.Inx.number i) }
 {
-    // For the prover: the list and the shape are sound.
-    let _ = arena.len();
     let Some(entry) = arena.get_inx_node(i) else {
         return false;
     };
@@ -85,7 +85,7 @@ pub fn extent_below<P: BasePtr, T, A: Allocator>(
     arena: &SimpleOrdArena<P, T, A>,
     link: Option<P::Inx>,
 ) -> Extent
-    requires { count arena.now ≤ MOST_ENTRIES }
+    requires { size_of (part_below arena.now.shape (option_map P.Inx.number link)) ≤ MOST_ENTRIES }
     ensures nodes { result.nodes
         ≡ size_of (part_below arena.now.shape (option_map P.Inx.number link)) }
     ensures levels { result.levels
@@ -93,8 +93,6 @@ pub fn extent_below<P: BasePtr, T, A: Allocator>(
     ensures rank { result.rank
         ≡ rank_of (part_below arena.now.shape (option_map P.Inx.number link)) }
 {
-    // For the prover: the shape has as many nodes as the list has entries.
-    let _ = arena.len();
     let none = Extent {
         nodes: 0,
         levels: 0,

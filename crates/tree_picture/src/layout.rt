@@ -38,7 +38,6 @@ fn lay<P: BasePtr, T, A: Allocator>(
     above: Option<u16>,
     places: &mut Vec<Place, A>,
 ) -> Result<(), AllocError>
-    requires few { count arena.now ≤ MOST_ENTRIES }
     requires columns { length places.old.items
         + size_of (part_below arena.now.shape (option_map P.Inx.number link)) ≤ MOST_ENTRIES }
     requires levels { depth

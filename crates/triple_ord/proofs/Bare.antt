@@ -1,9 +1,9 @@
 -- A chain of nodes and the list of its items: a look-up in one reads what the other has.
-use Rattle.std.specs.Prelude.{IsNone}
-use Rattle.ord_tree.specs.Chain.{item_of}
+use Rattle.std.specs.Prelude.{IsNone, MatchOption}
+use Rattle.ord_tree.specs.{Chain.item_of, Tree.ShowsNode}
 use Rattle.ord_tree.specs.{Node.bare_entry, Node.links_in, Node.slots_of, Node.indexes, Parents.HasParentUnder, Slots.Slots, Slots.Holds, Slots.Among, declared.tree_links.TreeLinks.TreeLinks}
-use Rattle.triple_ord.proofs.Words.{◌≡◌, ℕ, ◌↔◌, length, List, [], ◌∷◌, ◌++◌, Option, Some, None, IsSome, IfSome, is_some, refl, sym, ap, subst, ◌∙◌, inl, inr, ◌⊎◌, map, length-map, nil_from_length, option_map, Arena, slot, item_if, Link}
-use Rattle.triple_ord.proofs.Words.{IsSoundTree, IsPart, IsNodeIn, IsNodeAt, entry_at-link, entry_at-bare, arith, common_steps, is_some-bare, IsLastIndex, IsArenaOf, SimpleOrdArenaNode, Shape, missing, node, root_of, walk, Tree, IsChainOf}
+use Rattle.triple_ord.proofs.Words.{◌≡◌, ℕ, ◌↔◌, length, List, [], ◌∷◌, ◌++◌, Option, Some, None, IsSome, IfSome, is_some, refl, sym, ap, subst, ◌∙◌, inl, inr, ◌⊎◌, map, length-map, nil_from_length, option_map, item_if, Link}
+use Rattle.triple_ord.proofs.Words.{IsPart, IsNodeIn, IsNodeAt, entry_at-link, entry_at-bare, arith, common_steps, IsLastIndex, SimpleOrdArenaNode, Shape, missing, node, root_of, walk, Tree, IsChainOf}
 use Rattle.triple_ord.proofs.Words.{Entry, Chain, entry_at, link_between, link_at, last_pointer, times, generation_at, IsFirstIndex, times-bare, indexes-bare}
 
 pub is_some-map : {A B : Type 0} (f : A → B) (o : Option A) → is_some (option_map f o) ≡ is_some o
@@ -128,13 +128,6 @@ among-entries : {T : Type 0} (es : List (Entry T)) (i : ℕ) (e : ℕ × T) → 
 among-entries [] i e found = absurd (cc)
 among-entries (f ∷ es) i e found = grind (arith, common_steps, among-entries es i e)
 
--- a look-up in the arena under a chain reads the chain's entry
-module _ {X Y : Type 0} (c : Chain Y) (a : Arena (Link Y)) (lies : IsArenaOf c a) (f : X → ℕ × Link Y) (o : Option X) (i : ℕ) where
-  pub entry-looked_up : option_map f o ≡ slot a i → option_map (λ x. ((f x).0, (f x).1.item)) o ≡ entry_at c.entries i
-  entry-looked_up is =
-      let bare_of : ℕ × Link Y → ℕ × Y = λ e. (e.0, e.1.item) in
-      option_map-twice f bare_of o ∙ ap (option_map bare_of) (is ∙ lies.slots i) ∙ sym (entry_at-link None None c.entries i)
-
 -- a pointer that finds an item has an entry at its index
 pub found-occupied : {T : Type 0} (g : ℕ) (o : Option (ℕ × T)) → IsSome (item_if g o) → IsSome o
 found-occupied g o some = grind (arith, common_steps)
@@ -154,29 +147,37 @@ module _ {P T I G : Type 0} (t : Tree T) (c : Chain (SimpleOrdArenaNode P T I G)
     greater_root = λ l r k part. (held_at i e is l r k part).3;
   }
 
-module _ {P T I G : Type 0} (t : Tree T) (c : Chain (SimpleOrdArenaNode P T I G)) (under : IsChainOf t c) (sound : IsSoundTree t)
-    (a : Arena (Link (SimpleOrdArenaNode P T I G))) (lies : IsArenaOf c a) where
-  -- the place in the tree of the node that the arena shows at i
-  node-shown : (i : ℕ) (e : ℕ × Link (SimpleOrdArenaNode P T I G)) → slot a i ≡ Some e → IsNodeIn t.shape i e.1.item.p_back e.1.item.p_tree0 e.1.item.p_tree1 e.1.item.rank
-  node-shown i e is =
-      let entry : entry_at c.entries i ≡ Some (e.0, e.1.item) = entry_at-link None None c.entries i ∙ rw (← lies.slots i, is) refl in
-      let listed : indexes c.entries ≡ walk t.shape = sym (indexes-bare c.entries) ∙ ap (λ (l : Chain T). indexes l.entries) under.list ∙ sym sound.listed in
-      let p = part_at t.shape i (subst (λ (js : List ℕ). Among i js) listed (among-entries c.entries i (e.0, e.1.item) entry)) in
-      let held = held_at t c under i (e.0, e.1.item) entry p.0 p.2 p.1 p.3 in
+-- what a look-up in a tree shows at i: the entry with the roots of its sides, its link, and its place in the tree
+module _ {P T I G : Type 0} {t : Tree T} {i g : ℕ} {link : Link (SimpleOrdArenaNode P T I G)} (shows : ShowsNode t i g link) where
+  entry-there : entry_at shows.chain.entries i ≡ Some (g, link.item)
+  entry-there = entry_at-link None None shows.chain.entries i ∙ ap (option_map (λ (e : ℕ × Link (SimpleOrdArenaNode P T I G)). (e.0, e.1.item))) shows.shown
+
+  pub shows-entry : IsNodeAt t i g link.item.t link.item.p_tree0 link.item.p_tree1
+  shows-entry = shown-under t shows.chain shows.below i (g, link.item) entry-there
+
+  pub shows-link : link_at t.list.entries i ≡ Some (bare_link (g, link))
+  shows-link = sym (link_at-under t shows.chain shows.below i) ∙ ap (option_map bare_link) shows.shown
+
+  shows-node : IsNodeIn t.shape i link.item.p_back link.item.p_tree0 link.item.p_tree1 link.item.rank
+  shows-node =
+      let c = shows.chain in
+      let listed : indexes c.entries ≡ walk t.shape = sym (indexes-bare c.entries) ∙ ap (λ (l : Chain T). indexes l.entries) shows.below.list ∙ sym shows.sound.listed in
+      let p = part_at t.shape i (subst (λ (js : List ℕ). Among i js) listed (among-entries c.entries i (g, link.item) entry-there)) in
+      let held = held_at t c shows.below i (g, link.item) entry-there p.0 p.2 p.1 p.3 in
       record { lesser_side = p.0; greater_side = p.2; part = subst (λ (k : ℕ). IsPart (node p.0 i k p.2) t.shape) (sym held.0) p.3; has_parent = held.1; lesser_root = held.2; greater_root = held.3 }
 
-  -- if the tree's list has an entry, the arena has a link
-  pub slot-occupied : (i : ℕ) → IsSome (entry_at t.list.entries i) → IsSome (slot a i)
-  slot-occupied i some =
-      ap is_some (lies.slots i) ∙ sym (is_some-map _ (link_at c.entries i)) ∙ ap is_some (sym (entry_at-link None None c.entries i))
-      ∙ sym (is_some-bare c.entries i) ∙ ap (λ (l : Chain T). is_some (entry_at l.entries i)) under.list ∙ some
+-- an index without an entry has no link
+unlinked : {T : Type 0} (es : List (Entry T)) (i : ℕ) → entry_at es i ≡ None → link_at es i ≡ None
+unlinked es i none = grind (arith, common_steps, entry_at-link None None es i)
 
-  -- what a look-up in the arena shows
-  module _ {X : Type 0} (f : X → ℕ × Link (SimpleOrdArenaNode P T I G)) where
-    pub node-looked_up : (o : Option X) (i : ℕ) → option_map f o ≡ slot a i
-        → IfSome o (λ x. IsNodeIn t.shape i (f x).1.item.p_back (f x).1.item.p_tree0 (f x).1.item.p_tree1 (f x).1.item.rank)
-    node-looked_up None i is = tt
-    node-looked_up (Some x) i is = node-shown i (f x) (sym is)
+-- what a look-up shows if there may be no entry
+module _ {P T I G X : Type 0} (t : Tree T) (f : X → ℕ × Link (SimpleOrdArenaNode P T I G)) where
+  pub node-looked_up : (o : Option X) (i : ℕ) → MatchOption o (entry_at t.list.entries i ≡ None) (λ x. ShowsNode t i (f x).0 (f x).1)
+      → IfSome o (λ x. IsNodeIn t.shape i (f x).1.item.p_back (f x).1.item.p_tree0 (f x).1.item.p_tree1 (f x).1.item.rank)
+  node-looked_up None i shows = tt
+  node-looked_up (Some x) i shows = shows-node shows
 
-    pub link-looked_up : (o : Option X) (i : ℕ) → option_map f o ≡ slot a i → option_map (λ x. bare_link (f x)) o ≡ link_at t.list.entries i
-    link-looked_up o i is = option_map-twice f bare_link o ∙ ap (option_map bare_link) (is ∙ lies.slots i) ∙ link_at-under t c under i
+  pub link-looked_up : (o : Option X) (i : ℕ) → MatchOption o (entry_at t.list.entries i ≡ None) (λ x. ShowsNode t i (f x).0 (f x).1)
+      → option_map (λ x. bare_link (f x)) o ≡ link_at t.list.entries i
+  link-looked_up None i none = sym (unlinked t.list.entries i none)
+  link-looked_up (Some x) i shows = sym (shows-link shows)

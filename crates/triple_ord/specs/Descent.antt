@@ -1,8 +1,8 @@
 -- The state of a descent from the root of a tree. No public clause cites this file.
 use Rattle.std.specs.{List.All, List.FoldsTo, Option.option_map, Ordering.ordering_then}
-use Rattle.std.specs.Prelude.{◌≡◌, ◌≢◌, ℕ, ◌+◌, ◌-◌, ◌≤◌, ◌⊎◌, List, ◌++◌, Option, Some, None, IfSome, MatchOption, Contains, length, map}
+use Rattle.std.specs.Prelude.{◌≡◌, ◌≢◌, ℕ, ◌+◌, ◌-◌, ◌^◌, ◌<◌, ◌≤◌, ◌⊎◌, List, ◌++◌, Option, Some, None, IsSome, IfSome, MatchOption, Contains, length, map}
 use Rattle.std.specs.declared.cmp.Ordering.{Ordering, TheVariants.Less, TheVariants.Equal, TheVariants.Greater}
-use Rattle.ord_tree.specs.Chain.{Entry, times, entry_at}
+use Rattle.ord_tree.specs.Chain.{Entry, times, entry_at, link_at}
 use Rattle.ord_tree.specs.{Shape.Shape, Shape.node, Shape.root_of, Shape.walk, Shape.height, Tree.Tree}
 use Rattle.triple_ord.specs.{ClosureSearch.Shown, ClosureSearch.entries_of, ClosureSearch.where_equal, ClosureSearch.similar_of, Search.order_to, Search.pointer, Search.FindsSimilar, Gap.first_of, Gap.last_of, Node.IsPart}
 
@@ -11,6 +11,22 @@ pub record IsNodeAt {T : Type 0} (t : Tree T) (i generation : ℕ) (item : T) (l
   pub entry : entry_at t.list.entries i ≡ Some (generation, item)
   pub lesser_root : (l r : Shape) (k : ℕ) → IsPart (node l i k r) t.shape → lesser ≡ root_of l
   pub greater_root : (l r : Shape) (k : ℕ) → IsPart (node l i k r) t.shape → greater ≡ root_of r
+
+-- the same with its neighbours in the list
+pub record IsLinkAt {T : Type 0} (t : Tree T) (i generation : ℕ) (item : T) (lesser greater prev next : Option ℕ) : Type 0 where
+  pub node : IsNodeAt t i generation item lesser greater
+  pub linked : link_at t.list.entries i ≡ Some (generation, record { item = item; prev = prev; next = next })
+
+-- the entry at index i can be shown: it is there, and one more visit can be counted
+pub record CanShow {T : Type 0} (t : Tree T) (visits i : ℕ) : Type 0 where
+  pub occupied : IsSome (entry_at t.list.entries i)
+  pub room : visits + 1 < 2 ^ 128
+
+-- An entry was shown. `Shown` says what was seen of it. The visit is counted, and the tree stays as it was.
+pub record ShowsEntry {T : Type 0} (t u : Tree T) (visits after : ℕ) (Shown : Type 0) : Type 0 where
+  pub shown : Shown
+  pub counted : after ≡ visits + 1
+  pub tree : u ≡ t
 
 -- the side on which a descent goes on after this answer
 abbrev pub side_of : {X : Type 0} → Ordering → X → X → X

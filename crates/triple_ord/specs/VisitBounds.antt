@@ -1,5 +1,5 @@
 -- Bounds on the entries that a search visits.
-use Rattle.std.specs.Prelude.{◌≡◌, ℕ, ◌+◌, ◌^◌, ◌<◌, ◌≤◌, length}
+use Rattle.std.specs.Prelude.{◌≡◌, ℕ, ◌+◌, ◌-◌, ◌^◌, ◌<◌, ◌≤◌, length}
 use Rattle.ord_tree.specs.{Half.IsRebuilt, Numbers.fib, Numbers.HasDigits, Ranks.IsRanked, Ranks.IsTight}
 use Rattle.ord_tree.specs.{Shape.Shape, Shape.size_of, Shape.height, Tree.Tree}
 
@@ -18,6 +18,13 @@ pub record IsWithinBounds (n : ℕ) (shape : Shape) (c : ℕ) : Type 0 where
 pub record IsBoundedSearch {T : Type 0} (t : Tree T) (c : ℕ) (finds : Type 0) : Type 0 where
   pub found : finds
   pub visits : IsWithinBounds (length t.list.entries) t.shape c
+
+-- A descent of a probe that had counted `before` visits and then has counted `after`: what it finds with the visits since, and the bounds
+-- on them.
+pub record IsBoundedDescent {T : Type 0} (t : Tree T) (before after : ℕ) (Finds : ℕ → Type 0) : Type 0 where
+  pub found : Finds (after - before)
+  pub visits : IsWithinBounds (length t.list.entries) t.shape (after - before)
+  pub counted : before ≤ after
 
 -- The bounds on the visits c of a search that first makes steps from a hint: at most num steps, and at most as many as there are entries.
 -- The visits of a whole search, or none, are added to them.

@@ -3,9 +3,9 @@
 //! The tree still holds that entry, but its key says nothing about its place: it may be the old key, or one written over it. So the
 //! entry's predecessor answers for it. If the predecessor is before the place of the key, so is the whole lesser side; otherwise the
 //! place isn't on the greater side.
-ghost use Rattle.std.specs.Prelude.{◌≡◌, ◌+◌, ◌-◌, ◌^◌, ◌<◌, ◌≤◌, IsSome};
+ghost use Rattle.std.specs.Prelude.{◌≡◌, ◌-◌, ◌^◌, ◌<◌};
 ghost use Rattle.std.specs.Option.{option_map, option_copied};
-ghost use Rattle.ord_tree.specs.Chain.{entry_at, IsDistinct};
+ghost use Rattle.triple_ord.specs.Descent.{CanShow, ShowsEntry};
 ghost use Rattle.triple_ord.specs.Around.{order_behind, FindsAround, IsAnsweredAround};
 ghost use Rattle.triple_ord.specs.VisitBounds.{IsBoundedSearch};
 
@@ -50,14 +50,11 @@ fn compare_around<P: BasePtr, T: SimpleOrdItem, A: Allocator>(
     k: &T::Key,
     i: P::Inx,
 ) -> (P, Ordering, Option<P::Inx>)
-    requires occupied { IsSome (entry_at probe.old.tree.now.list.entries (P.Inx.number i)) }
-    requires distinct { IsDistinct probe.old.tree.now.list.entries }
-    requires room { probe.old.visits + 1 < 2 ^ 128 }
-    ensures answered { IsAnsweredAround T.key_of T.Key.cmp probe.old.tree.now
+    requires { CanShow probe.old.tree.now probe.old.visits (P.Inx.number i) }
+    ensures { ShowsEntry probe.old.tree.now probe.new.tree.now probe.old.visits probe.new.visits
+        (IsAnsweredAround T.key_of T.Key.cmp probe.old.tree.now
         (P.Inx.number passed) k.now (P.Inx.number i) (P.numbers result.0) result.1
-        (option_map P.Inx.number result.2) }
-    ensures counted { probe.new.visits ≡ probe.old.visits + 1 }
-    ensures tree { probe.new.tree.now ≡ probe.old.tree.now }
+        (option_map P.Inx.number result.2)) }
 {
     if i == passed {
         let (generation, node, previous) = probe.show_previous(i);

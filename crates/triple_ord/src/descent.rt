@@ -1,13 +1,12 @@
 //! The descent from the root.
-ghost use Rattle.std.specs.Prelude.{◌≡◌, ℕ, Some, IsSome, ◌+◌, ◌-◌, ◌^◌, ◌<◌, ◌≤◌, length};
+ghost use Rattle.std.specs.Prelude.{◌≡◌, ℕ, Some, ◌^◌, ◌<◌, ◌≤◌};
 ghost use Rattle.std.specs.Option.{option_map};
-ghost use Rattle.ord_tree.specs.Chain.{entry_at, IsDistinct};
 ghost use Rattle.ord_tree.specs.Shape.{height};
 ghost use Rattle.triple_ord.specs.ClosureSearch.{Asks, FindsSimilarWith};
-ghost use Rattle.triple_ord.specs.Descent.{met_next, side_of, IsCompared, HasDescendedByKey, HasEndedByKey};
+ghost use Rattle.triple_ord.specs.Descent.{met_next, side_of, CanShow, IsCompared, ShowsEntry, HasDescendedByKey, HasEndedByKey};
 ghost use Rattle.triple_ord.specs.Search.{FindsSimilar};
 ghost use Rattle.triple_ord.specs.Ties.{taken};
-ghost use Rattle.triple_ord.specs.VisitBounds.{IsWithinBounds, VisitsLaw};
+ghost use Rattle.triple_ord.specs.VisitBounds.{IsBoundedDescent, VisitsLaw};
 
 use crate::item::SimpleOrdItem;
 use crate::probe::Probe;
@@ -24,13 +23,11 @@ pub(crate) fn descend<P: BasePtr, T, F: FnMut(P, &T) -> Ordering, A: Allocator>(
 ) -> Option<(P, Ordering)>
     requires room { probe.old.visits < 2 ^ 64 }
     requires callable { F.IsAlwaysCallable f.old }
-    ensures found { FindsSimilarWith (Asks P.numbers F.step)
+    ensures descends { IsBoundedDescent probe.old.tree.now probe.old.visits probe.new.visits
+        (FindsSimilarWith (Asks P.numbers F.step)
         probe.old.tree.now.list.entries f.old f.new
-        (option_map (λ a. (P.numbers a.0, a.1)) result) (probe.new.visits - probe.old.visits) }
+        (option_map (λ a. (P.numbers a.0, a.1)) result)) }
     ensures callable { F.IsAlwaysCallable f.new }
-    ensures visits { IsWithinBounds (length probe.old.tree.now.list.entries)
-        probe.old.tree.now.shape (probe.new.visits - probe.old.visits) }
-    ensures counted { probe.old.visits ≤ probe.new.visits }
 {
     visits_law();
     let mut last = None;
@@ -57,12 +54,10 @@ pub(crate) fn descend_by_key<P: BasePtr, T: SimpleOrdItem, A: Allocator>(
     k: &T::Key,
 ) -> Option<(P, Ordering)>
     requires { probe.old.visits < 2 ^ 64 }
-    ensures found { FindsSimilar T.key_of (taken ties T.Key.cmp)
+    ensures { IsBoundedDescent probe.old.tree.now probe.old.visits probe.new.visits
+        (FindsSimilar T.key_of (taken ties T.Key.cmp)
         probe.old.tree.now.list.entries k.now
-        (option_map (λ a. (P.numbers a.0, a.1)) result) (probe.new.visits - probe.old.visits) }
-    ensures visits { IsWithinBounds (length probe.old.tree.now.list.entries)
-        probe.old.tree.now.shape (probe.new.visits - probe.old.visits) }
-    ensures counted { probe.old.visits ≤ probe.new.visits }
+        (option_map (λ a. (P.numbers a.0, a.1)) result)) }
 {
     visits_law();
     let mut last = None;
@@ -91,7 +86,6 @@ fn descend_in_group<P: BasePtr, T: SimpleOrdItem, A: Allocator>(
         probe.old.tree.now.list.entries probe.old.tree.now.shape k.now before
         (option_map P.Inx.number lesser) probe.old.visits
         (Some (P.numbers p, Ordering.Equal)) (Some (P.numbers p)) }
-    requires distinct { IsDistinct probe.old.tree.now.list.entries }
     requires few { height probe.old.tree.now.shape < 2 ^ 64 }
     requires room { probe.old.visits < 2 ^ 65 }
     ensures ended { (before : ℕ) → HasDescendedByKey T.key_of (taken ties T.Key.cmp)
@@ -126,13 +120,11 @@ fn compare<P: BasePtr, T: SimpleOrdItem, A: Allocator>(
     k: &T::Key,
     i: P::Inx,
 ) -> (P, Ordering, Option<P::Inx>)
-    requires occupied { IsSome (entry_at probe.old.tree.now.list.entries (P.Inx.number i)) }
-    requires room { probe.old.visits + 1 < 2 ^ 128 }
-    ensures compared { IsCompared T.key_of (taken ties T.Key.cmp) probe.old.tree.now
+    requires { CanShow probe.old.tree.now probe.old.visits (P.Inx.number i) }
+    ensures { ShowsEntry probe.old.tree.now probe.new.tree.now probe.old.visits probe.new.visits
+        (IsCompared T.key_of (taken ties T.Key.cmp) probe.old.tree.now
         (P.Inx.number i) k.now (P.numbers result.0) result.1
-        (option_map P.Inx.number result.2) }
-    ensures counted { probe.new.visits ≡ probe.old.visits + 1 }
-    ensures tree { probe.new.tree.now ≡ probe.old.tree.now }
+        (option_map P.Inx.number result.2)) }
 {
     let (generation, node) = probe.show(i);
     let order = ties.order(k, node.t.key());

@@ -30,6 +30,7 @@ pub use arena_base::{
 pub use chain_base::{ChainArena, LinkNoGen};
 pub use entry_kind::OrdEntryKind;
 pub use error::OrdInsertionError;
+pub use growth::Growth;
 pub use insert_kind::OrdInsertKind;
 pub use item::SimpleOrdItem;
 pub use ord_tree::SimpleOrdArenaNode;

@@ -1,11 +1,11 @@
 //! `Probe`: how a search sees an arena, one entry at a time, each counted.
-ghost use Rattle.std.specs.Prelude.{◌≡◌, ◌+◌, ◌<◌, ◌^◌, List, ◌∷◌, ◌++◌, Some, IsSome};
+ghost use Rattle.std.specs.Prelude.{◌≡◌, ◌<◌, ◌^◌, List, ◌∷◌, ◌++◌, Some, IsSome};
 ghost use Rattle.std.specs.Option.{option_map, option_copied};
-ghost use Rattle.ord_tree.specs.Chain.{Entry, entry_at, link_at, IsDistinct};
+ghost use Rattle.ord_tree.specs.Chain.{Entry, entry_at, IsDistinct};
 ghost use Rattle.ord_tree.specs.Shape.{root_of, height};
 ghost use Rattle.ord_tree.specs.Tree.{IsSoundTree};
 ghost use Rattle.triple_ord.specs.Around.{last_item};
-ghost use Rattle.triple_ord.specs.Descent.{IsNodeAt};
+ghost use Rattle.triple_ord.specs.Descent.{CanShow, IsLinkAt, IsNodeAt, ShowsEntry};
 
 use crate::visits::Visits;
 use arena_base::BasePtr;
@@ -18,6 +18,7 @@ use std::alloc::Allocator;
 pub(crate) struct Probe<'a, P: BasePtr, T, A: Allocator> {
     tree: &'a OrdTree<P, T, A>,
     visits: u128,
+    ghost distinct: { IsDistinct tree.now.list.entries },
 }
 
 impl<'a, P: BasePtr, T, A: Allocator> Probe<'a, P, T, A> {
@@ -25,7 +26,6 @@ impl<'a, P: BasePtr, T, A: Allocator> Probe<'a, P, T, A> {
     pub fn new(tree: &'a OrdTree<P, T, A>) -> Self
         ensures tree { result.tree.now ≡ tree.now }
         ensures none { result.visits ≡ 0 }
-        ensures distinct { IsDistinct tree.now.list.entries }
     {
         // For the prover: the tree is sound.
         let _ = tree.len();
@@ -35,7 +35,6 @@ impl<'a, P: BasePtr, T, A: Allocator> Probe<'a, P, T, A> {
     /// Returns the index at which a descent starts, or `None` if there are no entries.
     pub fn root(&self) -> Option<P::Inx>
         ensures root { option_map P.Inx.number result ≡ root_of self.now.tree.now.shape }
-        ensures distinct { IsDistinct self.now.tree.now.list.entries }
         ensures sound { IsSoundTree self.now.tree.now }
         ensures few { height self.now.tree.now.shape < 2 ^ 64 }
     {
@@ -53,12 +52,10 @@ impl<'a, P: BasePtr, T, A: Allocator> Probe<'a, P, T, A> {
 
     /// Shows the entry at the index: its generation, and its node with the item and the roots of its sides.
     pub fn show(&mut self, i: P::Inx) -> (P::Gen, &'a SimpleOrdArenaNode<P, T>)
-        requires occupied { IsSome (entry_at self.old.tree.now.list.entries (P.Inx.number i)) }
-        requires room { self.old.visits + 1 < 2 ^ 128 }
-        ensures shown { IsNodeAt self.old.tree.now (P.Inx.number i) (P.Gen.number result.0)
-            result.1.now.t result.1.now.p_tree0 result.1.now.p_tree1 }
-        ensures counted { self.new.visits ≡ self.old.visits + 1 }
-        ensures tree { self.new.tree.now ≡ self.old.tree.now }
+        requires { CanShow self.old.tree.now self.old.visits (P.Inx.number i) }
+        ensures { ShowsEntry self.old.tree.now self.new.tree.now self.old.visits self.new.visits
+            (IsNodeAt self.old.tree.now (P.Inx.number i) (P.Gen.number result.0)
+            result.1.now.t result.1.now.p_tree0 result.1.now.p_tree1) }
     {
         let (generation, link) = self.show_link(i);
         (generation, &link.t)
@@ -66,17 +63,11 @@ impl<'a, P: BasePtr, T, A: Allocator> Probe<'a, P, T, A> {
 
     /// Shows the entry at the index: its generation, and its node with its neighbours in the list.
     pub fn show_link(&mut self, i: P::Inx) -> (P::Gen, &'a LinkNoGen<P, SimpleOrdArenaNode<P, T>>)
-        requires occupied { IsSome (entry_at self.old.tree.now.list.entries (P.Inx.number i)) }
-        requires room { self.old.visits + 1 < 2 ^ 128 }
-        ensures shown { IsNodeAt self.old.tree.now (P.Inx.number i)
-            (P.Gen.number result.0) result.1.now.item.t
-            result.1.now.item.p_tree0 result.1.now.item.p_tree1 }
-        ensures linked { link_at self.old.tree.now.list.entries (P.Inx.number i) ≡ Some (
-          P.Gen.number result.0,
-          record { item = result.1.now.item.t; prev = result.1.now.prev; next = result.1.now.next },
-        ) }
-        ensures counted { self.new.visits ≡ self.old.visits + 1 }
-        ensures tree { self.new.tree.now ≡ self.old.tree.now }
+        requires { CanShow self.old.tree.now self.old.visits (P.Inx.number i) }
+        ensures { ShowsEntry self.old.tree.now self.new.tree.now self.old.visits self.new.visits
+            (IsLinkAt self.old.tree.now (P.Inx.number i) (P.Gen.number result.0)
+            result.1.now.item.t result.1.now.item.p_tree0 result.1.now.item.p_tree1
+            result.1.now.prev result.1.now.next) }
     {
         self.visits += 1;
         self.look(i)
@@ -88,16 +79,14 @@ impl<'a, P: BasePtr, T, A: Allocator> Probe<'a, P, T, A> {
         &mut self,
         i: P::Inx,
     ) -> (P::Gen, &'a SimpleOrdArenaNode<P, T>, Option<&'a T>)
-        requires occupied { IsSome (entry_at self.old.tree.now.list.entries (P.Inx.number i)) }
-        requires distinct { IsDistinct self.old.tree.now.list.entries }
-        requires room { self.old.visits + 1 < 2 ^ 128 }
-        ensures shown { IsNodeAt self.old.tree.now (P.Inx.number i) (P.Gen.number result.0)
-            result.1.now.t result.1.now.p_tree0 result.1.now.p_tree1 }
+        requires { CanShow self.old.tree.now self.old.visits (P.Inx.number i) }
+        ensures shows { ShowsEntry self.old.tree.now self.new.tree.now
+            self.old.visits self.new.visits
+            (IsNodeAt self.old.tree.now (P.Inx.number i) (P.Gen.number result.0)
+            result.1.now.t result.1.now.p_tree0 result.1.now.p_tree1) }
         ensures previous { (front back : List (Entry T)) (e : Entry T) → e.index ≡ P.Inx.number i
             → self.old.tree.now.list.entries ≡ front ++ e ∷ back
             → option_copied result.2 ≡ last_item front }
-        ensures counted { self.new.visits ≡ self.old.visits + 1 }
-        ensures tree { self.new.tree.now ≡ self.old.tree.now }
     {
         self.visits += 1;
         let (generation, link) = self.look(i);
@@ -121,14 +110,10 @@ impl<'a, P: BasePtr, T, A: Allocator> Probe<'a, P, T, A> {
     // The entry at the index, not yet counted.
     fn look(&self, i: P::Inx) -> (P::Gen, &'a LinkNoGen<P, SimpleOrdArenaNode<P, T>>)
         requires { IsSome (entry_at self.now.tree.now.list.entries (P.Inx.number i)) }
-        ensures shown { IsNodeAt self.now.tree.now (P.Inx.number i)
-            (P.Gen.number result.0) result.1.now.item.t
-            result.1.now.item.p_tree0 result.1.now.item.p_tree1 }
-        ensures linked { link_at self.now.tree.now.list.entries (P.Inx.number i) ≡ Some (
-          P.Gen.number result.0,
-          record { item = result.1.now.item.t; prev = result.1.now.prev; next = result.1.now.next },
-        ) }
+        ensures { IsLinkAt self.now.tree.now (P.Inx.number i) (P.Gen.number result.0)
+            result.1.now.item.t result.1.now.item.p_tree0 result.1.now.item.p_tree1
+            result.1.now.prev result.1.now.next }
     {
-        self.tree.chain().arena().entry(i)
+        self.tree.entry(i)
     }
 }

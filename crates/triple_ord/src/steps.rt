@@ -1,7 +1,7 @@
 //! Steps along the list from a hint.
 ghost use Rattle.std.specs.Prelude.{◌≡◌, ◌≤◌, IsSome, length};
 ghost use Rattle.std.specs.Option.{option_map};
-ghost use Rattle.ord_tree.specs.Chain.{entry_at, IsDistinct};
+ghost use Rattle.ord_tree.specs.Chain.{entry_at};
 ghost use Rattle.triple_ord.specs.Steps.{neighbour_towards, Settles, IsNear, EndsNear};
 ghost use Rattle.triple_ord.specs.Ties.{taken};
 
@@ -29,7 +29,6 @@ pub(crate) fn step_along<P: BasePtr, T: SimpleOrdItem, A: Allocator>(
     k: &T::Key,
 ) -> Option<(P, Ordering)>
     requires fresh { probe.old.visits ≡ 0 }
-    requires distinct { IsDistinct probe.old.tree.now.list.entries }
     requires occupied { IsSome (entry_at probe.old.tree.now.list.entries (P.Inx.number p_init)) }
     ensures settled { Settles T.key_of (taken ties T.Key.cmp) probe.old.tree.now.list.entries k.now
         (option_map (λ a. (P.numbers a.0, a.1)) result) probe.new.visits }

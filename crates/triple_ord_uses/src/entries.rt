@@ -1,11 +1,11 @@
 //! Jobs that are returned if their insertion fails, several jobs with the same deadline, and jobs next to a given job.
 
-ghost use Rattle.std.specs.Prelude.{◌≡◌, ◌≢◌, ◌+◌, ℕ, Some, None, IfOk, OnOk, IfErr, OnErr, if◌then◌else◌};
-ghost use Rattle.triple_ord.specs.Arena.{item_of, count, FindSame};
+ghost use Rattle.std.specs.Prelude.{◌≡◌, ◌≢◌, ◌+◌, ℕ, Some, None, IfOk, IfErr, OnErr, if◌then◌else◌};
+ghost use Rattle.triple_ord.specs.Arena.{item_of, count, FindSame, Updates};
 
 use crate::scheduler::Jobs;
 use std::cmp::Ordering;
-use triple_ord::{BasePtr, OrdEntryKind, OrdInsertKind, OrdInsertionError, OrdPair, P0};
+use triple_ord::{BasePtr, Growth, OrdEntryKind, OrdInsertKind, OrdInsertionError, OrdPair, P0};
 
 /// Adds a job behind those with the same deadline. On `Err` the job is returned.
 pub fn add(
@@ -81,6 +81,21 @@ pub fn add_near(
     })?;
     let p = entry.ptr().any();
     Ok((p, entry.insert(job)))
+}
+
+/// Adds a job, and lets the arena grow for it only if `growth` allows it.
+pub fn add_by_growth(
+    jobs: &mut Jobs,
+    growth: Growth,
+    job: OrdPair<u64, u64>,
+) -> Result<P0, OrdInsertionError>
+    ensures updates { IfOk result (λ p. Updates jobs.old jobs.new p (Some job)) }
+    ensures refused { OnErr result (jobs.new ≡ jobs.old) }
+{
+    let entry = jobs.entry_insert_by_growth(growth, OrdInsertKind::Nonhereditary(job.k()))?;
+    let p = entry.ptr().any();
+    let _ = entry.insert(job);
+    Ok(p)
 }
 
 /// Adds a job within the capacity.

@@ -1,6 +1,6 @@
 //! Jobs by their tickets, and the next one, without taking them off.
 
-ghost use Rattle.std.specs.Prelude.{◌≡◌, IfNone, IsSomeAnd, is_some};
+ghost use Rattle.std.specs.Prelude.{◌≡◌, IfNone, is_some};
 ghost use Rattle.std.specs.Option.{option_map};
 ghost use Rattle.agenda.specs.Agenda.{count, job_of, first_job, shown_job};
 
@@ -34,8 +34,6 @@ impl<J, A: Allocator> Agenda<J, A> {
         ensures value { option_map shown_job result ≡ first_job self.now.jobs }
         ensures none { IfNone result (count self.now ≡ 0) }
     {
-        // For the prover: the list is sound.
-        let _ = self.jobs.len();
         let first = self.jobs.first()?;
         let pair = self.jobs.get(first)?;
         let (deadline, job) = pair.k_v();

@@ -1,9 +1,9 @@
 //! Clones of other arenas, with their pointers.
-ghost use Rattle.std.specs.Prelude.{◌≡◌, ◌≤◌, [], max, vec_len, vec_capacity, OnOk, OnErr};
-ghost use Rattle.arena_base.specs.Arena.{arena_limit, arena_capacity, greatest_occupied, IsFresh};
-ghost use Rattle.arena_base.specs.Clone.{Grants, HasSamePointers, IsClone, IsRefusedClone, IsShown, StopsAtRefusal};
-ghost use Rattle.arena_base.specs.Room.{Reallocates, ClonesOrFails};
-ghost use Rattle.arena_base.specs.SlotMoves.{ClonesSlots};
+ghost use Rattle.std.specs.Prelude.{◌≡◌, ◌≤◌, [], max, vec_len, vec_capacity, OnErr};
+ghost use Rattle.arena_base.specs.Arena.{arena_limit, arena_capacity, greatest_occupied, IsFresh, IsLawful};
+ghost use Rattle.arena_base.specs.Clone.{Grants, IsArenaClone, IsClone, IsRefusedClone, IsShown, StopsAtRefusal};
+ghost use Rattle.arena_base.specs.Room.{Reallocates, ClonesBy, ClonesOrFails};
+ghost use Rattle.arena_base.specs.SlotMoves.{CanClone, ClonesSlots, MakesItems};
 ghost use Rattle.arena_base.specs.Walk.{entries_rising};
 
 use super::Arena;
@@ -36,12 +36,11 @@ impl<P: BasePtr, T: Drop, A: Allocator> Arena<P, T, A> {
         map: F,
     ) -> Result<(), ReallocationError>
         requires { F.IsAlwaysCallable map }
-        ensures clones { Reallocates (arena_limit P.Inx.most self.old) (arena_capacity self.old)
+        ensures { Reallocates (arena_limit P.Inx.most self.old) (arena_capacity self.old)
             (greatest_occupied (S.content source.now).slots) result
+            (IsArenaClone (S.content source.now) self.new
             ((last : F) × IsClone P.numbers (IsShown F.step) map
-            (S.content source.now) self.old self.new last) (self.new ≡ self.old) }
-        ensures pointers { OnOk result (HasSamePointers self.new (S.content source.now)) }
-        ensures fresh { OnOk result (IsFresh self.new) }
+            (S.content source.now) self.old self.new last)) (self.new ≡ self.old) }
     {
         let mut calls = Calls { f: map };
         self.clone_by(source, &mut calls)
@@ -60,15 +59,14 @@ impl<P: BasePtr, T: Drop, A: Allocator> Arena<P, T, A> {
         F: FnMut(P, &U) -> Result<T, AllocError> + Drop,
     >(&mut self, source: &S, map: F) -> Result<(), ReallocationError>
         requires { F.IsAlwaysCallable map }
-        ensures clones { ClonesOrFails (arena_limit P.Inx.most self.old) (arena_capacity self.old)
+        ensures { ClonesOrFails (arena_limit P.Inx.most self.old) (arena_capacity self.old)
             (greatest_occupied (S.content source.now).slots) result
+            (IsArenaClone (S.content source.now) self.new
             ((last : F) × IsClone P.numbers (Grants P.numbers (IsShown F.step)) map
-            (S.content source.now) self.old self.new last)
+            (S.content source.now) self.old self.new last))
             (self.new ≡ self.old)
             ((last : F) × IsRefusedClone P.numbers (IsShown F.step) map
             (S.content source.now) self.old self.new last) }
-        ensures pointers { OnOk result (HasSamePointers self.new (S.content source.now)) }
-        ensures fresh { OnOk result (IsFresh self.new) }
     {
         let mut calls = TryCalls { f: map };
         self.clone_by(source, &mut calls)
@@ -84,16 +82,15 @@ impl<P: BasePtr, T: Drop, A: Allocator> Arena<P, T, A> {
         map: &mut M,
     ) -> Result<(), ReallocationError>
         requires { M.callable map.old }
-        ensures callable { M.callable map.new }
-        ensures clones { ClonesOrFails (arena_limit P.Inx.most self.old) (arena_capacity self.old)
-            (greatest_occupied (S.content source.now).slots) result
+        ensures { ClonesBy (arena_limit P.Inx.most self.old) (arena_capacity self.old)
+            (greatest_occupied (S.content source.now).slots) result (M.callable map.new)
+            (IsLawful P.Inx.most P.Gen.greatest (S.content source.now))
+            (IsArenaClone (S.content source.now) self.new
             (IsClone P.numbers (Grants P.numbers M.step) map.old
-            (S.content source.now) self.old self.new map.new)
+            (S.content source.now) self.old self.new map.new))
             ((self.new ≡ self.old) × (map.new ≡ map.old))
             (IsRefusedClone P.numbers M.step map.old
             (S.content source.now) self.old self.new map.new) }
-        ensures pointers { OnOk result (HasSamePointers self.new (S.content source.now)) }
-        ensures fresh { OnOk result (IsFresh self.new) }
     {
         let needed = greatest_occupied(source);
         self.raise_capacity(needed)?;
@@ -125,19 +122,16 @@ impl<P: BasePtr, T: Drop, A: Allocator> Arena<P, T, A> {
         n: usize,
         map: &mut M,
     ) -> Result<(), AllocError>
-        requires callable { M.callable map.old }
-        requires greatest { n ≡ greatest_occupied (S.content source.now).slots }
-        requires room { n ≤ arena_capacity self.old }
-        ensures callable { M.callable map.new }
-        ensures ok { OnOk result (IsClone P.numbers (Grants P.numbers M.step) map.old
-            (S.content source.now) self.old self.new map.new) }
-        ensures fresh { IsFresh self.new }
-        ensures refused { OnErr result
+        requires { CanClone (M.callable map.old)
+            (IsLawful P.Inx.most P.Gen.greatest (S.content source.now)) n
+            (greatest_occupied (S.content source.now).slots) (arena_capacity self.old) }
+        ensures made { MakesItems result (M.callable map.new)
+            (IsClone P.numbers (Grants P.numbers M.step) map.old
+            (S.content source.now) self.old self.new map.new)
             (IsRefusedClone P.numbers M.step map.old
             (S.content source.now) self.old self.new map.new) }
+        ensures fresh { IsFresh self.new }
     {
-        // For the prover: the source is lawful.
-        let _ = source.capacity();
         let capacity = self.slots.len();
         self.slots.clear();
         let granted = clone_slots::<P, T, A, U, S, M>(&mut self.slots, source, n, map);
@@ -150,7 +144,10 @@ impl<P: BasePtr, T: Drop, A: Allocator> Arena<P, T, A> {
 // The greatest occupied index, or 0.
 fn greatest_occupied<P: BasePtr, U, S: ArenaTrait<P, U>>(source: &S) -> usize
     ensures value { result ≡ greatest_occupied (S.content source.now).slots }
+    ensures lawful { IsLawful P.Inx.most P.Gen.greatest (S.content source.now) }
 {
+    // For the prover: the source is lawful.
+    let _ = source.capacity();
     match source.find_last_inx_ptr() {
         Some(p) => p.inx().try_into_usize().unwrap_or(0),
         None => 0,
@@ -164,21 +161,18 @@ fn clone_slots<P: BasePtr, T: Drop, A: Allocator, U, S: ArenaTrait<P, U>, M: Clo
     n: usize,
     map: &mut M,
 ) -> Result<(), AllocError>
-    requires callable { M.callable map.old }
+    requires can { CanClone (M.callable map.old)
+        (IsLawful P.Inx.most P.Gen.greatest (S.content source.now)) n
+        (greatest_occupied (S.content source.now).slots) (vec_capacity slots.old) }
     requires empty { slots.old.items ≡ [] }
-    requires room { n ≤ vec_capacity slots.old }
-    requires greatest { n ≡ greatest_occupied (S.content source.now).slots }
-    ensures callable { M.callable map.new }
-    ensures ok { OnOk result (ClonesSlots P.numbers P.Gen.number (Grants P.numbers M.step) map.old
-        (S.content source.now).slots slots.new.items map.new) }
-    ensures refused { OnErr result
+    ensures made { MakesItems result (M.callable map.new)
+        (ClonesSlots P.numbers P.Gen.number (Grants P.numbers M.step) map.old
+        (S.content source.now).slots slots.new.items map.new)
         (StopsAtRefusal P.numbers M.step map.old (entries_rising (S.content source.now) 0) map.new) }
     ensures none_left { OnErr result (slots.new.items ≡ []) }
     ensures within { vec_len slots.new ≤ n }
     ensures capacity { vec_capacity slots.new ≡ vec_capacity slots.old }
 {
-    // For the prover: the source is lawful.
-    let _ = source.capacity();
     for position in 0..n {
         let i = inx_at(position);
         match source.get_inx(i) {

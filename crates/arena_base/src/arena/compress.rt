@@ -1,7 +1,7 @@
 //! Compression: all entries move to the least indexes.
-ghost use Rattle.std.specs.Prelude.{◌≡◌, ◌≤◌, vec_len, vec_capacity};
-ghost use Rattle.arena_base.specs.Arena.{HoldsSame, IsFresh};
-ghost use Rattle.arena_base.specs.Compression.{compressed, items_rising, IsCompression, Restarts};
+ghost use Rattle.std.specs.Prelude.{◌≡◌, ◌≤◌, vec_len};
+ghost use Rattle.arena_base.specs.Arena.{HoldsSame};
+ghost use Rattle.arena_base.specs.Compression.{compressed, items_rising, CompressesArena, IsCompression, Restarts};
 ghost use Rattle.arena_base.specs.SlotMoves.{CompressesSlots};
 
 use super::Arena;
@@ -25,9 +25,8 @@ impl<P: BasePtr, T, A: Allocator> Arena<P, T, A> {
         f: F,
     ) -> InvalidationOption<()>
         requires { F.IsAlwaysCallable f }
-        ensures restarts { Restarts P.Gen.greatest reset self.old.generation result
+        ensures { CompressesArena P.Gen.greatest reset self.old self.new result
             (λ g. IsCompression P.numbers F.step g f self.old self.new) }
-        ensures fresh { IsFresh self.new }
     {
         self.compress_by(reset, Calls { f })
     }
@@ -39,9 +38,8 @@ impl<P: BasePtr, T, A: Allocator> Arena<P, T, A> {
         map: M,
     ) -> InvalidationOption<()>
         requires { M.callable map }
-        ensures restarts { Restarts P.Gen.greatest reset self.old.generation result
+        ensures { CompressesArena P.Gen.greatest reset self.old self.new result
             (λ g. IsCompression P.numbers M.step g map self.old self.new) }
-        ensures fresh { IsFresh self.new }
     {
         let overflow = self.restart(reset);
         move_down::<P, T, A, M>(&mut self.slots, self.generation, map);
@@ -52,9 +50,8 @@ impl<P: BasePtr, T, A: Allocator> Arena<P, T, A> {
 
     /// Moves all entries to the indexes from 1 on, as `compress_with` does. Each keeps its item.
     pub fn compress(&mut self, reset: bool) -> InvalidationOption<()>
-        ensures restarts { Restarts P.Gen.greatest reset self.old.generation result
+        ensures { CompressesArena P.Gen.greatest reset self.old self.new result
             (λ g. HoldsSame self.new (compressed self.old g (items_rising self.old))) }
-        ensures fresh { IsFresh self.new }
     {
         self.compress_with(reset, |_old, item, _new| item)
     }
@@ -83,7 +80,6 @@ fn move_down<P: BasePtr, T, A: Allocator, M: MapEntry<P, T> + Drop>(
     requires named { vec_len slots.old ≤ P.Inx.most }
     ensures items { CompressesSlots P.numbers P.Gen.number M.step generation map
         slots.old.items slots.new.items }
-    ensures capacity { vec_capacity slots.new ≡ vec_capacity slots.old }
     ensures len { vec_len slots.new ≡ vec_len slots.old }
 {
     let mut to = 0;

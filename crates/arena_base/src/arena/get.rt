@@ -1,7 +1,7 @@
 //! Lookup of entries.
 ghost use Rattle.std.specs.Prelude.{◌≡◌, ◌+◌, ◌<◌, ◌↔◌, IfSome, IsNone, IfNone, Some, None, is_some};
 ghost use Rattle.std.specs.Option.{option_copied, option_map};
-ghost use Rattle.arena_base.specs.Arena.{slot, generation_at, item_of, arena_len, arena_capacity, next_index, IsFresh, IsVacant, IsOccupied, IsFirstEntry, IsLastEntry};
+ghost use Rattle.arena_base.specs.Arena.{slot, generation_at, item_of, arena_len, arena_capacity, next_index, IsVacant, IsOccupied, IsSound, FindsFirstEntry, FindsLastEntry};
 
 use super::Arena;
 use crate::ptr::{BasePtr, BasePtrInx};
@@ -48,7 +48,8 @@ impl<P: BasePtr, T, A: Allocator> Arena<P, T, A> {
     /// Returns the generation and the item of the entry at index `i`, which must have one.
     pub fn entry(&self, i: P::Inx) -> (P::Gen, &T)
         requires { IsOccupied self.now (P.Inx.number i) }
-        ensures { slot self.now (P.Inx.number i) ≡ Some (P.Gen.number result.0, result.1.now) }
+        ensures value { slot self.now (P.Inx.number i) ≡ Some (P.Gen.number result.0, result.1.now) }
+        ensures sound { IsSound P.Inx.most P.Gen.greatest self.now }
     {
         match &self.slots[self.position_of_entry(i)] {
             Slot::Occupied(item, generation) => (*generation, item),
@@ -69,8 +70,7 @@ impl<P: BasePtr, T, A: Allocator> Arena<P, T, A> {
 
     /// Returns the pointer of the entry with the least index; `None` if the arena is empty.
     pub fn find_first_inx_ptr(&self) -> Option<P>
-        ensures first { IfSome result (λ p. IsFirstEntry self.now (P.numbers p).0 (P.numbers p).1) }
-        ensures empty { IsNone result ↔ (arena_len self.now ≡ 0) }
+        ensures { FindsFirstEntry P.numbers self.now result }
     {
         for position in 0..self.capacity() {
             if let Some(generation) = self.generation_at(position) {
@@ -82,8 +82,7 @@ impl<P: BasePtr, T, A: Allocator> Arena<P, T, A> {
 
     /// Returns the pointer of the entry with the greatest index; `None` if the arena is empty.
     pub fn find_last_inx_ptr(&self) -> Option<P>
-        ensures last { IfSome result (λ p. IsLastEntry self.now (P.numbers p).0 (P.numbers p).1) }
-        ensures empty { IsNone result ↔ (arena_len self.now ≡ 0) }
+        ensures { FindsLastEntry P.numbers self.now result }
     {
         for position in (0..self.capacity()).rev() {
             if let Some(generation) = self.generation_at(position) {
@@ -122,8 +121,8 @@ impl<P: BasePtr, T, A: Allocator> Arena<P, T, A> {
         ensures number { P.Inx.number i ≡ result + 1 }
         ensures within { result < arena_capacity self.now }
     {
-        // For the prover: the index is within the slots, so nothing is tested.
-        let _ = self.slots.len();
+        // An arena with an entry has a slot.
+        prove!(!self.slots.is_empty());
         position_at(i)
     }
 }

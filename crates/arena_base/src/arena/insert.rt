@@ -1,6 +1,6 @@
 //! Insertions.
-ghost use Rattle.std.specs.Prelude.{◌≡◌, ◌<◌, ◌≤◌, [], length, IfOk, OnOk};
-ghost use Rattle.arena_base.specs.Arena.{arena_len, arena_capacity, arena_limit, with_room, IsInsertion, IsSound};
+ghost use Rattle.std.specs.Prelude.{◌≡◌, ◌<◌, ◌≤◌, [], length, OnOk};
+ghost use Rattle.arena_base.specs.Arena.{arena_len, arena_capacity, arena_limit, with_room, InsertsItem, IsInsertion, IsSound};
 ghost use Rattle.arena_base.specs.Room.{FailsIfFull, FailsOnlyIfFull};
 
 use super::Arena;
@@ -20,12 +20,9 @@ impl<P: BasePtr, T: Drop, A: Allocator> Arena<P, T, A> {
     /// The arena is unchanged and `item` is dropped.
     /// - `NotWithinCapacity`: no slot is vacant.
     pub fn insert_within_capacity(&mut self, item: T) -> Result<P, InsertionError>
-        ensures ok { IfOk result
-            (λ p. IsInsertion self.old self.new item (P.numbers p).0 (P.numbers p).1) }
-        ensures refused { FailsIfFull (arena_len self.old) (arena_capacity self.old) result
-            (self.new ≡ self.old) }
-        ensures sound { IsSound P.Inx.most P.Gen.greatest self.new }
-        ensures room { arena_capacity self.new ≡ arena_capacity self.old }
+        ensures { InsertsItem P.numbers P.Inx.most P.Gen.greatest self.old self.new item result
+            (FailsIfFull (arena_len self.old) (arena_capacity self.old) result (self.new ≡ self.old))
+            (arena_capacity self.new ≡ arena_capacity self.old) }
     {
         if self.vacant.is_empty() {
             return Err(InsertionError::NotWithinCapacity);
@@ -43,13 +40,11 @@ impl<P: BasePtr, T: Drop, A: Allocator> Arena<P, T, A> {
     /// - `BeyondMaxCapacity`: the arena is full and its capacity is at the limit.
     /// - `AllocError`: growing failed.
     pub fn insert_reallocating(&mut self, item: T) -> Result<P, InsertionError>
-        ensures ok { IfOk result
-            (λ p. IsInsertion (with_room P.Inx.most self.old) self.new item
-            (P.numbers p).0 (P.numbers p).1) }
-        ensures refused { FailsOnlyIfFull (arena_len self.old) (arena_capacity self.old)
-            (arena_limit P.Inx.most self.old) result (self.new ≡ self.old) }
-        ensures sound { IsSound P.Inx.most P.Gen.greatest self.new }
-        ensures room { arena_capacity self.old ≤ arena_capacity self.new }
+        ensures { InsertsItem P.numbers P.Inx.most P.Gen.greatest
+            (with_room P.Inx.most self.old) self.new item result
+            (FailsOnlyIfFull (arena_len self.old) (arena_capacity self.old)
+            (arena_limit P.Inx.most self.old) result (self.new ≡ self.old))
+            (arena_capacity self.old ≤ arena_capacity self.new) }
     {
         if self.vacant.is_empty() {
             self.grow()?;

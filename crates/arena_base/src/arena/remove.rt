@@ -104,7 +104,7 @@ impl<P: BasePtr, T, A: Allocator> Arena<P, T, A> {
     {
         let position = self.position_of_entry(i);
         let slot = &mut self.slots[position];
-        let entry = slot.take();
+        let entry = slot.vacate().unwrap();
         self.vacant.push_reserved(i);
         entry
     }

@@ -1,7 +1,6 @@
 //! Walks by index.
-ghost use Rattle.std.specs.Prelude.{◌≡◌, ◌+◌, ◌<◌, ◌≤◌, [], ◌∷◌, true, false, if◌then◌else◌, IfSome, IsSome, MatchOption};
-ghost use Rattle.arena_base.specs.Arena.{item_of};
-ghost use Rattle.arena_base.specs.Walk.{pointers, entries_rising, rising_from, falling_from, rising_walk, falling_walk, walk_rest, HasEnded, WalkSteps};
+ghost use Rattle.std.specs.Prelude.{◌≡◌, ◌+◌, ◌<◌, [], ◌∷◌, true, false, if◌then◌else◌, IfSome, MatchOption};
+ghost use Rattle.arena_base.specs.Walk.{entries_rising, rising_from, falling_from, rising_walk, falling_walk, FindsNext, GoesFrom, GoesOverAll, HasEnded, WalkSteps};
 
 use super::Arena;
 use super::get::pointer;
@@ -57,13 +56,11 @@ impl<P: BasePtr, T, A: Allocator> Advancer<Arena<P, T, A>> for PtrAdvancer<P> {
     }
 }
 
-impl<P: BasePtr, T, A: Allocator> Arena<P, T, A> {
-    /// Returns a walk over all pointers by rising index.
-    pub fn advancer(&self) -> PtrAdvancer<P>
-        ensures begins { result ≡ rising_walk 1 }
-        ensures rest { walk_rest result self.now ≡ pointers self.now }
+impl<P: BasePtr> PtrAdvancer<P> {
+    /// Creates a walk over all pointers of an arena by rising index.
+    pub fn rising() -> Self
+        ensures { result ≡ rising_walk 1 }
     {
-        let _ = self.capacity();
         PtrAdvancer {
             at: 0,
             falling: false,
@@ -71,16 +68,11 @@ impl<P: BasePtr, T, A: Allocator> Arena<P, T, A> {
         }
     }
 
-    /// Returns a walk that begins with index `i` and goes up, or down if `rev` is true.
-    pub fn advancer_inx(&self, i: P::Inx, rev: bool) -> PtrAdvancer<P>
-        ensures begins { result
+    /// Creates a walk that begins with index `i` and goes up, or down if `rev` is true.
+    pub fn from_inx(i: P::Inx, rev: bool) -> Self
+        ensures { result
             ≡ (if rev then falling_walk (P.Inx.number i) else rising_walk (P.Inx.number i)) }
-        ensures rising { rev ≡ false
-            → walk_rest result self.now ≡ rising_from self.now (P.Inx.number i) }
-        ensures falling { rev ≡ true
-            → walk_rest result self.now ≡ falling_from self.now (P.Inx.number i) }
     {
-        let _ = self.capacity();
         let index = i.try_into_usize().unwrap_or(0);
         PtrAdvancer {
             at: if rev { index } else { index.saturating_sub(1) },
@@ -88,19 +80,33 @@ impl<P: BasePtr, T, A: Allocator> Arena<P, T, A> {
             of: PhantomData,
         }
     }
+}
+
+impl<P: BasePtr, T, A: Allocator> Arena<P, T, A> {
+    /// Returns a walk over all pointers by rising index.
+    pub fn advancer(&self) -> PtrAdvancer<P>
+        ensures { GoesOverAll result self.now }
+    {
+        let _ = self.capacity();
+        PtrAdvancer::rising()
+    }
+
+    /// Returns a walk that begins with index `i` and goes up, or down if `rev` is true.
+    pub fn advancer_inx(&self, i: P::Inx, rev: bool) -> PtrAdvancer<P>
+        ensures { GoesFrom result self.now (P.Inx.number i) rev }
+    {
+        let _ = self.capacity();
+        PtrAdvancer::from_inx(i, rev)
+    }
 
     // The first entry from a position on: the position after it, and its pointer.
     pub(super) fn first_from(&self, from: usize) -> Option<(usize, P)>
-        ensures pointers { MatchOption result
-            (rising_from self.now (from + 1) ≡ [])
-            (λ e. rising_from self.now (from + 1)
-            ≡ (P.numbers e.1) ∷ rising_from self.now (e.0 + 1)) }
+        ensures finds { FindsNext P.numbers self.now (rising_from self.now (from + 1))
+            (λ n. rising_from self.now (n + 1)) (λ n. n) result }
         ensures entries { MatchOption result
             (entries_rising self.now (from + 1) ≡ [])
             (λ e. (item : T) × (entries_rising self.now (from + 1)
             ≡ ((P.numbers e.1).0, (P.numbers e.1).1, item) ∷ entries_rising self.now (e.0 + 1))) }
-        ensures there { IfSome result (λ e. IsSome (item_of self.now (P.numbers e.1))) }
-        ensures next { IfSome result (λ e. e.0 ≡ (P.numbers e.1).0) }
     {
         for position in from..self.capacity() {
             if let Some(generation) = self.generation_at(position) {
@@ -112,11 +118,8 @@ impl<P: BasePtr, T, A: Allocator> Arena<P, T, A> {
 
     // The last entry before a position: its own position, and its pointer.
     pub(super) fn last_before(&self, end: usize) -> Option<(usize, P)>
-        ensures pointers { MatchOption result
-            (falling_from self.now end ≡ [])
-            (λ e. falling_from self.now end ≡ (P.numbers e.1) ∷ falling_from self.now e.0) }
-        ensures there { IfSome result (λ e. IsSome (item_of self.now (P.numbers e.1))) }
-        ensures next { IfSome result (λ e. e.0 + 1 ≡ (P.numbers e.1).0) }
+        ensures finds { FindsNext P.numbers self.now (falling_from self.now end)
+            (falling_from self.now) (λ n. n + 1) result }
         ensures before { IfSome result (λ e. e.0 < end) }
     {
         for position in (0..end.min(self.capacity())).rev() {

@@ -2,7 +2,7 @@
 ghost use Rattle.std.specs.Prelude.{◌≡◌};
 ghost use Rattle.std.specs.Option.{option_copied_mut};
 ghost use Rattle.std.specs.Borrow.{sem, LendsIf};
-ghost use Rattle.arena_base.specs.Arena.{slot, item_of, with_item, swapped, IsOccupied};
+ghost use Rattle.arena_base.specs.Arena.{slot, item_of, with_item, swapped, IsOccupied, IsSound};
 
 use super::Arena;
 use crate::items_mut::ItemsMut;
@@ -48,7 +48,8 @@ impl<P: BasePtr, T, A: Allocator> Arena<P, T, A> {
     pub fn swap_inx(&mut self, i: P::Inx, j: P::Inx)
         requires first { IsOccupied self.old (P.Inx.number i) }
         requires second { IsOccupied self.old (P.Inx.number j) }
-        ensures { self.new ≡ swapped self.old (P.Inx.number i) (P.Inx.number j) }
+        ensures after { self.new ≡ swapped self.old (P.Inx.number i) (P.Inx.number j) }
+        ensures sound { IsSound P.Inx.most P.Gen.greatest self.old }
     {
         let first = self.position_of_entry(i);
         let second = self.position_of_entry(j);

@@ -1,10 +1,9 @@
 //! Canonical order: each entry gets the index of its position in the list.
 ghost use Rattle.std.specs.Prelude.{◌≡◌};
 ghost use Rattle.std.specs.Option.{option_map};
-ghost use Rattle.arena_base.specs.Compression.{Restarts};
 ghost use Rattle.chain_base.specs.Chain.{IsOccupied};
-ghost use Rattle.chain_base.specs.Compression.{canonical};
-ghost use Rattle.chain_base.specs.Exchange.{exchanged, exchanged_index, index_before, IsEven};
+ghost use Rattle.chain_base.specs.Compression.{canonical, CompressesChain};
+ghost use Rattle.chain_base.specs.Exchange.{exchanged, exchanged_index, index_before, MayExchange};
 ghost use Rattle.chain_base.specs.Walk.{index_after};
 
 use super::ChainArena;
@@ -19,7 +18,7 @@ impl<P: BasePtr, T, A: Allocator> ChainArena<P, T, A> {
     /// Reports an overflow if the next generation comes after the greatest. The capacity stays, and the free list is ascending, as if no
     /// slot had been used. No memory, and one more pass over the list than `compress`.
     pub fn compress_canonical(&mut self, reset: bool) -> InvalidationOption<()>
-        ensures { Restarts P.Gen.greatest reset self.old.generation result
+        ensures { CompressesChain P.Inx.most P.Gen.greatest reset self.old result
             (λ g. self.new ≡ canonical self.old g) }
     {
         let len = self.len();
@@ -42,13 +41,9 @@ impl<P: BasePtr, T, A: Allocator> ChainArena<P, T, A> {
 
     // Swaps the indexes of two entries. All entries must have the arena's generation.
     fn exchange(&mut self, i: P::Inx, j: P::Inx)
-        requires first { IsOccupied self.old (P.Inx.number i) }
-        requires second { IsOccupied self.old (P.Inx.number j) }
-        requires even { IsEven self.old }
+        requires { MayExchange self.old (P.Inx.number i) (P.Inx.number j) }
         ensures { self.new ≡ exchanged self.old (P.Inx.number i) (P.Inx.number j) }
     {
-        // For the prover: each index of an entry can be named in a link.
-        let _ = self.len();
         let of_i = self.neighbours_at(i);
         let of_j = self.neighbours_at(j);
         self.arena.swap_inx(i, j);

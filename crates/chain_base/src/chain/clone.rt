@@ -1,8 +1,8 @@
 //! Clones of other chains, with their pointers and their order.
 ghost use Rattle.std.specs.Prelude.{◌≡◌};
 ghost use Rattle.arena_base.specs.Clone.{Grants};
-ghost use Rattle.arena_base.specs.Room.{Reallocates, ClonesOrFails};
-ghost use Rattle.chain_base.specs.Chain.{chain_limit, greatest_index};
+ghost use Rattle.arena_base.specs.Room.{Reallocates, ClonesBy, ClonesOrFails};
+ghost use Rattle.chain_base.specs.Chain.{chain_limit, greatest_index, IsSound};
 ghost use Rattle.chain_base.specs.Clone.{IsClone, IsRefusedClone, ShowsLink};
 
 use super::ChainArena;
@@ -73,14 +73,14 @@ impl<P: BasePtr, T: Drop, A: Allocator> ChainArena<P, T, A> {
         map: &mut M,
     ) -> Result<(), ReallocationError>
         requires { M.callable map.old }
-        ensures callable { M.callable map.new }
-        ensures clones { ClonesOrFails (chain_limit P.Inx.most self.old) self.old.capacity
-            (greatest_index source.now.entries) result
+        ensures { ClonesBy (chain_limit P.Inx.most self.old) self.old.capacity
+            (greatest_index source.now.entries) result (M.callable map.new)
+            (IsSound P.Inx.most P.Gen.greatest source.now)
             (IsClone P.numbers (Grants P.numbers M.step) map.old source.now self.old self.new map.new)
             ((self.new ≡ self.old) × (map.new ≡ map.old))
             (IsRefusedClone P.numbers M.step map.old source.now self.old self.new map.new) }
     {
-        // For the prover: each index of the source's list is above 0.
+        // For the prover: the list is sound.
         let _ = source.len();
         let mut link = CloneLink { map };
         let cloned = self.arena.clone_by(&source.arena, &mut link);

@@ -1,11 +1,10 @@
 //! Compression: all entries move to the least indexes.
 ghost use Rattle.std.specs.Prelude.{◌≡◌};
 ghost use Rattle.std.specs.Option.{option_map, ForSome};
-ghost use Rattle.arena_base.specs.Arena.{IsFresh, IsOccupied};
-ghost use Rattle.arena_base.specs.Compression.{Restarts};
+ghost use Rattle.arena_base.specs.Arena.{IsOccupied, IsSound};
 ghost use Rattle.arena_base.specs.Pointer.{named_of};
-ghost use Rattle.chain_base.specs.Compression.{relocated, IsCompression};
-ghost use Rattle.chain_base.specs.Naming.{CompressesItems, neighbour_on, linked_facing, IsPaired, NamesCompressedIndexes};
+ghost use Rattle.chain_base.specs.Compression.{relocated, CompressesChain, IsCompression};
+ghost use Rattle.chain_base.specs.Naming.{neighbour_on, linked_facing, IsPaired, NamesCompressedIndexes};
 
 use super::ChainArena;
 use super::links::{set_next, set_prev};
@@ -25,7 +24,7 @@ impl<P: BasePtr, T, A: Allocator> ChainArena<P, T, A> {
         f: F,
     ) -> InvalidationOption<()>
         requires { F.IsAlwaysCallable f }
-        ensures { Restarts P.Gen.greatest reset self.old.generation result
+        ensures { CompressesChain P.Inx.most P.Gen.greatest reset self.old result
             (λ g. IsCompression P.numbers F.step g f self.old self.new) }
     {
         self.compress_by(reset, Calls { f })
@@ -33,11 +32,9 @@ impl<P: BasePtr, T, A: Allocator> ChainArena<P, T, A> {
 
     /// Moves all entries to the indexes from 1 on, as `compress_with` does. Each keeps its item.
     pub fn compress(&mut self, reset: bool) -> InvalidationOption<()>
-        ensures { Restarts P.Gen.greatest reset self.old.generation result
+        ensures { CompressesChain P.Inx.most P.Gen.greatest reset self.old result
             (λ g. self.new ≡ relocated self.old g) }
     {
-        // For the prover: each index of the list is within the capacity.
-        let _ = self.len();
         self.compress_with(reset, |_old, item, _new| item)
     }
 
@@ -48,29 +45,15 @@ impl<P: BasePtr, T, A: Allocator> ChainArena<P, T, A> {
         map: M,
     ) -> InvalidationOption<()>
         requires { M.callable map }
-        ensures { Restarts P.Gen.greatest reset self.old.generation result
+        ensures { CompressesChain P.Inx.most P.Gen.greatest reset self.old result
             (λ g. IsCompression P.numbers M.step g map self.old self.new) }
     {
         let first = name_compressed_indexes(&mut self.arena, Side::Before);
-        let overflow = compress_items(&mut self.arena, reset, map);
+        let overflow = self.arena.compress_by(reset, MapItem { map });
         self.last = name_compressed_indexes(&mut self.arena, Side::After);
         self.first = first;
         overflow
     }
-}
-
-// Compresses the arena under a chain. The links keep the neighbours that they name.
-fn compress_items<P: BasePtr, T, A: Allocator, M: MapEntry<P, T> + Drop>(
-    arena: &mut Arena<P, LinkNoGen<P, T>, A>,
-    reset: bool,
-    map: M,
-) -> InvalidationOption<()>
-    requires { M.callable map }
-    ensures restarts { Restarts P.Gen.greatest reset arena.old.generation result
-        (λ g. CompressesItems P.numbers M.step g map arena.old arena.new) }
-    ensures fresh { IsFresh arena.new }
-{
-    arena.compress_by(reset, MapItem { map })
 }
 
 /// Makes a new item within a link, which keeps its neighbours.
@@ -111,7 +94,9 @@ fn name_compressed_indexes<P: BasePtr, T, A: Allocator>(
     side: Side,
 ) -> Option<P::Inx>
     requires { IsPaired side arena.old }
-    ensures { NamesCompressedIndexes side arena.old arena.new (option_map P.Inx.number result) }
+    ensures names { NamesCompressedIndexes side arena.old arena.new
+        (option_map P.Inx.number result) }
+    ensures sound { IsSound P.Inx.most P.Gen.greatest arena.old }
 {
     let mut end = None;
     let mut count = 0;

@@ -1,7 +1,7 @@
 //! Lookup of entries and their neighbours.
-ghost use Rattle.std.specs.Prelude.{◌≡◌, ◌↔◌, [], Some, IfSome, IsNone, is_some, length};
+ghost use Rattle.std.specs.Prelude.{◌≡◌, ◌↔◌, [], Some, IsNone, is_some};
 ghost use Rattle.std.specs.Option.{option_copied, option_map};
-ghost use Rattle.chain_base.specs.Chain.{entry_at, item_of, link_at, pointed, first_pointer, last_pointer, IsOccupied, IsFirstIndex, IsLastIndex};
+ghost use Rattle.chain_base.specs.Chain.{entry_at, item_of, link_at, pointed, first_pointer, last_pointer, IsOccupied, FindsFirstEntry, FindsLastEntry};
 
 use super::ChainArena;
 use crate::link::LinkNoGen;
@@ -92,18 +92,14 @@ impl<P: BasePtr, T, A: Allocator> ChainArena<P, T, A> {
 
     /// Returns the pointer of the entry with the least index; `None` if there are no entries.
     pub fn find_first_inx_ptr(&self) -> Option<P>
-        ensures first { IfSome result
-            (λ p. IsFirstIndex self.now.entries (P.numbers p).0 (P.numbers p).1) }
-        ensures empty { IsNone result ↔ (self.now.entries ≡ []) }
+        ensures { FindsFirstEntry P.numbers self.now.entries result }
     {
         self.arena.find_first_inx_ptr()
     }
 
     /// Returns the pointer of the entry with the greatest index; `None` if there are no entries.
     pub fn find_last_inx_ptr(&self) -> Option<P>
-        ensures last { IfSome result
-            (λ p. IsLastIndex self.now.entries (P.numbers p).0 (P.numbers p).1) }
-        ensures empty { IsNone result ↔ (self.now.entries ≡ []) }
+        ensures { FindsLastEntry P.numbers self.now.entries result }
     {
         self.arena.find_last_inx_ptr()
     }

@@ -1,9 +1,9 @@
 //! Insertions.
-ghost use Rattle.std.specs.Prelude.{◌≡◌, ◌≤◌, ◌++◌, ◌∷◌, [], IfOk, length};
+ghost use Rattle.std.specs.Prelude.{◌≡◌, ◌≤◌, ◌++◌, ◌∷◌, [], length};
 ghost use Rattle.std.specs.Option.{option_map};
 ghost use Rattle.arena_base.specs.Room.{FailsIfFull, FailsOnlyIfFull};
 ghost use Rattle.chain_base.specs.Chain.{chain_limit, with_room};
-ghost use Rattle.chain_base.specs.Insert.{placed, CanPlace, IsInsertion, PutsBetween};
+ghost use Rattle.chain_base.specs.Insert.{placed, CanPlace, InsertsItem, PutsBetween};
 
 use super::ChainArena;
 use super::links::relink;
@@ -37,10 +37,10 @@ impl<P: BasePtr, T: Drop, A: Allocator> ChainArena<P, T, A> {
         t: T,
     ) -> Result<P, InsertionError>
         requires { CanPlace P.Inx.number kind self.old }
-        ensures ok { IfOk result (λ p. IsInsertion self.old self.new
-            (placed P.Inx.number kind self.old.entries) t (P.numbers p).0 (P.numbers p).1) }
-        ensures refused { FailsIfFull (length self.old.entries) self.old.capacity result
-            (self.new ≡ self.old) }
+        ensures { InsertsItem P.numbers self.old self.new
+            (placed P.Inx.number kind self.old.entries) t result
+            (FailsIfFull (length self.old.entries) self.old.capacity result (self.new ≡ self.old))
+            (self.new.capacity ≡ self.old.capacity) }
     {
         let (prev, next) = self.neighbours(kind);
         let p = self
@@ -67,10 +67,9 @@ impl<P: BasePtr, T: Drop, A: Allocator> ChainArena<P, T, A> {
     /// - `NotWithinCapacity`: no slot is vacant.
     #[inline(always)]
     pub fn push_back_within_capacity(&mut self, t: T) -> Result<P, InsertionError>
-        ensures ok { IfOk result (λ p. IsInsertion self.old self.new
-            (λ e. self.old.entries ++ e ∷ []) t (P.numbers p).0 (P.numbers p).1) }
-        ensures refused { FailsIfFull (length self.old.entries) self.old.capacity result
-            (self.new ≡ self.old) }
+        ensures { InsertsItem P.numbers self.old self.new (λ e. self.old.entries ++ e ∷ []) t result
+            (FailsIfFull (length self.old.entries) self.old.capacity result (self.new ≡ self.old))
+            (self.new.capacity ≡ self.old.capacity) }
     {
         let last = self.last;
         let p = self
@@ -104,11 +103,11 @@ impl<P: BasePtr, T: Drop, A: Allocator> ChainArena<P, T, A> {
         t: T,
     ) -> Result<P, InsertionError>
         requires { CanPlace P.Inx.number kind self.old }
-        ensures ok { IfOk result (λ p. IsInsertion (with_room P.Inx.most self.old) self.new
-            (placed P.Inx.number kind self.old.entries) t (P.numbers p).0 (P.numbers p).1) }
-        ensures room { self.old.capacity ≤ self.new.capacity }
-        ensures refused { FailsOnlyIfFull (length self.old.entries) self.old.capacity
-            (chain_limit P.Inx.most self.old) result (self.new ≡ self.old) }
+        ensures { InsertsItem P.numbers (with_room P.Inx.most self.old) self.new
+            (placed P.Inx.number kind self.old.entries) t result
+            (FailsOnlyIfFull (length self.old.entries) self.old.capacity
+            (chain_limit P.Inx.most self.old) result (self.new ≡ self.old))
+            (self.old.capacity ≤ self.new.capacity) }
     {
         self.make_room()?;
         self.insert_within_capacity(kind, t)

@@ -21,8 +21,6 @@ impl<P: BasePtr, T, A: Allocator> ChainArena<P, T, A> {
         requires place { CanPlace P.Inx.number kind (without_entry self.old (P.Inx.number i)) }
         ensures { self.new ≡ with_entry_moved self.old (P.Inx.number i) (placed P.Inx.number kind) }
     {
-        // For the prover: each index of an entry can be named in a link.
-        let _ = self.len();
         let (prev, next) = self.arena.entry(i).1.prev_next();
         relink(
             &mut self.arena,

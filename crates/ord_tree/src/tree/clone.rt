@@ -4,8 +4,9 @@ ghost use Rattle.std.specs.Prelude.{◌≡◌};
 ghost use Rattle.chain_base.specs.Chain.{chain_limit, greatest_index};
 ghost use Rattle.chain_base.specs.Clone.{IsClone as IsClonedList};
 ghost use Rattle.chain_base.specs.ArenaClone.{IsShown};
-ghost use Rattle.chain_base.specs.Room.{Reallocates, ClonesOrFails};
+ghost use Rattle.chain_base.specs.Room.{Reallocates, ClonesBy, ClonesOrFails};
 ghost use Rattle.ord_tree.specs.Clone.{IsClone, IsRefusedClone, ShowsItem};
+ghost use Rattle.ord_tree.specs.Tree.{IsSoundTree};
 
 use super::OrdTree;
 use crate::node::SimpleOrdArenaNode;
@@ -57,15 +58,13 @@ impl<P: BasePtr, T: Drop, A: Allocator> OrdTree<P, T, A> {
         map: &mut M,
     ) -> Result<(), ReallocationError>
         requires { M.callable map.old }
-        ensures callable { M.callable map.new }
-        ensures clones { ClonesOrFails (chain_limit P.Inx.most self.old.list) self.old.list.capacity
-            (greatest_index source.now.list.entries) result
+        ensures { ClonesBy (chain_limit P.Inx.most self.old.list) self.old.list.capacity
+            (greatest_index source.now.list.entries) result (M.callable map.new)
+            (IsSoundTree source.now)
             (IsClone P.numbers M.step map.old source.now self.old self.new map.new)
             ((self.new ≡ self.old) × (map.new ≡ map.old))
             (IsRefusedClone P.numbers M.step map.old source.now self.old self.new map.new) }
     {
-        // For the prover: the source's list is sound, so each of its indexes is above 0.
-        let _ = source.chain.len();
         let mut node = CloneNode { map };
         let cloned = self.chain.clone_by(&source.chain, &mut node);
         match cloned {

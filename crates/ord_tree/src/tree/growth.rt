@@ -1,9 +1,10 @@
 //! Creating a tree, and changing its capacity.
 
-ghost use Rattle.std.specs.Prelude.{◌≡◌, ◌<◌, Some, max, length, IsSome, OnOk};
-ghost use Rattle.chain_base.specs.Chain.{new_chain, chain_limit, with_capacity, with_room, greatest_index, next_index};
+ghost use Rattle.std.specs.Prelude.{◌≡◌, Some, max, length};
+ghost use Rattle.chain_base.specs.Chain.{new_chain, chain_limit, with_capacity, with_room, greatest_index};
 ghost use Rattle.chain_base.specs.Room.{Allocates, Reallocates, LimitsCapacity, FailsOnlyIfFull};
 ghost use Rattle.ord_tree.specs.Shape.{missing};
+ghost use Rattle.ord_tree.specs.Tree.{MakesRoom};
 
 use super::OrdTree;
 use arena_base::{BasePtr, InsertionError, MaxCapacityReductionError, ReallocationError};
@@ -69,14 +70,10 @@ impl<P: BasePtr, T, A: Allocator> OrdTree<P, T, A> {
     /// - `AllocError`: no slot is vacant, and growing failed.
     #[inline(always)]
     pub fn make_room(&mut self) -> Result<(), InsertionError>
-        ensures ok { OnOk result
-            (self.new ≡ record self.old { list = with_room P.Inx.most self.old.list }) }
-        ensures room { OnOk result (length self.new.list.entries < self.new.list.capacity) }
-        ensures next { OnOk result (IsSome (next_index self.new.list)) }
-        ensures entries { self.new.list.entries ≡ self.old.list.entries }
-        ensures shape { self.new.shape ≡ self.old.shape }
-        ensures refused { FailsOnlyIfFull (length self.old.list.entries) self.old.list.capacity
-            (chain_limit P.Inx.most self.old.list) result (self.new ≡ self.old) }
+        ensures { MakesRoom self.old self.new result
+            (self.new ≡ record self.old { list = with_room P.Inx.most self.old.list })
+            (FailsOnlyIfFull (length self.old.list.entries) self.old.list.capacity
+            (chain_limit P.Inx.most self.old.list) result (self.new ≡ self.old)) }
     {
         self.chain.make_room()
     }

@@ -1,16 +1,15 @@
 //! Inserting entries.
 
-ghost use Rattle.std.specs.Prelude.{◌≡◌, ℕ, ◌+◌, List, Option, Some, option_map, IsSomeAnd, MatchOption, IfOk, OnOk, length};
+ghost use Rattle.std.specs.Prelude.{◌≡◌, ℕ, ◌+◌, List, Option, Some, option_map, IsSomeAnd, MatchOption, length};
 ghost use Rattle.chain_base.specs.Chain.{IsDistinct, IsOccupied, chain_limit, with_room};
 ghost use Rattle.chain_base.specs.Room.{FailsIfFull, FailsOnlyIfFull};
-ghost use Rattle.chain_base.specs.Insert.{IsInsertion};
 ghost use Rattle.ord_tree.specs.Shape.{Shape};
 ghost use Rattle.ord_tree.specs.Node.{indexes, bare, slots_of};
 ghost use Rattle.ord_tree.specs.Leaf.{neighbour_in, beside, IsNewLeaf};
 ghost use Rattle.ord_tree.specs.Potential.{potential};
 ghost use Rattle.ord_tree.specs.Promote.{IsRepaired};
 ghost use Rattle.ord_tree.specs.Account.{IsSpelledWithin, rank_in};
-ghost use Rattle.ord_tree.specs.Tree.{put_at, CanPutAt, IsGrown};
+ghost use Rattle.ord_tree.specs.Tree.{put_at, CanPutAt, InsertsItem};
 ghost use Rattle.ord_tree.specs.Layout.{IsLaidOut};
 ghost use Rattle.ord_tree.specs.LeafBranch.{kind_at, IsLeafBranch, IsLeafBranchAt};
 
@@ -41,11 +40,10 @@ impl<P: BasePtr, T: Drop, A: Allocator> OrdTree<P, T, A> {
         t: T,
     ) -> Result<P, InsertionError>
         requires { CanPutAt P.Inx.number at self.old.list }
-        ensures ok { IfOk result (λ p. IsInsertion self.old.list self.new.list
-            (put_at P.Inx.number at self.old.list.entries) t (P.numbers p).0 (P.numbers p).1) }
-        ensures shape { OnOk result (IsGrown self.old.shape self.new.shape) }
-        ensures refused { FailsIfFull (length self.old.list.entries) self.old.list.capacity result
-            (self.new ≡ self.old) }
+        ensures { InsertsItem P.numbers self.old.list self.old self.new
+            (put_at P.Inx.number at self.old.list.entries) t result
+            (FailsIfFull (length self.old.list.entries) self.old.list.capacity result
+            (self.new ≡ self.old)) }
     {
         let branch = branch_at(&self.chain, at);
         let node = SimpleOrdArenaNode::leaf(parent_in(branch), t);
@@ -76,12 +74,10 @@ impl<P: BasePtr, T: Drop, A: Allocator> OrdTree<P, T, A> {
         t: T,
     ) -> Result<P, InsertionError>
         requires { CanPutAt P.Inx.number at self.old.list }
-        ensures ok { IfOk result
-            (λ p. IsInsertion (with_room P.Inx.most self.old.list) self.new.list
-            (put_at P.Inx.number at self.old.list.entries) t (P.numbers p).0 (P.numbers p).1) }
-        ensures shape { OnOk result (IsGrown self.old.shape self.new.shape) }
-        ensures refused { FailsOnlyIfFull (length self.old.list.entries) self.old.list.capacity
-            (chain_limit P.Inx.most self.old.list) result (self.new ≡ self.old) }
+        ensures { InsertsItem P.numbers (with_room P.Inx.most self.old.list) self.old self.new
+            (put_at P.Inx.number at self.old.list.entries) t result
+            (FailsOnlyIfFull (length self.old.list.entries) self.old.list.capacity
+            (chain_limit P.Inx.most self.old.list) result (self.new ≡ self.old)) }
     {
         self.make_room()?;
         self.insert_within_capacity(at, t)

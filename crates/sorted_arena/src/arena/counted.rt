@@ -15,9 +15,7 @@ impl<K: Ord, V, P: BasePtr, A: Allocator> SortedArena<K, V, P, A> {
         ensures { IsCountedSearch (count self.now) result.1
             (FindsFirstEqual K.cmp P.Inx.most P.numbers self.now k.now result.0) }
     {
-        // For the prover: the arena is sound.
-        let _ = self.len();
-        self.pairs.find_key_counted(k)
+        self.pairs().find_key_counted(k)
     }
 
     /// [`lower_bound`](Self::lower_bound), and how many entries it visited, within the bound of [`find_counted`](Self::find_counted).
@@ -26,9 +24,7 @@ impl<K: Ord, V, P: BasePtr, A: Allocator> SortedArena<K, V, P, A> {
         ensures { IsCountedSearch (count self.now) result.1
             (FindsLowerBound K.cmp P.Inx.most P.numbers self.now k.now result.0) }
     {
-        // For the prover: the arena is sound.
-        let _ = self.len();
-        lower_bound_in(&self.pairs, k)
+        lower_bound_in(self.pairs(), k)
     }
 
     /// [`upper_bound`](Self::upper_bound), and how many entries it visited, within the bound of [`find_counted`](Self::find_counted).
@@ -37,8 +33,6 @@ impl<K: Ord, V, P: BasePtr, A: Allocator> SortedArena<K, V, P, A> {
         ensures { IsCountedSearch (count self.now) result.1
             (FindsUpperBound K.cmp P.Inx.most P.numbers self.now k.now result.0) }
     {
-        // For the prover: the arena is sound.
-        let _ = self.len();
-        upper_bound_in(&self.pairs, k)
+        upper_bound_in(self.pairs(), k)
     }
 }

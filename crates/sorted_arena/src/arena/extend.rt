@@ -4,7 +4,7 @@ ghost use Rattle.std.specs.Prelude.{◌≡◌, ◌≢◌, ◌≤◌, ◌+◌, �
 ghost use Rattle.std.specs.{Ordering.is_gt, Option.option_map_or, Prelude.false, List.AllAdjacentBelow};
 ghost use Rattle.std.specs.declared.cmp.Ordering.TheVariants.{Greater};
 ghost use Rattle.sorted_arena.specs.Change.{ExtendsSorted, ChangesCapacity};
-ghost use Rattle.sorted_arena.specs.Sorted.{count, item_of, last_item, AreInOrder, IsOutOfOrder, Keeps};
+ghost use Rattle.sorted_arena.specs.Sorted.{count, item_of, last_item, AreSorted, AreInOrder, IsOutOfOrder, Keeps};
 
 use super::SortedArena;
 use crate::error::SortedError;
@@ -80,10 +80,9 @@ impl<K: Ord + Drop, V: Drop, P: BasePtr, A: Allocator> SortedArena<K, V, P, A> {
 
     // Whether pairs are in order, and the first has no smaller key than the last entry.
     fn is_continued(&self, pairs: &[(K, V)]) -> bool
-        ensures { result ≡ true → AreInOrder K.cmp (map item_of self.now.entries ++ pairs.now) }
+        ensures { AreSorted K.cmp self.now.entries → result ≡ true
+            → AreInOrder K.cmp (map item_of self.now.entries ++ pairs.now) }
     {
-        // For the prover: the arena is sound.
-        let _ = self.len();
         match pairs.first() {
             Some(first) => !self.is_last_greater(&first.0) && are_sorted(pairs),
             None => true,

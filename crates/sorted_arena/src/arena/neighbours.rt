@@ -2,8 +2,7 @@
 
 ghost use Rattle.std.specs.Prelude.{◌≢◌};
 ghost use Rattle.std.specs.declared.cmp.Ordering.TheVariants.{Greater};
-ghost use Rattle.triple_ord.specs.Chain.{first_pointer, last_pointer};
-ghost use Rattle.sorted_arena.specs.Find.{FindsEnd, FindsNeighbour};
+ghost use Rattle.sorted_arena.specs.Find.{FindsLeast, FindsGreatest, FindsNeighbour};
 ghost use Rattle.sorted_arena.specs.Sorted.{next_of, prev_of};
 
 use super::SortedArena;
@@ -14,41 +13,35 @@ use triple_ord::BasePtr;
 impl<K: Ord, V, P: BasePtr, A: Allocator> SortedArena<K, V, P, A> {
     /// Returns the pointer of the first entry, which has the smallest key, in O(1).
     pub fn first(&self) -> Option<P>
-        ensures { FindsEnd K.cmp P.Inx.most P.numbers self.now (λ k l. K.cmp k l ≢ Greater)
-            (first_pointer self.now.entries) result }
+        ensures { FindsLeast K.cmp P.Inx.most P.numbers self.now result }
     {
-        // For the prover: the arena is sound.
-        let _ = self.len();
-        self.pairs.first()
+        self.pairs().first()
     }
 
     /// Returns the pointer of the last entry, which has the greatest key, in O(1).
     pub fn last(&self) -> Option<P>
-        ensures { FindsEnd K.cmp P.Inx.most P.numbers self.now (λ k l. K.cmp l k ≢ Greater)
-            (last_pointer self.now.entries) result }
+        ensures { FindsGreatest K.cmp P.Inx.most P.numbers self.now result }
     {
-        // For the prover: the arena is sound.
-        let _ = self.len();
-        self.pairs.last()
+        self.pairs().last()
     }
 
     /// Returns the pointer of the successor of the entry at `p`, in O(1). `None` if it is the last one, or `p` is stale.
     ///
     /// The key of the successor is at least that of the entry.
     pub fn next(&self, p: P) -> Option<P>
-        ensures { FindsNeighbour K.cmp P.Inx.most P.numbers self.now (λ k l. K.cmp k l ≢ Greater)
-            (next_of self.now.entries (P.numbers p)) result (P.numbers p) }
+        ensures { FindsNeighbour K.cmp P.Inx.most P.numbers self.now result
+            (λ k l. K.cmp k l ≢ Greater) (next_of self.now.entries (P.numbers p)) (P.numbers p) }
     {
-        next_in(&self.pairs, p)
+        next_in(self.pairs(), p)
     }
 
     /// Returns the pointer of the predecessor of the entry at `p`, in O(1). `None` if it is the first one, or `p` is stale.
     ///
     /// The key of the predecessor is at most that of the entry.
     pub fn prev(&self, p: P) -> Option<P>
-        ensures { FindsNeighbour K.cmp P.Inx.most P.numbers self.now (λ k l. K.cmp l k ≢ Greater)
-            (prev_of self.now.entries (P.numbers p)) result (P.numbers p) }
+        ensures { FindsNeighbour K.cmp P.Inx.most P.numbers self.now result
+            (λ k l. K.cmp l k ≢ Greater) (prev_of self.now.entries (P.numbers p)) (P.numbers p) }
     {
-        prev_in(&self.pairs, p)
+        prev_in(self.pairs(), p)
     }
 }

@@ -25,13 +25,10 @@ impl<K: Ord, V, P: BasePtr, A: Allocator> SortedArena<K, V, P, A> {
         ensures removes { RemovesEntry K.cmp P.Inx.most self.old
             (without P.Gen.greatest self.old (P.numbers p)) result self.new }
     {
-        // For the prover: the arena is sound.
-        let _ = self.len();
-        let stays_compact = self.is_compact && is_last_in(&self.pairs, p);
+        let pairs = self.pairs();
+        let stays_compact = self.is_compact && is_last_in(pairs, p);
         let pair = self.pairs.remove(p).allow()?;
         self.is_compact = stays_compact;
-        // For the prover: the arena is still sound.
-        let _ = self.len();
         Some(pair.into_k_v())
     }
 

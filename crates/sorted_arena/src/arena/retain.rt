@@ -1,12 +1,11 @@
 //! Entries that are kept by a test.
 
-ghost use Rattle.std.specs.Prelude.{◌≡◌, ◌≤◌, Some, IsSome};
+ghost use Rattle.std.specs.Prelude.{◌≡◌, ◌≤◌, Some};
 ghost use Rattle.std.specs.Option.{option_map};
 ghost use Rattle.std.specs.List.Retain.{IsFiltered};
-ghost use Rattle.triple_ord.specs.Chain.{Entry};
 ghost use Rattle.sorted_arena.specs.Answer.{AnswersFor};
 ghost use Rattle.sorted_arena.specs.Taking.{IsCutAt, AsksFor};
-ghost use Rattle.sorted_arena.specs.Sorted.{pair_of, count, with_rest, IsSound};
+ghost use Rattle.sorted_arena.specs.Sorted.{count, with_rest, IsSound};
 
 use super::SortedArena;
 use std::alloc::Allocator;
@@ -39,23 +38,12 @@ impl<K: Ord + Drop, V: Drop, P: BasePtr, A: Allocator> SortedArena<K, V, P, A> {
         ensures still_callable { F.IsAlwaysCallable f.new }
         ensures sound { IsSound K.cmp P.Inx.most self.new }
     {
-        // For the prover: the arena is sound.
-        let _ = self.len();
-        if self.is_kept(p, f) {
-            return self.next(p);
-        }
-        self.take(Some(p)).1
-    }
-
-    // What the test answers for the entry at `p`.
-    fn is_kept<F: FnMut(&K, &V) -> bool>(&self, p: P, f: &mut F) -> bool
-        requires named { IsSome (pair_of self.now (P.numbers p)) }
-        requires callable { F.IsAlwaysCallable f.old }
-        ensures answers { (e : Entry (K × V)) → pair_of self.now (P.numbers p) ≡ Some e.item
-            → AnswersFor F.FnMut f.old e result f.new }
-        ensures still_callable { F.IsAlwaysCallable f.new }
-    {
+        let next = self.next(p);
         let (k, v) = self.get(p).unwrap();
-        f(k, v)
+        if f(k, v) {
+            return next;
+        }
+        let _ = self.remove(p);
+        next
     }
 }

@@ -1,10 +1,10 @@
 //! Draining an arena in list order.
-ghost use Rattle.std.specs.Prelude.{◌≡◌, Some, IfSome, length};
-ghost use Rattle.std.specs.Iterator.{item_count, UpTo, YieldsFirstBy};
-ghost use Rattle.std.specs.Iterator.SizeHint.{IsWithinCount};
+ghost use Rattle.std.specs.Prelude.{◌≡◌};
+ghost use Rattle.std.specs.Iterator.{item_count, YieldsFirstBy};
 ghost use Rattle.ord_tree.specs.Chain.{cleared};
 ghost use Rattle.ord_tree.specs.Shape.{missing};
 ghost use Rattle.triple_ord.specs.OrderedDrain.{ordered_drain_arena, ordered_drain_lender, ordered_drain_rest, OrderedDrainSteps};
+ghost use Rattle.triple_ord.specs.Walk.{IsExactHint};
 
 use super::SimpleOrdArena;
 use arena_base::{BasePtr, InvalidationOption};
@@ -106,9 +106,7 @@ impl<P: BasePtr, T: Drop, A: Allocator> Iterator for CapacityDrain<P, T, A> {
     }
 
     fn size_hint(&self) -> (usize, Option<usize>)
-        ensures exact { result ≡ (length self.now, Some (length self.now)) }
-        ensures lower { IsWithinCount result.0 (item_count (λ left. left) self.now) }
-        ensures upper { IfSome result.1 (UpTo (item_count (λ left. left) self.now)) }
+        ensures { IsExactHint self.now result }
     {
         let left = self.arena.len();
         (left, Some(left))

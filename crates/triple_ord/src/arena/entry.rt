@@ -122,11 +122,7 @@ impl<P: BasePtr, T: SimpleOrdItem + Drop, A: Allocator> SimpleOrdArena<P, T, A> 
         ensures request { RequestsEntry P.numbers T.key_of T.Key.cmp P.Inx.number Reallocating P.Inx.most
             (kind_now kind.entry) self.old self.entry.ghost_name result }
     {
-        let prepared = self.prepare(Growth::Reallocating, kind)?;
-        Ok(SimpleOrdArenaInsertEntry {
-            arena: self,
-            prepared,
-        })
+        self.entry_insert_by_growth(Growth::Reallocating, kind)
     }
 
     /// The same as `entry_insert_reallocating`.
@@ -158,5 +154,29 @@ impl<P: BasePtr, T: SimpleOrdItem + Drop, A: Allocator> SimpleOrdArena<P, T, A> 
             (kind_now kind.entry) self.old self.entry.ghost_name result }
     {
         self.entry_insert_reallocating(kind)
+    }
+
+    /// Finds the place of an insertion, which stays within the capacity or grows the arena, as `growth` says.
+    ///
+    /// This is `entry_insert_within_capacity` or `entry_insert_reallocating`, with their errors, for a caller that has the choice as a
+    /// value.
+    #[inline(always)]
+    pub fn entry_insert_by_growth(
+        &mut self,
+        growth: Growth,
+        kind: OrdInsertKind<P, &T::Key>,
+    ) -> Result<SimpleOrdArenaInsertEntry<'_, P, T, A>, OrdInsertionError>
+        ensures* unchanged_at_err { sem 𝓛 (rests_if_refused P.row T.row A.row P.Inx.row P.Gen.row
+            P.BasePtr.own P.PartialEq P.Inx.BasePtrInx.own P.Inx.PartialEq
+            P.Gen.BasePtrGen.own P.Gen.PartialEq A.Allocator
+            self.entry result) }
+        ensures request { RequestsEntry P.numbers T.key_of T.Key.cmp P.Inx.number growth P.Inx.most
+            (kind_now kind.entry) self.old self.entry.ghost_name result }
+    {
+        let prepared = self.prepare(growth, kind)?;
+        Ok(SimpleOrdArenaInsertEntry {
+            arena: self,
+            prepared,
+        })
     }
 }

@@ -1,7 +1,7 @@
 //! Iterating over an arena in list order.
-ghost use Rattle.std.specs.Prelude.{◌≡◌, Some, IfSome, length};
-ghost use Rattle.std.specs.Iterator.{YieldsFirstBy, UpTo, item_count};
-ghost use Rattle.std.specs.Iterator.SizeHint.{IsWithinCount};
+ghost use Rattle.std.specs.Prelude.{◌≡◌};
+ghost use Rattle.std.specs.Iterator.{YieldsFirstBy, item_count};
+ghost use Rattle.triple_ord.specs.Walk.{IsExactHint};
 
 use super::SimpleOrdArena;
 use arena_base::BasePtr;
@@ -75,9 +75,7 @@ impl<'a, P: BasePtr, T, A: Allocator> Iterator for Iter<'a, P, T, A> {
     }
 
     fn size_hint(&self) -> (usize, Option<usize>)
-        ensures exact { result ≡ (length self.now, Some (length self.now)) }
-        ensures lower { IsWithinCount result.0 (item_count (λ left. left) self.now) }
-        ensures upper { IfSome result.1 (UpTo (item_count (λ left. left) self.now)) }
+        ensures { IsExactHint self.now result }
     {
         (self.left, Some(self.left))
     }

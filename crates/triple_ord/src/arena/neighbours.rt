@@ -59,6 +59,6 @@ impl<P: BasePtr, T, A: Allocator> SimpleOrdArena<P, T, A> {
             (λ e. IsNodeIn self.now.shape (P.Inx.number p) e.1.now.item.p_back
             e.1.now.item.p_tree0 e.1.now.item.p_tree1 e.1.now.item.rank) }
     {
-        self.tree.chain().arena().get_inx(p)
+        self.tree.get_inx_node(p)
     }
 }

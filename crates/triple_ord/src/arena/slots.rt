@@ -1,6 +1,6 @@
 //! Walking through the entries in index order.
-ghost use Rattle.std.specs.Prelude.{◌≡◌, ◌↔◌, true, false, if◌then◌else◌, IfSome, IsNone};
-ghost use Rattle.ord_tree.specs.ArenaWalk.{pointers, rising_from, falling_from, rising_walk, falling_walk, walk_rest, HasEnded};
+ghost use Rattle.std.specs.Prelude.{◌≡◌, ◌↔◌, IfSome, IsNone};
+ghost use Rattle.ord_tree.specs.ArenaWalk.{GoesFrom, GoesOverAll, HasEnded};
 ghost use Rattle.ord_tree.specs.Chain.{IsFirstIndex, IsLastIndex};
 ghost use Rattle.triple_ord.specs.Arena.{count};
 ghost use Rattle.triple_ord.specs.Content.{content_of};
@@ -33,22 +33,16 @@ impl<P: BasePtr, T, A: Allocator> SimpleOrdArena<P, T, A> {
 
     /// Returns a walk over all pointers by rising index, whatever the list order. All steps together take O(capacity).
     pub fn advancer(&self) -> PtrAdvancer<P>
-        ensures begins { result ≡ rising_walk 1 }
-        ensures rest { walk_rest result (content_of self.now) ≡ pointers (content_of self.now) }
+        ensures { GoesOverAll result (content_of self.now) }
     {
-        self.tree.chain().arena().advancer()
+        PtrAdvancer::rising()
     }
 
     /// Returns a walk over the pointers from an index on, which comes first: up, or down if `rev` is true.
     pub fn advancer_inx(&self, i: P::Inx, rev: bool) -> PtrAdvancer<P>
-        ensures begins { result
-            ≡ (if rev then falling_walk (P.Inx.number i) else rising_walk (P.Inx.number i)) }
-        ensures rising { rev ≡ false → walk_rest result (content_of self.now)
-            ≡ rising_from (content_of self.now) (P.Inx.number i) }
-        ensures falling { rev ≡ true → walk_rest result (content_of self.now)
-            ≡ falling_from (content_of self.now) (P.Inx.number i) }
+        ensures { GoesFrom result (content_of self.now) (P.Inx.number i) rev }
     {
-        self.tree.chain().arena().advancer_inx(i, rev)
+        PtrAdvancer::from_inx(i, rev)
     }
 }
 
@@ -65,7 +59,7 @@ impl<P: BasePtr, T, A: Allocator> Advancer<SimpleOrdArena<P, T, A>> for PtrAdvan
     fn advance(&mut self, arena: &SimpleOrdArena<P, T, A>) -> Option<P> {
         // For the prover: the list and the slots are sound.
         let _ = arena.len();
-        let nodes = arena.tree.chain().arena();
+        let nodes = arena.tree.arena();
         let _ = nodes.capacity();
         <PtrAdvancer<P> as Advancer<Nodes<P, T, A>>>::advance(self, nodes)
     }

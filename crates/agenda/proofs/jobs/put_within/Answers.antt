@@ -6,12 +6,12 @@ use Rattle.triple_ord.proofs.CallerLemmas.{entry-inserts-new}
 use Rattle.agenda.specs.{Layout.deadline_of, Agenda.most_entries}
 use Rattle.agenda.proofs.jobs.put_within.Goals as goal
 
-pub returns-clause-inserted : goal.returns-clause-inserted
-returns-clause-inserted g c =
+pub returns : goal.returns
+returns g c =
     let item : ℕ × g.row.J.Denot = (c.args.deadline, c.args.job) in
     let shown = c.in-Ok.entry.prepared.shown in
     let named : c.any-p.result ≡ pointer_of_kind shown = c.any-p.ensures ∙ ap pointer_of_kind c.ptr.ensures in
     let done = entry-inserts-new deadline_of nat_cmp (λ (p : ℕ × ℕ). p) (λ (i : ℕ). i) Within most_entries _ c.args.jobs.now c.in-Ok.entry.arena.now c.insert.new.self.0
-    c.len.ensures.sound.distinct shown _ _ c.new.result c.insert.result c.in-Ok.ensures.request.place c.args.deadline c.kind_behind-kind.ensures c.insert.ensures.inserts in
+    c.kind_behind-kind.ensures.sound.distinct shown _ _ c.new.result c.insert.result c.in-Ok.ensures.request.place c.args.deadline c.kind_behind-kind.ensures.aim c.insert.ensures.inserts in
     let told : InsertsNew deadline_of nat_cmp most_entries Within (behind_key c.args.deadline) c.args.jobs.now item c.any-p.result c.insert.new.self.0 = rw (named, ← c.new.ensures) done in
-    subst (λ u. InsertsNew deadline_of nat_cmp most_entries Within (behind_key c.args.deadline) c.args.jobs.now item c.any-p.result u) (search rules) told
+    record { sound = c.kind_behind-kind.ensures.sound; inserted = subst (λ u. InsertsNew deadline_of nat_cmp most_entries Within (behind_key c.args.deadline) c.args.jobs.now item c.any-p.result u) (search rules) told }

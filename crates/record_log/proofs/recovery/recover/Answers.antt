@@ -1,4 +1,4 @@
-use Rattle.std.proofs.Common.{◌≡◌, IsTrue, inl, inr, ⊎_elim, List, ℕ, subst, arith, rules}
+use Rattle.std.proofs.Common.{◌≡◌, IsTrue, inl, inr, ⊎_elim, List, [], ◌∷◌, ◌++◌, ℕ, ap, ◌∙◌, length, length-take, subst, arith, rules}
 use Rattle.std.proofs.lemmas.Grind.{common_steps}
 use Rattle.std.proofs.lemmas.Result.{err_from_is_err_and}
 use Rattle.record_log.specs.Device.{LeavesOnly}
@@ -23,18 +23,19 @@ module _ {D : Type 0} {moment : D → ℕ} {left_since : D → ℕ → List ℕ 
   three_steps before holds is seal =
       then before seal (λ c partly records held. subst (λ rs. Holds c rs) (holds_one file _ records holds held) (sealed_holds _ _ c _ is partly))
 
-pub returns-in_err-found-clause-step : goal.returns-in_err-found-clause-step
-returns-in_err-found-clause-step g c = λ true. record {
-  durable = search rules;
-  any_moment = two_steps _ (c.read_durable.ensures.seen true) (c.read_durable.ensures.step true).any_moment (c.lay_out.ensures.step true).any_moment;
-  cause = grind (arith, common_steps);
+pub returns-in_err-found-clause-reads : goal.returns-in_err-found-clause-reads
+returns-in_err-found-clause-reads g c = record {
+  ok = search rules;
+  step = λ true. record {
+    durable = search rules;
+    any_moment = two_steps _ (c.read_durable.ensures.seen true) (c.read_durable.ensures.step true).any_moment (c.lay_out.ensures.reads.step true).any_moment;
+    cause = grind (arith, common_steps);
+  };
+  refused = λ true.
+      let p = err_from_is_err_and c.from_residual-in_err-found.result c.from_residual-in_err-found.ensures.1 in
+      let h = c.in_err-found.ensures in
+      rw (p.1, p.2) (subst (λ (f : List ℕ). IsRefused f c.in_err-found.field-0.0) (c.read_durable.ensures.seen true) (h.reads.refused true));
 }
-
-pub returns-in_err-found-clause-refused : goal.returns-in_err-found-clause-refused
-returns-in_err-found-clause-refused g c = λ true.
-    let p = err_from_is_err_and c.from_residual-in_err-found.result c.from_residual-in_err-found.ensures.1 in
-    let h = c.in_err-found.ensures in
-    rw (p.1, p.2) (subst (λ (f : List ℕ). IsRefused f c.in_err-found.field-0.0) (c.read_durable.ensures.seen true) (h.refused true))
 
 pub returns-in_err-found-clause-unchanged : goal.returns-in_err-found-clause-unchanged
 returns-in_err-found-clause-unchanged g c = λ true.
@@ -46,21 +47,38 @@ returns-in_err-found-clause-unchanged g c = λ true.
 moments : (g : Over) (c : After-seal g) → IsTrue g.D.Device.is_modelled
     → LeavesOnly g.D.Device.moment g.D.Device.left_since c.args.device.now c.seal.new.device (HoldsTheSame (g.D.Device.seen c.args.device.now))
 moments g c true =
-    let ok = c.in_ok-found.ensures.ok true in
+    let ok = c.in_ok-found.ensures.reads.ok true in
     let same = c.read_durable.ensures.seen true in
-    three_steps _ (two_steps _ same (c.read_durable.ensures.step true).any_moment (c.lay_out.ensures.step true).any_moment)
+    three_steps _ (two_steps _ same (c.read_durable.ensures.step true).any_moment (c.lay_out.ensures.reads.step true).any_moment)
     (subst (λ (f : List ℕ). Holds f (contents c.in_ok-found.found.records.items)) same ok.held) ok.laid (c.seal.ensures.step true).any_moment
 
-pub returns-in_err-seal-clause-step : goal.returns-in_err-seal-clause-step
-returns-in_err-seal-clause-step g c = λ true. record {
-  durable = search rules;
-  any_moment = moments g (goal.at.returns-in_err-seal-clause-step g c).After-seal true;
-  cause = grind (arith, common_steps);
+pub returns-in_err-seal-clause-reads : goal.returns-in_err-seal-clause-reads
+returns-in_err-seal-clause-reads g c = record {
+  ok = search rules;
+  step = λ true. record {
+    durable = search rules;
+    any_moment = moments g (goal.at.returns-in_err-seal-clause-reads g c).After-seal true;
+    cause = grind (arith, common_steps);
+  };
+  refused = search rules;
 }
 
-pub returns-clause-step : goal.returns-clause-step
-returns-clause-step g c = λ true. record {
-  durable = search rules;
-  any_moment = moments g (goal.at.returns-clause-step g c).After-seal true;
-  cause = grind (arith, common_steps);
+pub returns-clause-reads : goal.returns-clause-reads
+returns-clause-reads g c = record {
+  ok = λ true.
+      let found = c.in_ok-found.ensures.reads.ok true in
+      record {
+        held = subst (λ (f : List ℕ). Holds f (contents c.in_ok-found.found.records.items)) (c.read_durable.ensures.seen true) found.held;
+        rest = record {
+          split = c.in_ok-seal.ensures.sealed true ∙ ap (λ (l : List ℕ). l ++ 0 ∷ []) found.laid.split;
+          end = omega (arith, found.laid.within, ap length found.laid.split, length-take {A = ℕ});
+          fit = found.laid.fit;
+        };
+      };
+  step = λ true. record {
+    durable = search rules;
+    any_moment = moments g (goal.at.returns-clause-reads g c).After-seal true;
+    cause = grind (arith, common_steps);
+  };
+  refused = search rules;
 }

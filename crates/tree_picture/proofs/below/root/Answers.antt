@@ -9,7 +9,7 @@ loop-p-preserved g c =
     let so_far = c.loop-p.invariant in (
       so_far.0 ++ record { index = (g.P.BasePtr.numbers c.in-Some.p).0; generation = (g.P.BasePtr.numbers c.in-Some.p).1; item = c.in-Some.field-0-1.now } ∷ [],
       cut_more _ _ _ _ _ so_far.1 c.in-Some.ensures.steps,
-      none-more _ so_far.0 _ (rw c.inx.ensures at (c.is_root.ensures.no c.if-is_root.false)) so_far.2,
+      none-more _ so_far.0 _ (rw c.inx.ensures at (c.is_root.ensures.no c.len.ensures.tree c.len.ensures.sound.distinct c.if-is_root.false)) so_far.2,
     )
 
 pub returns : goal.returns

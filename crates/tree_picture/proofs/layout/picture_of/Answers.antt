@@ -19,3 +19,7 @@ invariant_of-result g c =
 pub returns-clause-levels : goal.returns-clause-levels
 returns-clause-levels g c =
     c.extent_below-levels.ensures.levels ∙ ap height (ap (part_below c.args.arena.now.shape) c.root.ensures ∙ whole-found c.args.arena.now.shape)
+
+pub extent_below-levels-requires : goal.extent_below-levels-requires
+extent_below-levels-requires g c =
+    rw (c.root.ensures, whole-found c.args.arena.now.shape) (omega (arith, size-listed c.args.arena.now c.len.ensures.tree, c.if-len-gt-MOST_ENTRIES.false, c.len.ensures.value))

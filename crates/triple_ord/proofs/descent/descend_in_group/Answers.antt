@@ -2,38 +2,36 @@ use Rattle.triple_ord.proofs.Descending.{step-occupied, step-few, by_key-step, b
 use Rattle.triple_ord.proofs.Words.{ℕ, arith, refl, ap, ◌∙◌, option_map}
 use Rattle.triple_ord.proofs.descent.descend_in_group.Goals as goal
 
-pub compare-p-requires-clause-occupied : goal.compare-p-requires-clause-occupied
-compare-p-requires-clause-occupied g c =
+pub compare-p-requires : goal.compare-p-requires
+compare-p-requires g c =
     let d = rw c.in-Some.is at (c.loop-at.invariant.descended c.requires.descended.0 c.requires.descended.1) in
-    rw c.loop-at.invariant.tree (step-occupied c.args.probe.now.tree.now c.requires.distinct _ _ d.descending)
-
-pub compare-p-requires-clause-room : goal.compare-p-requires-clause-room
-compare-p-requires-clause-room g c =
-    let d = rw c.in-Some.is at (c.loop-at.invariant.descended c.requires.descended.0 c.requires.descended.1) in
-    omega (arith, step-few c.args.probe.now.tree.now c.requires.distinct _ _ d.descending, d.count, c.requires.descended.1.count, c.requires.few, c.requires.room)
+    record {
+      occupied = rw c.loop-at.invariant.tree (step-occupied c.args.probe.now.tree.now c.args.probe.now.distinct _ _ d.descending);
+      room = omega (arith, step-few c.args.probe.now.tree.now c.args.probe.now.distinct _ _ d.descending, d.count, c.requires.descended.1.count, c.requires.few, c.requires.room);
+    }
 
 pub loop-at-smaller : goal.loop-at-smaller
 loop-at-smaller g c =
     let d = rw c.in-Some.is at (c.loop-at.invariant.descended c.requires.descended.0 c.requires.descended.1) in
-    omega (arith, step-few c.args.probe.now.tree.now c.requires.distinct _ _ d.descending, d.count, c.requires.descended.1.count, c.compare-p.ensures.counted)
+    omega (arith, step-few c.args.probe.now.tree.now c.args.probe.now.distinct _ _ d.descending, d.count, c.requires.descended.1.count, c.compare-p.ensures.counted)
 
 pub loop-at-preserved : goal.loop-at-preserved
 loop-at-preserved g c =
-    let seen = rw c.loop-at.invariant.tree at c.compare-p.ensures.compared in
+    let seen = rw c.loop-at.invariant.tree at c.compare-p.ensures.shown in
     let met = ap (option_map g.P.BasePtr.numbers) c.met_behind-met.ensures ∙ met_next-map {Y = ℕ × ℕ} g.P.BasePtr.numbers c.loop-at.met c.compare-p.result.0 c.compare-p.result.1 in
     record {
       tree = c.compare-p.ensures.tree ∙ c.loop-at.invariant.tree;
       more = omega (arith, c.loop-at.invariant.more, c.compare-p.ensures.counted);
       descended = λ before start.
           let d = rw c.in-Some.is at (c.loop-at.invariant.descended before start) in
-          rw (c.compare-p.ensures.counted, met) (by_key-step _ _ c.args.probe.now.tree.now c.requires.distinct _ _ _ _ _ _ d _ _ _ seen);
+          rw (c.compare-p.ensures.counted, met) (by_key-step _ _ c.args.probe.now.tree.now c.args.probe.now.distinct _ _ _ _ _ _ d _ _ _ seen);
     }
 
 pub returns-in-Some-met-clause-ended : goal.returns-in-Some-met-clause-ended
 returns-in-Some-met-clause-ended g c = λ before start.
     let d = rw c.in_default.is at (c.loop-at.invariant.descended before start) in
     record {
-      similar = by_key-equal _ _ c.args.probe.now.tree.now c.requires.distinct _ _ _ _ _ d _ (rw c.in-Some-met.is refl);
+      similar = by_key-equal _ _ c.args.probe.now.tree.now c.args.probe.now.distinct _ _ _ _ _ d _ (rw c.in-Some-met.is refl);
       few = omega (arith, d.descending.few, d.count);
     }
 
@@ -41,6 +39,6 @@ pub returns-in-None-clause-ended : goal.returns-in-None-clause-ended
 returns-in-None-clause-ended g c = λ before start.
     let d = rw c.in_default.is at (c.loop-at.invariant.descended before start) in
     record {
-      similar = by_key-other _ _ c.args.probe.now.tree.now c.requires.distinct _ _ _ _ _ d (rw c.in-None.is refl);
+      similar = by_key-other _ _ c.args.probe.now.tree.now c.args.probe.now.distinct _ _ _ _ _ d (rw c.in-None.is refl);
       few = omega (arith, d.descending.few, d.count);
     }

@@ -17,32 +17,32 @@ pub invariant_of-self-2 : goal.invariant_of-self-2
 invariant_of-self-2 g c =
     let some = sym c.allow.ensures ∙ c.in_ok-moved.was in
     arena-moved c.self.inside.jobs c.remove.new.self c.put_within-pointer.new.jobs c.ticket.inside.pointer c.put_within-pointer.result c.args.deadline c.in_ok-moved.moved
-    c.len.ensures.sound c.self.invariant (sym c.remove.ensures.removal.value ∙ some) (rw some at c.remove.ensures.removal.removed) c.put_within-pointer.ensures.sound
-    (rw c.into_k_v-job.ensures at c.put_within-pointer.ensures.inserted)
+    c.len.ensures.sound c.self.invariant (sym c.remove.ensures.removal.value ∙ some) (rw some at c.remove.ensures.removal.removed)
+    (rw c.into_k_v-job.ensures at c.put_within-pointer.ensures)
 
 pub returns-clause-moved : goal.returns-clause-moved
 returns-clause-moved g c =
     let some = sym c.allow.ensures ∙ c.in_ok-moved.was in
     rw (← c.self.view_is, ← c.ticket.view_is) (rescheduled c.self.inside.jobs c.remove.new.self c.put_within-pointer.new.jobs c.ticket.inside.pointer c.put_within-pointer.result c.args.deadline c.in_ok-moved.moved
-    c.len.ensures.sound c.self.invariant (sym c.remove.ensures.removal.value ∙ some) (rw some at c.remove.ensures.removal.removed) c.put_within-pointer.ensures.sound
-    (rw c.into_k_v-job.ensures at c.put_within-pointer.ensures.inserted))
+    c.len.ensures.sound c.self.invariant (sym c.remove.ensures.removal.value ∙ some) (rw some at c.remove.ensures.removal.removed)
+    (rw c.into_k_v-job.ensures at c.put_within-pointer.ensures))
 
 pub returns-clause-moves : goal.returns-clause-moves
 returns-clause-moves g c =
     let some = sym c.allow.ensures ∙ c.in_ok-moved.was in
     rw (← c.self.view_is, ← c.ticket.view_is) (moves-moved c.self.inside.jobs c.remove.new.self c.put_within-pointer.new.jobs c.ticket.inside.pointer c.put_within-pointer.result c.args.deadline c.in_ok-moved.moved
-    c.len.ensures.sound c.self.invariant (sym c.remove.ensures.removal.value ∙ some) (rw some at c.remove.ensures.removal.removed) c.put_within-pointer.ensures.sound
-    (rw c.into_k_v-job.ensures at c.put_within-pointer.ensures.inserted))
+    c.len.ensures.sound c.self.invariant (sym c.remove.ensures.removal.value ∙ some) (rw some at c.remove.ensures.removal.removed)
+    (rw c.into_k_v-job.ensures at c.put_within-pointer.ensures))
 
 pub returns-clause-gives : goal.returns-clause-gives
 returns-clause-gives g c =
     let some = sym c.allow.ensures ∙ c.in_ok-moved.was in
     let removed = rw some at c.remove.ensures.removal.removed in
-    let inserted = rw c.into_k_v-job.ensures at c.put_within-pointer.ensures.inserted in
+    let puts = rw c.into_k_v-job.ensures at c.put_within-pointer.ensures in
     record {
       value = rw (← c.self.view_is, ← c.ticket.view_is) (sym (ap is_some (job_of-found _ c.len.ensures.sound.distinct _ ∙ sym c.remove.ensures.removal.value ∙ some)));
       step = rw (← c.self.view_is) (step-renews _ _ _ _ _ (rescheduled c.self.inside.jobs c.remove.new.self c.put_within-pointer.new.jobs c.ticket.inside.pointer c.put_within-pointer.result c.args.deadline c.in_ok-moved.moved
-          c.len.ensures.sound c.self.invariant (sym c.remove.ensures.removal.value ∙ some) removed c.put_within-pointer.ensures.sound inserted));
+          c.len.ensures.sound c.self.invariant (sym c.remove.ensures.removal.value ∙ some) removed puts));
       count = rw (← c.self.view_is) (count-moved c.self.inside.jobs c.remove.new.self c.put_within-pointer.new.jobs c.ticket.inside.pointer c.put_within-pointer.result c.args.deadline c.in_ok-moved.moved
-          c.len.ensures.sound c.self.invariant (sym c.remove.ensures.removal.value ∙ some) removed c.put_within-pointer.ensures.sound inserted);
+          c.len.ensures.sound c.self.invariant (sym c.remove.ensures.removal.value ∙ some) removed puts);
     }

@@ -10,11 +10,11 @@ use Rattle.agenda.proofs.agenda.Agenda.schedule.Goals.{In_ok-pointer}
 -- The job is on the agenda.
 put : (g : Over) (c : In_ok-pointer g) → Schedules (agenda_of c.self.inside.jobs) c.in_ok-pointer.pointer c.args.deadline c.args.job (agenda_of c.put.new.jobs)
 put g c =
-    schedules-inserted Reallocating c.self.inside.jobs c.put.new.jobs c.args.deadline c.args.job c.in_ok-pointer.pointer c.in_ok-pointer.ensures.ok c.put.ensures.sound c.self.invariant
+    schedules-inserted Reallocating c.self.inside.jobs c.put.new.jobs c.args.deadline c.args.job c.in_ok-pointer.pointer c.in_ok-pointer.ensures.ok c.self.invariant
 
 pub invariant_of-self-2 : goal.invariant_of-self-2
 invariant_of-self-2 g c =
-    arena-inserted Reallocating c.self.inside.jobs c.put.new.jobs c.args.deadline c.args.job c.in_ok-pointer.pointer c.in_ok-pointer.ensures.ok c.put.ensures.sound c.self.invariant
+    arena-inserted Reallocating c.self.inside.jobs c.put.new.jobs c.args.deadline c.args.job c.in_ok-pointer.pointer c.in_ok-pointer.ensures.ok c.self.invariant
 
 pub returns-clause-ok : goal.returns-clause-ok
 returns-clause-ok g c = rw (← c.self.view_is) (put g (goal.at.returns-clause-ok g c).In_ok-pointer)

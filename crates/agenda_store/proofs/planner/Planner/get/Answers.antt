@@ -14,14 +14,14 @@ returns-in_err-ticket c =
 
 pub returns-in_err-deadline : goal.returns-in_err-deadline
 returns-in_err-deadline c =
-    let ticket = c.in_ok-ticket.field-0.now in
-    let here = found c.args.self.now c.requires c.args.id ticket c.len.ensures.sound.distinct (sym c.in_ok-ticket.ensures.value) in
+    let ticket = c.in_ok-ticket.ticket in
+    let here = found c.args.self.now c.requires c.args.id ticket c.ticket_at.ensures.distinct (sym c.in_ok-ticket.ensures.value) in
     let e = c.in_err-deadline.ensures ∙ here.job in absurd (cc)
 
 pub returns : goal.returns
 returns c =
-    let ticket = c.in_ok-ticket.field-0.now in
-    let here = found c.args.self.now c.requires c.args.id ticket c.len.ensures.sound.distinct (sym c.in_ok-ticket.ensures.value) in
+    let ticket = c.in_ok-ticket.ticket in
+    let here = found c.args.self.now c.requires c.args.id ticket c.ticket_at.ensures.distinct (sym c.in_ok-ticket.ensures.value) in
     ap (λ (bytes : List ℕ). some_told (c.in_ok-deadline.deadline, bytes)) c.deref.ensures.value
     ∙ ap (λ o. option_map told_entry o) (c.in_ok-deadline.ensures ∙ here.job)
     ∙ sym (ap (λ (o : Option Job). option_map told o) here.at)

@@ -10,17 +10,17 @@ use Rattle.agenda_store.proofs.planner.Planner.move_to.Goals as goal
 pub returns-in-Some : goal.returns-in-Some
 returns-in-Some c =
     let old = c.args.self.now in
-    let t = c.in-Some.ticket.now in
+    let t = c.in-Some.ticket in
     let some = sym c.in-Some.ensures.value in
-    let here = found old c.requires c.args.id t c.len.ensures.sound.distinct some in
+    let here = found old c.requires c.args.id t c.ticket_at.ensures.distinct some in
     let yes : c.reschedule.result ≡ true = c.reschedule.ensures.gives.value ∙ ap is_some here.job in
     let moves = subst (λ (b : Bool). OnTrue b (MovesDeadline old.agenda t c.args.deadline c.reschedule.new.self)) yes c.reschedule.ensures.moved in
     record {
       value = yes ∙ sym (ap (λ (o : Option Job). is_some o) here.at);
       plan = record {
-        linked = relocated old c.requires c.args.id t c.len.ensures.sound.distinct some c.args.deadline c.reschedule.new.self moves;
+        linked = relocated old c.requires c.args.id t c.ticket_at.ensures.distinct some c.args.deadline c.reschedule.new.self moves;
         plan_is = ap (with_jobs old.next)
-            (move_is old c.requires c.args.id t c.len.ensures.sound.distinct some c.args.deadline c.reschedule.new.self moves);
+            (move_is old c.requires c.args.id t c.ticket_at.ensures.distinct some c.args.deadline c.reschedule.new.self moves);
       };
     }
 

@@ -1,8 +1,8 @@
-use Rattle.std.proofs.Common.{◌∙◌, sym, refl}
+use Rattle.std.proofs.Common.{◌∙◌, sym, refl, rules}
 use Rattle.agenda_store.specs.Change.{moves}
 use Rattle.agenda_store.specs.Plan.{moved}
+use Rattle.agenda_store.specs.Planner.{plan_of}
 use Rattle.agenda_store.specs.Replay.{Replays}
-use Rattle.agenda_store.specs.Store.{plan_in}
 use Rattle.agenda_store.proofs.Absent.{moved_none}
 use Rattle.agenda_store.proofs.Replays.{replaying}
 use Rattle.agenda_store.proofs.Sound.{succeeds, records_change, leaves_either}
@@ -12,26 +12,37 @@ use Rattle.agenda_store.proofs.store.Store.move_to.Goals.{After-append}
 
 -- The record is that of the change.
 replays : (g : Over) (c : After-append g)
-    → Replays c.deref.result.now (plan_in c.args.self.now) (moved c.args.id.0 c.args.deadline (plan_in c.args.self.now))
+    → Replays c.deref.result.now (plan_of c.self.inside.planner) (moved c.args.id.0 c.args.deadline (plan_of c.self.inside.planner))
 replays g c =
     let spelled = c.deref.ensures.value ∙ c.in_ok-record.ensures in
     let change = moves c.args.id.0 c.args.deadline in
-    replaying change c.deref.result.now (plan_in c.args.self.now) spelled (c.has.ensures.range, c.ranges.deadline.fits) tt
+    replaying change c.deref.result.now (plan_of c.self.inside.planner) spelled (c.has.ensures.range, c.ranges.deadline.fits) tt
 
-pub returns-then-not-has-clause-sound : goal.returns-then-not-has-clause-sound
-returns-then-not-has-clause-sound g c =
+pub returns-then-not-has-clause-change : goal.returns-then-not-has-clause-change
+returns-then-not-has-clause-change g c =
     let none = sym c.has.ensures.value ∙ c.if-not-has.true in
-    succeeds c.args.self.now _ _ _ c.if-not-self.false c.if-not-self.false c.requires (moved_none c.args.id.0 c.args.deadline (plan_in c.args.self.now) none)
+    rw (← c.self.view_is) (succeeds c.self.invariant c.if-not-self.false c.self.invariant c.if-not-self.false
+    (moved_none c.args.id.0 c.args.deadline (plan_of c.self.inside.planner) none) (search rules))
 
-pub returns-in_err-append-clause-any_moment : goal.returns-in_err-append-clause-any_moment
-returns-in_err-append-clause-any_moment g c =
-    leaves_either c.args.self.now _ _ _ c.requires (replays g (goal.at.returns-in_err-append-clause-any_moment g c).After-append) c.append.ensures.any_moment
+pub returns-in_err-append-clause-change : goal.returns-in_err-append-clause-change
+returns-in_err-append-clause-change g c =
+    let again = replays g (goal.at.returns-in_err-append-clause-change g c).After-append in
+    rw (← c.self.view_is) (record {
+      sound = search rules;
+      is_open = search rules;
+      closed = search rules;
+      plan_is = search rules;
+      err = search rules;
+      any_moment = leaves_either c.self.invariant c.if-not-self.false again c.append.ensures.any_moment;
+    })
 
-pub returns-clause-any_moment : goal.returns-clause-any_moment
-returns-clause-any_moment g c =
-    leaves_either c.args.self.now _ _ _ c.requires (replays g (goal.at.returns-clause-any_moment g c).After-append) c.append.ensures.any_moment
+pub invariant_of-self-2 : goal.invariant_of-self-2
+invariant_of-self-2 g c =
+    records_change c.self.invariant c.if-not-self.false (replays g (goal.at.invariant_of-self-2 g c).After-append) c.move_to-found.ensures.plan c.in_ok-append.ensures.acknowledged
 
-pub returns-clause-sound : goal.returns-clause-sound
-returns-clause-sound g c =
-    records_change c.args.self.now _ _ _ c.if-not-self.false refl c.deref.result.now c.requires
-    (replays g (goal.at.returns-clause-sound g c).After-append) c.in_ok-append.ensures.acknowledged c.move_to-found.ensures.plan
+pub returns-clause-change : goal.returns-clause-change
+returns-clause-change g c =
+    let again = replays g (goal.at.returns-clause-change g c).After-append in
+    let after = records_change c.self.invariant c.if-not-self.false again c.move_to-found.ensures.plan c.in_ok-append.ensures.acknowledged in
+    rw (← c.self.view_is) (succeeds c.self.invariant c.if-not-self.false after refl c.move_to-found.ensures.plan.plan_is
+    (leaves_either c.self.invariant c.if-not-self.false again c.append.ensures.any_moment))

@@ -1,7 +1,6 @@
 use Rattle.std.proofs.Common.{◌∙◌, sym, ap}
 use Rattle.agenda_store.specs.Plan.{Plan}
 use Rattle.agenda_store.specs.Requests.{answered}
-use Rattle.agenda_store.specs.Store.{plan_in}
 use Rattle.agenda_store.proofs.Runs.{goes_on, more}
 use Rattle.agenda_store.proofs.store.Store.run.Goals as goal
 
@@ -11,19 +10,19 @@ loop-request-preserved g c =
     let item = c.request-item.result in
     let requests = c.args.requests.now in
     let i = c.loop-request.request-index in
-    let old = c.args.self.now in
+    let plan = c.args.self.now.plan in
     let lt = c.loop-request-test.true in
     let done = c.in_ok-answer.ensures in
     record {
-      sound = done.sound.sound;
-      is_open = done.sound.is_open;
-      plan = done.sound.plan_is ∙ ap (λ (p : Plan). answered item p) before.plan ∙ sym (more requests i item (plan_in old) lt c.request-item.is);
-      moments = λ true. goes_on requests i item (plan_in old) (plan_in c.loop-request.self) lt c.request-item.is before.plan (before.moments true)
+      is_open = done.is_open;
+      sound = done.sound;
+      plan = done.plan_is ∙ ap (λ (p : Plan). answered item p) before.plan ∙ sym (more requests i item plan lt c.request-item.is);
+      moments = λ true. goes_on requests i item plan c.loop-request.self.plan lt c.request-item.is before.plan (before.moments true)
           (done.any_moment true before.is_open);
     }
 
 pub returns-in_err-answer-clause-any_moment : goal.returns-in_err-answer-clause-any_moment
 returns-in_err-answer-clause-any_moment g c = λ true.
     let before = c.loop-request.invariant in
-    goes_on c.args.requests.now c.loop-request.request-index c.request-item.result (plan_in c.args.self.now) (plan_in c.loop-request.self)
+    goes_on c.args.requests.now c.loop-request.request-index c.request-item.result c.args.self.now.plan c.loop-request.self.plan
     c.loop-request-test.true c.request-item.is before.plan (before.moments true) (c.answer.ensures.any_moment true before.is_open)

@@ -13,16 +13,16 @@ invariant_of-self g c =
       omega (arith, c.move_down.ensures.len, c.list_vacant.ensures.capacity, c.self.invariant.1),
     )
 
-pub returns-clause-restarts : goal.returns-clause-restarts
-returns-clause-restarts g c =
+pub returns : goal.returns
+returns g c =
+    let all = rw c.as_slice.ensures.value at c.list_vacant.ensures.items in
     let after = compressed-after g.P.BasePtr.numbers g.P.Gen.BasePtrGen g.P.Inx.BasePtrInx _ c.self.inside c.move_down.new.slots.items c.list_vacant.new.vacant.items
     c.args.map c.args.self.now _ (c.self.view_is ∙ c.restart-overflow.ensures.after) c.move_down.ensures.items in
-    record { after = after; overflow = c.restart-overflow.ensures.overflow }
-
-pub returns-clause-fresh : goal.returns-clause-fresh
-returns-clause-fresh g c =
-    let all = rw c.as_slice.ensures.value at c.list_vacant.ensures.items in
-    relisted-fresh g.P.Gen.BasePtrGen g.P.Inx.BasePtrInx c.move_down.new.slots.items _ c.self.inside.generation c.self.inside.maximum all
+    record {
+      after = after;
+      overflow = c.restart-overflow.ensures.overflow;
+      fresh = relisted-fresh g.P.Gen.BasePtrGen g.P.Inx.BasePtrInx c.move_down.new.slots.items _ c.self.inside.generation c.self.inside.maximum all;
+    }
 
 pub list_vacant-requires-clause-fresh : goal.list_vacant-requires-clause-fresh
 list_vacant-requires-clause-fresh g c = λ k past.

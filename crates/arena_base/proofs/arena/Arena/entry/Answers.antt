@@ -6,7 +6,7 @@ unreachable-requires g c =
     let was = read g.P.Gen.BasePtrGen g.P.Inx.BasePtrInx c.self.inside _ c.self.view_is _ _ c.position_of_entry.ensures _ c.index.ensures in
     false≢true (ap is_some (sym (was ∙ ap (entry_in g.P.Gen.BasePtrGen.number) c.in-Vacant.is)) ∙ c.requires)
 
-pub returns : goal.returns
-returns g c =
+pub returns-clause-value : goal.returns-clause-value
+returns-clause-value g c =
     read g.P.Gen.BasePtrGen g.P.Inx.BasePtrInx c.self.inside _ c.self.view_is _ _ c.position_of_entry.ensures _ c.index.ensures
     ∙ ap (entry_in g.P.Gen.BasePtrGen.number) c.in-Occupied.is

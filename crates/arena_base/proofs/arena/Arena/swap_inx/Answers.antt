@@ -58,7 +58,7 @@ invariant_of-self g c = (
   omega (arith, c.self.invariant.1, c.swap.ensures.len),
 )
 
-pub returns : goal.returns
-returns g c =
-    swapped-view g.P.Gen.BasePtrGen g.P.Inx.BasePtrInx c.self.inside (exchange g (goal.at.returns g c).After-renew-2) _ c.self.view_is _ _
+pub returns-clause-after : goal.returns-clause-after
+returns-clause-after g c =
+    swapped-view g.P.Gen.BasePtrGen g.P.Inx.BasePtrInx c.self.inside (exchange g (goal.at.returns-clause-after g c).After-renew-2) _ c.self.view_is _ _
     c.position_of_entry-first.ensures.number c.position_of_entry-second.ensures.number

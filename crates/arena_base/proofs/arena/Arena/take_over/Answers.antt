@@ -12,7 +12,7 @@ invariant_of-self g c =
     let padded = rw (copies.ok.0, c.len-capacity.ensures, s.slots.ok.0) at c.fill_up.ensures.items in (
       clone-sound g.P.BasePtr.numbers g.P.Gen.BasePtrGen g.P.Inx.BasePtrInx g.M.CloneEntry.step s copies.items next.items _ _ all c.args.self.now c.self.view_is
           _ named room within padded c.args.map.now granted.new.map
-          c.self.invariant.0 c.capacity.ensures.lawful granted.result granted.ensures.ok granted.ensures.none_left,
+          c.self.invariant.0 c.requires.source granted.result granted.ensures.made.ok granted.ensures.none_left,
       omega (arith, next.ok.0, s.slots.ok.0, length-padded _ copies.items next.items Vacant padded within, c.self.invariant.1),
     )
 
@@ -24,15 +24,17 @@ returns g c =
     let padded = rw (copies.ok.0, c.len-capacity.ensures, s.slots.ok.0) at c.fill_up.ensures.items in
     let within : length copies.items ≤ length s.slots.items = omega (arith, copies.ok.0, capacity-is g.P.Gen.BasePtrGen g.P.Inx.BasePtrInx s _ c.self.view_is) in
     record {
-      callable = granted.ensures.callable;
-      ok =
-          on_ok_weaker granted.result (clone-whole g.P.BasePtr.numbers g.P.Gen.BasePtrGen g.P.Inx.BasePtrInx g.M.CloneEntry.step s copies.items next
-          _ _ all c.args.self.now c.self.view_is _ named room within padded c.args.map.now granted.new.map) granted.ensures.ok;
+      made = record {
+        callable = granted.ensures.made.callable;
+        ok =
+            on_ok_weaker granted.result (clone-whole g.P.BasePtr.numbers g.P.Gen.BasePtrGen g.P.Inx.BasePtrInx g.M.CloneEntry.step s copies.items next
+            _ _ all c.args.self.now c.self.view_is _ named room within padded c.args.map.now granted.new.map) granted.ensures.made.ok;
+        refused =
+            clone-refused g.P.BasePtr.numbers g.P.Gen.BasePtrGen g.P.Inx.BasePtrInx g.M.CloneEntry.step s copies.items next _ _ all c.args.self.now c.self.view_is
+            _ named room within padded c.args.map.now granted.new.map granted.result granted.ensures.made.refused granted.ensures.none_left;
+      };
       fresh = relisted-fresh g.P.Gen.BasePtrGen g.P.Inx.BasePtrInx next _ c.unwrap-self-inside.result s.maximum all;
-      refused =
-          clone-refused g.P.BasePtr.numbers g.P.Gen.BasePtrGen g.P.Inx.BasePtrInx g.M.CloneEntry.step s copies.items next _ _ all c.args.self.now c.self.view_is
-          _ named room within padded c.args.map.now granted.new.map granted.result granted.ensures.refused granted.ensures.none_left;
     }
 
-pub clone_slots-granted-requires-clause-room : goal.clone_slots-granted-requires-clause-room
-clone_slots-granted-requires-clause-room g c = grind (arith, common_steps)
+pub clone_slots-granted-requires-clause-can : goal.clone_slots-granted-requires-clause-can
+clone_slots-granted-requires-clause-can g c = record { callable = c.requires.callable; source = c.requires.source; greatest = c.requires.greatest; room = grind (arith, common_steps) }

@@ -11,21 +11,17 @@ loop-position-init g c =
 pub unwrap-requires : goal.unwrap-requires
 unwrap-requires g c = chosen g.P.Inx.BasePtrInx.number c.loop-position.at _ (met-at c.loop-position.invariant (omega (arith, c.len-len.ensures.value)))
 
-pub exchange-requires-clause-first : goal.exchange-requires-clause-first
-exchange-requires-clause-first g c =
+pub exchange-requires : goal.exchange-requires
+exchange-requires g c =
     let at = c.loop-position in
     let more : at.position < length c.args.self.now.entries = omega (arith, c.len-len.ensures.value) in
     let same = chosen-is g.P.Inx.BasePtrInx.number at.at _ c.unwrap.result (met-at at.invariant more) c.unwrap.ensures in
-    subst (λ k. is_some (entry_at at.self.entries k) ≡ true) (sym same) (occurs-entry at.self.entries _ (met-occurs at.invariant more))
-
-pub exchange-requires-clause-second : goal.exchange-requires-clause-second
-exchange-requires-clause-second g c =
-    let at = c.loop-position in
-    let same : g.P.Inx.BasePtrInx.number c.unwrap-index.result ≡ at.position + 1 = search rules in
-    subst (λ k. is_some (entry_at at.self.entries k) ≡ true) (sym same) (occurs-entry at.self.entries _ (next-occurs at.invariant (omega (arith, c.len-len.ensures.value))))
-
-pub exchange-requires-clause-even : goal.exchange-requires-clause-even
-exchange-requires-clause-even g c = canonical-even c.loop-position.invariant
+    let next : g.P.Inx.BasePtrInx.number c.unwrap-index.result ≡ at.position + 1 = search rules in
+    record {
+      first = subst (λ k. is_some (entry_at at.self.entries k) ≡ true) (sym same) (occurs-entry at.self.entries _ (met-occurs at.invariant more));
+      second = subst (λ k. is_some (entry_at at.self.entries k) ≡ true) (sym next) (occurs-entry at.self.entries _ (next-occurs at.invariant more));
+      even = canonical-even at.invariant;
+    }
 
 pub loop-position-preserved : goal.loop-position-preserved
 loop-position-preserved g c =
@@ -42,4 +38,5 @@ returns g c = record {
   after =
       canonical-ends g.P.Inx.BasePtrInx.most g.P.Gen.BasePtrGen.greatest c.args.self.now _ c.loop-position.self _ c.loop-position.position c.len-len.ensures.sound (omega (arith, c.len-len.ensures.value)) c.loop-position.invariant;
   overflow = c.compress-overflow.ensures.overflow;
+  sound = c.len-len.ensures.sound;
 }

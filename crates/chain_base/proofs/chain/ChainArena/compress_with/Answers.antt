@@ -5,4 +5,5 @@ pub returns : goal.returns
 returns g c = record {
   after = compression-retold g.P.BasePtr.numbers _ _ _ (λ m. m.f) (λ m p x q y n called. called) _ _ _ c.compress_by.ensures.after;
   overflow = c.compress_by.ensures.overflow;
+  sound = c.compress_by.ensures.sound;
 }

@@ -1,5 +1,6 @@
-use Rattle.std.proofs.{Common.ap, Common.inl, Common.inr, Common.option_map, Common.arith, lemmas.Grind.common_steps}
-use Rattle.chain_base.proofs.Calls.{beside-inserted, Inserts-linked}
+use Rattle.std.proofs.{Common.ap, Common.inl, Common.inr, Common.option_map, Common.rules}
+use Rattle.chain_base.specs.Chain.{Chain}
+use Rattle.chain_base.proofs.{Room.after-insertion, Calls.beside-inserted, Calls.Inserts-linked}
 use Rattle.chain_base.proofs.chain.ChainArena.insert_within_capacity.Goals as goal
 
 pub relink-requires-clause-left : goal.relink-requires-clause-left
@@ -21,14 +22,18 @@ invariant_of-self-2 g c =
     _ new.item new.prev new.next c.relink.new.arena _ _ ends.arena ends.first ends.last in
     inserts.laid
 
-pub returns-clause-ok : goal.returns-clause-ok
-returns-clause-ok g c =
+pub returns : goal.returns
+returns g c =
     let at = rw (← c.self.view_is) at c.neighbours.ensures in
     let ends = rw c.inx.ensures at c.relink.ensures in
     let new = c.new.ensures in
     let inserts = Inserts-linked c.self.inside.arena _ _ c.self.invariant _ _ _ _ c.in_ok-p.ensures.ok _ _ _ at _ _ c.in_ok-p.ensures.sound
     _ new.item new.prev new.next c.relink.new.arena _ _ ends.arena ends.first ends.last in
-    rw (← c.self.view_is) inserts.insertion
+    record {
+      ok = rw (← c.self.view_is) inserts.insertion;
+      refused = search rules;
+      room = rw (← c.self.view_is) (ap (λ (d : Chain _). d.capacity) (after-insertion _ _ _ _ _ _ inserts.insertion).1);
+    }
 
 pub neighbours-requires : goal.neighbours-requires
 neighbours-requires g c = c.requires

@@ -1,7 +1,7 @@
-use Rattle.std.proofs.{Common.◌++◌, Common.◌∷◌, Common.[], Common.ap, Common.inl, Common.refl, Common.option_map, Common.arith, lemmas.List.append-nil, lemmas.Grind.common_steps}
+use Rattle.std.proofs.{Common.◌++◌, Common.◌∷◌, Common.[], Common.ap, Common.inl, Common.refl, Common.option_map, Common.rules, lemmas.List.append-nil}
 use Rattle.std.proofs.Common.{◌≡◌, sym, None, Option, ℕ, List}
-use Rattle.chain_base.specs.{Chain.Entry, Chain.last_or, Insert.PutsBetween}
-use Rattle.chain_base.proofs.Calls.{beside-inserted, Inserts-linked}
+use Rattle.chain_base.specs.{Chain.Chain, Chain.Entry, Chain.last_or, Insert.PutsBetween}
+use Rattle.chain_base.proofs.{Room.after-insertion, Calls.beside-inserted, Calls.Inserts-linked}
 use Rattle.chain_base.proofs.chain.ChainArena.push_back_within_capacity.Goals as goal
 
 -- the place behind all entries
@@ -20,10 +20,14 @@ invariant_of-self-2 g c =
     _ new.item new.prev new.next c.relink.new.arena _ _ ends.arena ends.first ends.last in
     inserts.laid
 
-pub returns-clause-ok : goal.returns-clause-ok
-returns-clause-ok g c =
+pub returns : goal.returns
+returns g c =
     let ends = rw c.inx.ensures at c.relink.ensures in
     let new = c.new.ensures in
     let inserts = Inserts-linked c.self.inside.arena _ _ c.self.invariant _ _ _ _ c.in_ok-p.ensures.ok _ _ _ (behind _ _ c.self.invariant.last_is) _ _ c.in_ok-p.ensures.sound
     _ new.item new.prev new.next c.relink.new.arena _ _ ends.arena ends.first ends.last in
-    rw (← c.self.view_is) inserts.insertion
+    record {
+      ok = rw (← c.self.view_is) inserts.insertion;
+      refused = search rules;
+      room = rw (← c.self.view_is) (ap (λ (d : Chain _). d.capacity) (after-insertion _ _ _ _ _ _ inserts.insertion).1);
+    }

@@ -11,19 +11,19 @@ remove_entry-taken-requires g c = let held = rw (← c.self.view_is) at c.requir
 
 pub relink-requires-clause-left : goal.relink-requires-clause-left
 relink-requires-clause-left g c = λ x is.
-    rw c.remove_entry-taken.ensures.removed (beside-held c.self.inside.arena _ _ c.self.invariant g.P.Gen.BasePtrGen.greatest _ _ c.entry.ensures Before _
+    rw c.remove_entry-taken.ensures.removed (beside-held c.self.inside.arena _ _ c.self.invariant g.P.Gen.BasePtrGen.greatest _ _ c.entry.ensures.value Before _
     (sym c.prev_next.ensures.prev ∙ ap (option_map g.P.Inx.BasePtrInx.number) is))
 
 pub relink-requires-clause-right : goal.relink-requires-clause-right
 relink-requires-clause-right g c = λ x is.
-    rw c.remove_entry-taken.ensures.removed (beside-held c.self.inside.arena _ _ c.self.invariant g.P.Gen.BasePtrGen.greatest _ _ c.entry.ensures After _
+    rw c.remove_entry-taken.ensures.removed (beside-held c.self.inside.arena _ _ c.self.invariant g.P.Gen.BasePtrGen.greatest _ _ c.entry.ensures.value After _
     (sym c.prev_next.ensures.next ∙ ap (option_map g.P.Inx.BasePtrInx.number) is))
 
 pub invariant_of-self : goal.invariant_of-self
 invariant_of-self g c =
     let ends = c.relink.ensures in
     let beside = c.prev_next.ensures in
-    let removes = Removes-linked c.self.inside.arena _ _ c.self.invariant g.P.Gen.BasePtrGen.greatest _ _ c.entry.ensures
+    let removes = Removes-linked c.self.inside.arena _ _ c.self.invariant g.P.Gen.BasePtrGen.greatest _ _ c.entry.ensures.value
     _ _ beside.prev beside.next beside.named_prev beside.named_next _ c.relink.new.arena _ _ c.remove_entry-taken.ensures.removed ends.arena ends.first ends.last in
     removes.laid
 
@@ -32,7 +32,7 @@ returns g c =
     let ends = c.relink.ensures in
     let beside = c.prev_next.ensures in
     let taken = c.remove_entry-taken.ensures in
-    let removes = Removes-linked c.self.inside.arena _ _ c.self.invariant g.P.Gen.BasePtrGen.greatest _ _ c.entry.ensures
+    let removes = Removes-linked c.self.inside.arena _ _ c.self.invariant g.P.Gen.BasePtrGen.greatest _ _ c.entry.ensures.value
     _ _ beside.prev beside.next beside.named_prev beside.named_next _ c.relink.new.arena _ _ taken.removed ends.arena ends.first ends.last in
     record {
       value = rw (← c.self.view_is, ← c.self.invariant.links) taken.value;

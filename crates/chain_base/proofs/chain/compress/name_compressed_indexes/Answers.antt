@@ -53,7 +53,7 @@ loop-position-preserved g c =
           (read number g.P.Gen.BasePtrGen.number _ at.arena c.unwrap-index.result (at.position + 1) (search rules) c.get_inx.result _ c.get_inx.ensures w.in_default.is))
     ]
 
-pub returns : goal.returns
-returns g c =
+pub returns-clause-names : goal.returns-clause-names
+returns-clause-names g c =
     named_neighbour-ends c.args.side c.args.arena.now c.loop-position.arena c.loop-position.count _ (c.loop-position.position + 1) c.loop-position.invariant
     (omega (arith, c.capacity-position-end.ensures.value)) c.capacity-position-end.ensures.sound.begins

@@ -1,4 +1,4 @@
-use Rattle.std.proofs.Common.{◌∙◌, ap, option_map}
+use Rattle.std.proofs.{Common.◌∙◌, Common.ap, Common.option_map, Common.arith, lemmas.Grind.common_steps}
 use Rattle.ord_tree.proofs.Grown.{CanPutAt-bare, CanPlace-put, call_allowed, call_grown, call_listed}
 use Rattle.ord_tree.proofs.Named.{inserted-named}
 use Rattle.ord_tree.proofs.tree.OrdTree.insert_within_capacity.Goals as goal
@@ -33,22 +33,18 @@ invariant_of-self-2 g c =
     c.in_ok-p.ensures.ok (ap number c.new.ensures ∙ c.inx.ensures) g.P.Inx.BasePtrInx.most g.P.Gen.BasePtrGen.greatest c.len.ensures.sound g.met.P.Inx.BasePtrInx.fits
     c.grow.new.chain c.grow.new.root c.grow.ensures.kept c.grow.ensures.grown c.grow.ensures.account).0
 
-pub returns-clause-ok : goal.returns-clause-ok
-returns-clause-ok g c =
+pub returns : goal.returns
+returns g c =
     let number = g.P.Inx.BasePtrInx.number in
     let can = CanPutAt-bare number c.args.at c.self.inside.chain (rw (← c.self.view_is) at c.requires) in
     let root = option_map number c.self.inside.root in
     let x_is = ap number c.new.ensures ∙ c.inx.ensures in
-    rw (← c.self.view_is) (call_listed number c.self.inside.chain root c.args.at _ c.self.invariant can c.branch_at-branch.ensures c.parent_in.ensures c.leaf-node.ensures c.kind_of.ensures
-    c.in_ok-p.ensures.ok x_is g.P.Inx.BasePtrInx.most g.P.Gen.BasePtrGen.greatest c.len.ensures.sound g.met.P.Inx.BasePtrInx.fits
-    c.grow.new.chain c.grow.new.root c.grow.ensures.kept c.grow.ensures.grown c.grow.ensures.account)
-
-pub returns-clause-shape : goal.returns-clause-shape
-returns-clause-shape g c =
-    let number = g.P.Inx.BasePtrInx.number in
-    let can = CanPutAt-bare number c.args.at c.self.inside.chain (rw (← c.self.view_is) at c.requires) in
-    let root = option_map number c.self.inside.root in
-    let x_is = ap number c.new.ensures ∙ c.inx.ensures in
-    rw (← c.self.view_is) (call_grown number c.self.inside.chain root c.args.at _ c.self.invariant can c.branch_at-branch.ensures c.parent_in.ensures c.leaf-node.ensures c.kind_of.ensures
-    c.in_ok-p.ensures.ok x_is g.P.Inx.BasePtrInx.most g.P.Gen.BasePtrGen.greatest c.len.ensures.sound g.met.P.Inx.BasePtrInx.fits
-    c.grow.new.chain c.grow.new.root c.grow.ensures.kept c.grow.ensures.grown c.grow.ensures.account).1
+    record {
+      ok = rw (← c.self.view_is) (call_listed number c.self.inside.chain root c.args.at _ c.self.invariant can c.branch_at-branch.ensures c.parent_in.ensures c.leaf-node.ensures c.kind_of.ensures
+          c.in_ok-p.ensures.ok x_is g.P.Inx.BasePtrInx.most g.P.Gen.BasePtrGen.greatest c.len.ensures.sound g.met.P.Inx.BasePtrInx.fits
+          c.grow.new.chain c.grow.new.root c.grow.ensures.kept c.grow.ensures.grown c.grow.ensures.account);
+      shape = rw (← c.self.view_is) (call_grown number c.self.inside.chain root c.args.at _ c.self.invariant can c.branch_at-branch.ensures c.parent_in.ensures c.leaf-node.ensures c.kind_of.ensures
+          c.in_ok-p.ensures.ok x_is g.P.Inx.BasePtrInx.most g.P.Gen.BasePtrGen.greatest c.len.ensures.sound g.met.P.Inx.BasePtrInx.fits
+          c.grow.new.chain c.grow.new.root c.grow.ensures.kept c.grow.ensures.grown c.grow.ensures.account).1;
+      refused = grind (arith, common_steps);
+    }

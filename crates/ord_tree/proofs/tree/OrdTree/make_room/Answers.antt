@@ -1,4 +1,4 @@
-use Rattle.std.proofs.Common.{◌∙◌, ap, option_map}
+use Rattle.std.proofs.{Common.◌∙◌, Common.ap, Common.option_map, Common.arith, lemmas.Grind.common_steps}
 use Rattle.chain_base.specs.Chain.{Chain}
 use Rattle.ord_tree.specs.Layout.{tree_of}
 use Rattle.ord_tree.proofs.Trees.{on_ok, IsLaidOut-entries, tree_of-with_room}
@@ -7,8 +7,15 @@ use Rattle.ord_tree.proofs.tree.OrdTree.make_room.Goals as goal
 pub invariant_of-self : goal.invariant_of-self
 invariant_of-self g c = IsLaidOut-entries c.self.inside.chain c.make_room.new.self _ c.make_room.ensures.kept c.self.invariant
 
-pub returns-clause-ok : goal.returns-clause-ok
-returns-clause-ok g c =
+pub returns : goal.returns
+returns g c =
     let r = c.make_room in
     let root = option_map g.P.Inx.BasePtrInx.number c.self.inside.root in
-    rw (← c.self.view_is) (on_ok r.result _ _ r.ensures.ok (λ e. ap (λ (c : Chain _). tree_of c root) e ∙ tree_of-with_room g.P.Inx.BasePtrInx.most c.self.inside.chain root))
+    record {
+      ok = rw (← c.self.view_is) (on_ok r.result _ _ r.ensures.ok (λ e. ap (λ (c : Chain _). tree_of c root) e ∙ tree_of-with_room g.P.Inx.BasePtrInx.most c.self.inside.chain root));
+      room = grind (arith, common_steps);
+      next = grind (arith, common_steps);
+      entries = grind (arith, common_steps);
+      shape = grind (arith, common_steps);
+      refused = grind (arith, common_steps);
+    }

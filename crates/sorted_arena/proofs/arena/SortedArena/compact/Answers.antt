@@ -1,4 +1,3 @@
-use Rattle.std.proofs.Common.{arith}
 use Rattle.sorted_arena.proofs.Cutting.{sorted-items}
 use Rattle.sorted_arena.proofs.Numbering.{compact-canonical}
 use Rattle.sorted_arena.proofs.arena.SortedArena.compact.Goals as goal
@@ -9,5 +8,5 @@ invariant_of-self g c = record {
     sorted = sorted-items g.K.Ord.cmp c.compress_canonical.new.self.list.entries c.self.inside.pairs.list.entries c.compress_canonical.ensures.items c.self.invariant.order.sorted;
     unlimited = rw c.compress_canonical.ensures.renumbers.after c.self.invariant.order.unlimited;
   };
-  compact = λ _. compact-canonical c.self.inside.pairs.list c.compress_canonical.new.self.list _ (omega (arith, c.len.ensures.sound.counted)) c.compress_canonical.ensures.renumbers.after;
+  compact = λ _. compact-canonical c.self.inside.pairs.list c.compress_canonical.new.self.list _ c.compress_canonical.ensures.renumbers.after;
 }

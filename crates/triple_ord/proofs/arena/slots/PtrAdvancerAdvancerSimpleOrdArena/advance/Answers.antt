@@ -3,5 +3,5 @@ use Rattle.triple_ord.proofs.arena.slots.PtrAdvancerAdvancerSimpleOrdArena.advan
 
 pub returns-clause-step : goal.returns-clause-step
 returns-clause-step g c =
-    let under = rw c.arena.view_is at c.chain.ensures.chain in
-    steps-under _ _ c.args.arena.now c.len.ensures.sound _ _ _ under c.arena-nodes.ensures c.capacity.ensures.sound.begins _ _ _ c.advance.ensures.step
+    let nodes = rw c.arena.view_is at c.arena-nodes.ensures in
+    steps-under _ _ c.args.arena.now c.len.ensures.sound _ _ _ nodes.below nodes.holds c.capacity.ensures.sound.begins _ _ _ c.advance.ensures.step

@@ -1,5 +1,5 @@
 use Rattle.triple_ord.proofs.Words.{arith, common_steps}
-use Rattle.triple_ord.proofs.arena.SimpleOrdArena.entry_insert_reallocating.Goals as goal
+use Rattle.triple_ord.proofs.arena.SimpleOrdArena.entry_insert_by_growth.Goals as goal
 
 pub returns : goal.returns
 returns g c = grind (arith, common_steps)

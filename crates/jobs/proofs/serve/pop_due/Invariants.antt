@@ -1,5 +1,0 @@
-use Rattle.agenda_store.specs.Store.{IsSound}
-use Rattle.jobs.proofs.serve.pop_due.Given as goal
-
-abbrev pub invariant-loop : goal.invariant-loop
-invariant-loop g l = IsSound g.D.Device.is_modelled g.D.Device.seen g.D.Device.may_leave l.store
