@@ -1,6 +1,5 @@
 //! `Paced`: a file whose changes are put on the disk at a pace.
 
-ghost use Rattle.std.specs.Prelude.{false, []};
 ghost use Rattle.agenda_store.specs.Device.{nothing};
 
 use agenda_store::{Device, DeviceError, FileDevice};
@@ -56,25 +55,9 @@ impl<'a, R: Files<File = File>> Paced<'a, R> {
 }
 
 impl<R: Files<File = File>> Device for Paced<'_, R> {
-    ghost is_modelled = { false };
+    ghost counts_now = { λ modelled. nothing modelled };
 
-    ghost seen = { λ _. [] };
-
-    ghost may_leave = { λ _ _. ⊥ };
-
-    ghost beside = { λ _. [] };
-
-    ghost beside_may_leave = { λ _ _. ⊥ };
-
-    ghost moment = { λ _. 0 };
-
-    ghost left_since = { λ _ _ _. ⊥ };
-
-    ghost faults = { λ _. 0 };
-
-    ghost counts_now = { λ wrong. nothing wrong };
-
-    ghost only_now = { λ wrong. nothing wrong };
+    ghost only_now = { λ modelled. nothing modelled };
 
     fn read(&mut self, alloc: Global) -> Result<Vec<u8>, DeviceError> {
         self.file.read(alloc)

@@ -1,6 +1,5 @@
 //! `Volatile`: a file in memory that ends with the program.
 
-ghost use Rattle.std.specs.Prelude.{false, []};
 ghost use Rattle.agenda_store.specs.Device.{nothing};
 
 use agenda_store::{Device, DeviceError};
@@ -25,25 +24,9 @@ impl Volatile {
 }
 
 impl Device for Volatile {
-    ghost is_modelled = { false };
+    ghost counts_now = { λ modelled. nothing modelled };
 
-    ghost seen = { λ _. [] };
-
-    ghost may_leave = { λ _ _. ⊥ };
-
-    ghost beside = { λ _. [] };
-
-    ghost beside_may_leave = { λ _ _. ⊥ };
-
-    ghost moment = { λ _. 0 };
-
-    ghost left_since = { λ _ _ _. ⊥ };
-
-    ghost faults = { λ _. 0 };
-
-    ghost counts_now = { λ wrong. nothing wrong };
-
-    ghost only_now = { λ wrong. nothing wrong };
+    ghost only_now = { λ modelled. nothing modelled };
 
     fn read(&mut self, alloc: Global) -> Result<Vec<u8>, DeviceError> {
         Ok(self.bytes.to_vec(alloc)?)

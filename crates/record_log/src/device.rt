@@ -1,6 +1,6 @@
 //! `Device`: a file as a log sees it.
 
-ghost use Rattle.std.specs.Prelude.{◌≡◌, ◌⊎◌, ◌≤◌, ◌++◌, [], Bool, List, ℕ, length, take, IsTrue};
+ghost use Rattle.std.specs.Prelude.{◌≡◌, ◌⊎◌, ◌≤◌, ◌++◌, [], Bool, false, List, ℕ, length, take, IsTrue};
 ghost use Rattle.record_log.specs.declared.device.DeviceError.TheVariants.{OutOfMemory};
 ghost use Rattle.record_log.specs.Device.{IsDurable, Follows, IsTorn, IsPartlyCut, Overwrites, IsCall, IsQuietCall};
 
@@ -42,29 +42,29 @@ impl<T: Drop> From<AllocFailed<T>> for DeviceError {
 ///
 /// A second file can be written beside this one and take its place.
 pub trait Device {
-    /// Whether the contract speaks of this device.
-    ghost is_modelled: { Bool };
+    /// Whether the contract speaks of this device. If it doesn't, as by default, the members below say nothing.
+    ghost is_modelled: { Bool } = { false };
 
     /// What a read returns.
-    ghost seen: { Self → List ℕ };
+    ghost seen: { Self → List ℕ } = { λ _. [] };
 
     /// What a crash at this moment may leave.
-    ghost may_leave: { Self → List ℕ → Type 0 };
+    ghost may_leave: { Self → List ℕ → Type 0 } = { λ _ _. ⊥ };
 
     /// What a read of the file beside would return.
-    ghost beside: { Self → List ℕ };
+    ghost beside: { Self → List ℕ } = { λ _. [] };
 
     /// What a crash at this moment may leave of the file beside.
-    ghost beside_may_leave: { Self → List ℕ → Type 0 };
+    ghost beside_may_leave: { Self → List ℕ → Type 0 } = { λ _ _. ⊥ };
 
     /// The moment, a number that doesn't fall.
-    ghost moment: { Self → ℕ };
+    ghost moment: { Self → ℕ } = { λ _. 0 };
 
     /// What a crash at some moment since that one might have left, during a call or between two.
-    ghost left_since: { Self → ℕ → List ℕ → Type 0 };
+    ghost left_since: { Self → ℕ → List ℕ → Type 0 } = { λ _ _ _. ⊥ };
 
     /// How often the device has failed.
-    ghost faults: { Self → ℕ };
+    ghost faults: { Self → ℕ } = { λ _. 0 };
 
     /// Returns all bytes of the file.
     fn read(&mut self, alloc: Global) -> Result<Vec<u8>, DeviceError>

@@ -1,6 +1,6 @@
 //! `FileDevice`: a file of the operating system.
 
-ghost use Rattle.std.specs.Prelude.{false, [], ◌≤◌, length, IfOk};
+ghost use Rattle.std.specs.Prelude.{◌≤◌, length, IfOk};
 ghost use Rattle.record_log.specs.Device.{nothing};
 
 use crate::device::{Device, DeviceError};
@@ -91,25 +91,9 @@ fn done(outcome: io::Result<()>) -> Result<(), DeviceError> {
 }
 
 impl<R: Files<File = File>> Device for FileDevice<'_, R> {
-    ghost is_modelled = { false };
+    ghost counts_now = { λ modelled. nothing modelled };
 
-    ghost seen = { λ _. [] };
-
-    ghost may_leave = { λ _ _. ⊥ };
-
-    ghost beside = { λ _. [] };
-
-    ghost beside_may_leave = { λ _ _. ⊥ };
-
-    ghost moment = { λ _. 0 };
-
-    ghost left_since = { λ _ _ _. ⊥ };
-
-    ghost faults = { λ _. 0 };
-
-    ghost counts_now = { λ no. nothing no };
-
-    ghost only_now = { λ no. nothing no };
+    ghost only_now = { λ modelled. nothing modelled };
 
     fn read(&mut self, alloc: Global) -> Result<Vec<u8>, DeviceError> {
         let mut bytes = Vec::new(alloc);

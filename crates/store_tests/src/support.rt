@@ -1,6 +1,5 @@
 //! `Torn`: a disk that stops after so many steps.
 
-ghost use Rattle.std.specs.Prelude.{false, []};
 ghost use Rattle.record_log.specs.Device.{nothing};
 
 use record_log::{Device, DeviceError};
@@ -68,25 +67,9 @@ fn copy(to: &mut Vec<u8>, from: &[u8]) -> Result<(), DeviceError> {
 }
 
 impl Device for Torn {
-    ghost is_modelled = { false };
+    ghost counts_now = { λ modelled. nothing modelled };
 
-    ghost seen = { λ _. [] };
-
-    ghost may_leave = { λ _ _. ⊥ };
-
-    ghost beside = { λ _. [] };
-
-    ghost beside_may_leave = { λ _ _. ⊥ };
-
-    ghost moment = { λ _. 0 };
-
-    ghost left_since = { λ _ _ _. ⊥ };
-
-    ghost faults = { λ _. 0 };
-
-    ghost counts_now = { λ wrong. nothing wrong };
-
-    ghost only_now = { λ wrong. nothing wrong };
+    ghost only_now = { λ modelled. nothing modelled };
 
     fn read(&mut self, alloc: Global) -> Result<Vec<u8>, DeviceError> {
         self.call()?;
