@@ -13,8 +13,7 @@ module _ {T : Type 0} where
   numbers-same old new is = (ap (λ (c : Chain T). c.generation) is, ap (λ (c : Chain T). c.capacity) is, ap (λ (c : Chain T). c.maximum) is)
 
   pub numbers-one : (old new : Chain T) (t : T) (p : ℕ × ℕ) → AppendsOne old t p new → KeepsNumbers old new
-  numbers-one old new t p one = let is = (after-insertion old new _ t p.0 p.1 one).1 in
-      (ap (λ (c : Chain T). c.generation) is, ap (λ (c : Chain T). c.capacity) is, ap (λ (c : Chain T). c.maximum) is)
+  numbers-one old new t p one = numbers-same _ new (after-insertion old new _ t p.0 p.1 one).1
 
   pub numbers-appended : (old new : Chain T) (ts : List T) → Appends old ts new → KeepsNumbers old new
   numbers-appended old new [] is = numbers-same old new is

@@ -1,9 +1,8 @@
 -- Appending: an entry behind the last one, and one more item of many.
 use Rattle.std.proofs.Common.{◌≡◌, ℕ, ◌+◌, List, [], ◌∷◌, ◌++◌, map, refl, ap, subst, arith, length, length-append, Result, Ok, Err, ◌<◌}
-use Rattle.std.specs.{List.AllZip, Prelude.IfOk, Prelude.IsErr, Prelude.◌↔◌}
 use Rattle.std.proofs.lemmas.List.{map-append}
-use Rattle.chain_base.specs.Chain.{Entry, Chain}
-use Rattle.chain_base.specs.Insert.{IsInsertion}
+use Rattle.std.specs.{List.AllZip, Prelude.IfOk, Prelude.IsErr, Prelude.◌↔◌}
+use Rattle.chain_base.specs.{Chain.Entry, Chain.Chain, Insert.IsInsertion}
 use Rattle.ord_tree.specs.{declared.node.SimpleOrdArenaNode.SimpleOrdArenaNode as Node, Node.bare_entry, Node.bare, Append.Appends, Append.AppendsOne}
 use Rattle.ord_tree.proofs.Grown.{IsInsertion-bare, inserted-entries}
 
@@ -26,8 +25,7 @@ module _ {P T I G Q E : Type 0} (numbers : Q → ℕ × ℕ) (old new : Chain (N
   appended-count (Err e) ok full = absurd (let none = full.0 refl in omega arith)
   appended-count (Ok p) ok full =
       let e : Entry (Node P T I G) = record { index = (numbers p).0; generation = (numbers p).1; item = leaf } in
-      let is = inserted-entries old new (λ e. old.entries ++ e ∷ []) e ok in
-      omega (arith, ap length is, length-append old.entries (e ∷ []))
+      omega (arith, ap length (inserted-entries old new (λ e. old.entries ++ e ∷ []) e ok), length-append old.entries (e ∷ []))
 
 pub AllZip-more : {A B : Type 0} (R : A → B → Type 0) (xs : List A) (ys : List B) (x : A) (y : B) → AllZip R xs ys → R x y → AllZip R (xs ++ x ∷ []) (ys ++ y ∷ [])
 AllZip-more R [] [] x y before one = (one, tt)

@@ -1,17 +1,16 @@
 -- A clone of a chain of nodes is one of the list of its items, and lies in a tree of the same shape.
 use Rattle.std.proofs.Common.{arith, ◌≡◌, ℕ, zero, suc, ◌+◌, inl, inr, max, Option, Some, None, List, [], ◌∷◌, map, length, Result, Ok, Err, MatchResult, OnOk, refl, sym, ◌∙◌, ap, option_map, ◌==◌, true}
-use Rattle.std.proofs.{lemmas.Bool.Decides.eqb_tells, lemmas.Option.slice_get-map, lemmas.Grind.common_steps, lemmas.Bool.false≢true}
-use Rattle.std.proofs.lemmas.List.{map-id}
+use Rattle.std.proofs.{lemmas.Bool.Decides.eqb_tells, lemmas.Option.slice_get-map, lemmas.Grind.common_steps, lemmas.Bool.false≢true, lemmas.List.map-id}
 use Rattle.std.specs.declared.alloc.AllocError.{AllocError}
 use Rattle.chain_base.specs.ArenaClone.{Grants, StopsAtRefusal}
-use Rattle.chain_base.proofs.ArenaLemmas.{clones-retold, clones-leave, stops-retold, stops-leave}
-use Rattle.chain_base.specs.Clone.{links_among, links_rising, taken_over, IsClone as IsClonedList, IsRefusedClone as IsRefusedList}
 use Rattle.chain_base.specs.Chain.{Entry, Chain, entry_at, link_between, greatest_index, IsSound}
 use Rattle.chain_base.specs.{Compression.lesser, Compression.refilled, Walk.pointers, Link.Link}
+use Rattle.chain_base.proofs.ArenaLemmas.{clones-retold, clones-leave, stops-retold, stops-leave}
+use Rattle.chain_base.specs.Clone.{links_among, links_rising, taken_over, IsClone as IsClonedList, IsRefusedClone as IsRefusedList}
 use Rattle.chain_base.proofs.CallerLemmas.{clone-kept, clone-restated as list-restated, refusal-restated as refused-list-restated}
 use Rattle.ord_tree.specs.{Node.bare_entry, Node.bare, Node.entry_in, Node.links_in, Node.slots_of, Node.indexes, CloneNode.ClonesNode}
-use Rattle.ord_tree.specs.{declared.node.SimpleOrdArenaNode.SimpleOrdArenaNode as Node, Layout.shape_in, Layout.tree_of, Layout.IsLaidOut}
 use Rattle.ord_tree.specs.{Clone.AtItem, Clone.IsClone, Clone.IsRefusedClone, Tree.Tree}
+use Rattle.ord_tree.specs.{declared.node.SimpleOrdArenaNode.SimpleOrdArenaNode as Node, Layout.shape_in, Layout.tree_of, Layout.IsLaidOut}
 use Rattle.ord_tree.proofs.Trees.{entry_at-bare, times-bare, greatest_index-bare, shape_in-linked, IsLaidOut-linked}
 use Rattle.ord_tree.proofs.Compressing.{bare-refilled, lesser-bare}
 

@@ -1,13 +1,11 @@
 -- A chain of nodes whose entries have all been moved, as the list without the nodes sees it.
-use Rattle.std.proofs.Common.{Result, Ok, Err, OnErr, arith, ◌≡◌, ℕ, zero, suc, ◌+◌, Option, Some, None, List, [], ◌∷◌, map, length, refl, sym, ◌∙◌, ap, option_map, max, slice_index_or, nat_lt, if◌then◌else◌}
+use Rattle.std.proofs.Common.{Result, Ok, Err, OnErr, arith, ◌≡◌, ℕ, zero, suc, ◌+◌, Option, List, [], ◌∷◌, map, length, refl, sym, ◌∙◌, ap, max, slice_index_or, nat_lt, if◌then◌else◌}
 use Rattle.std.proofs.{lemmas.Grind.common_steps, lemmas.List.length-map}
-use Rattle.chain_base.specs.Compression.{lesser, entry_before, rising_among, entries_rising, refilled, moved, compressed, at_compressed_index, relocated, numbered, canonical, replaced, left_empty, IsCompression, Transferring, IsTransfer}
-use Rattle.chain_base.specs.Chain.{Entry, Chain}
-use Rattle.chain_base.specs.InvalidationOption.{InvalidationOption}
-use Rattle.chain_base.proofs.CallerLemmas.{steps-retold}
-use Rattle.ord_tree.specs.{declared.node.SimpleOrdArenaNode.SimpleOrdArenaNode as Node, Node.bare_entry, Node.bare, Node.entry_in}
+use Rattle.chain_base.specs.Compression.{lesser, rising_among, entries_rising, refilled, moved, compressed, at_compressed_index, relocated, numbered, canonical, replaced, IsCompression, Transferring, IsTransfer}
+use Rattle.chain_base.specs.{Chain.Entry, Chain.Chain, InvalidationOption.InvalidationOption}
+use Rattle.chain_base.proofs.{CallerLemmas.steps-retold, ArenaLemmas.calls-retold}
+use Rattle.ord_tree.specs.{declared.node.SimpleOrdArenaNode.SimpleOrdArenaNode as Node, Node.bare_entry, Node.bare}
 use Rattle.ord_tree.specs.MapNode.{MapsTaken}
-use Rattle.chain_base.proofs.ArenaLemmas.{calls-retold}
 use Rattle.ord_tree.proofs.Trees.{entry_at-bare, vacant_among-bare}
 
 -- what always holds also holds on `Err`
@@ -49,9 +47,6 @@ module _ {P T I G : Type 0} where
       ∙ ap (λ n. refilled (record (bare c) { capacity = max c.capacity n }) g (map bare_entry (numbered g 1 nodes))) (sym (length-map nodes (λ n. n.t)))
       ∙ ap (λ es. refilled (record (bare c) { capacity = max c.capacity (length (items_in nodes)) }) g es) (numbered-bare g 1 nodes)
 
-  pub bare-left_empty : (c : Chain (Node P T I G)) (g : ℕ) → bare (left_empty c g) ≡ left_empty (bare c) g
-  bare-left_empty c g = bare-refilled c g []
-
   -- entries by rising index
   pub lesser-bare : (es : List (Entry (Node P T I G))) (i : ℕ) → lesser (map bare_entry es) i ≡ lesser es i
   lesser-bare [] i = refl
@@ -79,11 +74,6 @@ module _ {P T I G : Type 0} where
   bare-compressed : (c : Chain (Node P T I G)) (g : ℕ) (nodes : List (Node P T I G)) → bare (compressed c g nodes) ≡ compressed (bare c) g (items_in nodes)
   bare-compressed c g nodes =
       bare-refilled c g (map (moved c.entries g nodes) c.entries) ∙ ap (λ es. refilled (bare c) g es) (moved-bare c.entries g nodes c.entries)
-
-  before-bare : (i : ℕ) (o : Option (ℕ × Node P T I G)) (rest : List (ℕ × ℕ × Node P T I G))
-      → entry_before i (option_map entry_in o) (map shown_in rest) ≡ map shown_in (entry_before i o rest)
-  before-bare i None rest = refl
-  before-bare i (Some e) rest = refl
 
   rising-bare : (es : List (Entry (Node P T I G))) (from count : ℕ) → rising_among (map bare_entry es) from count ≡ map shown_in (rising_among es from count)
   rising-bare es from zero = refl
@@ -113,6 +103,6 @@ module _ {P T I G Q U J H S F : Type 0} (numbers_from : Q → ℕ × ℕ) (numbe
         last = record { closure = inner h.last.closure; items = items_in h.last.items; generation = h.last.generation };
         calls = steps-retold numbers_from numbers_to greatest outer step inner (λ n. n.t) (λ n. n.t)
             (λ s q taken p n t called. let c = calls s q taken p n t called in (c.plain, c.item, c.overflow, c.called)) g source.entries start h.last h.calls;
-        left = ap bare h.left ∙ bare-left_empty source h.last.generation;
+        left = ap bare h.left ∙ bare-refilled source h.last.generation [];
         after = is ∙ ap bare h.after ∙ bare-replaced old g h.last.items;
       }

@@ -3,19 +3,17 @@ use Rattle.std.proofs.Common.{◌≡◌, ◌≢◌, ℕ, zero, suc, ◌+◌, ◌
 use Rattle.std.proofs.{lemmas.Bool.cases_lt, lemmas.Bool.cases_eq, lemmas.Bool.eq-eqb, lemmas.Bool.ne_eqb, lemmas.Grind.common_steps}
 use Rattle.chain_base.specs.Chain.{Chain}
 use Rattle.ord_tree.specs.Slots.{Slots, Holds, plug, above, HoldsWay, here, times, times_in, times_way, MovesBacks, Hangs, ReplacesChild}
-use Rattle.ord_tree.specs.{Shape.missing, Shape.fork, Shape.rank_of, Shape.walk}
-use Rattle.ord_tree.specs.{Balance.IsOver, TreeLinks.other_side, TreeLinks.child_at}
-use Rattle.ord_tree.specs.{declared.tree_links.TreeLinks.TreeLinks, declared.tree_links.Branch.Branch, Detach.without, Detach.IsLoose}
-use Rattle.ord_tree.specs.declared.tree_links.Side.{Side}
+use Rattle.ord_tree.specs.{Shape.missing, Shape.fork, Shape.rank_of, Shape.walk, Balance.IsOver, TreeLinks.other_side, TreeLinks.child_at}
+use Rattle.ord_tree.specs.{declared.tree_links.TreeLinks.TreeLinks, declared.tree_links.Branch.Branch, Detach.without, Detach.IsLoose, Demote.IsLow}
+use Rattle.ord_tree.specs.{declared.tree_links.Side.Side, Potential.node_potential, Potential.potential}
+use Rattle.ord_tree.specs.Account.{potential_way, rank_in, leaf_reserve, ranks_without}
 use Rattle.ord_tree.proofs.Forks.{Holds-fork, link-root, rank-fork, IsApart-once}
 use Rattle.ord_tree.proofs.Frames.{occupied-above, root-in, Holds-frame, HoldsWay-frame, Holds-rehung, HoldsWay-replaced}
 use Rattle.ord_tree.proofs.Rotations.{ForkAt}
 use Rattle.ord_tree.proofs.Spots.{Spot, spot_holds, IsBare, bare_spot, bare_occupied, bare_whole, bare_total, bare_split, bare_first, bare_balanced}
 use Rattle.ord_tree.proofs.{Rotations.above-in, Rotations.occupied-link}
-use Rattle.ord_tree.proofs.Demoting.{IsBranchOf, BuiltOrFallen, PaidOrFallen, EndsAt, ends_at, IsLow, low_branch, low_paid}
+use Rattle.ord_tree.proofs.Demoting.{IsBranchOf, BuiltOrFallen, PaidOrFallen, EndsAt, ends_at, low_branch, low_paid}
 use Rattle.ord_tree.proofs.Views.{MovesBacks-same, MovesBacks-hung}
-use Rattle.ord_tree.specs.{Potential.node_potential, Potential.potential}
-use Rattle.ord_tree.specs.Account.{potential_way, rank_in, leaf_reserve, ranks_without}
 use Rattle.ord_tree.proofs.Potentials.{node_potential-full, potential-fork, potential-plug}
 use Rattle.ord_tree.proofs.RankChanges.{rank_here-other, rank_in-fork, rank_in-plug}
 
@@ -82,15 +80,12 @@ module _ {old : Slots} {root : Option ℕ} {v : ℕ} {side : Side} {order : List
       in_way : (j : ℕ) → nv.back ≡ Some j → 0 < times_way j spot.way
       in_way j b = above-in spot.way j (sym stored.back ∙ b)
 
-      far_replaced : (j : ℕ) → 0 < times_in j spot.far → replaced j ≡ old j
-      far_replaced j inside = parent.elsewhere j (λ b. omega (arith, inside, in_way j b, total j))
-
       pub far_held : Holds new (above spot.way) (child_at (other_side side) nv) spot.far
       far_held =
           Holds-rehung replaced new (Some v) (above spot.way) (child_at (other_side side) nv)
           (λ j n link d. hung.here j n link d ∙ ap (λ (b : Option ℕ). Some (record n { back = b })) stored.back) spot.far
           (λ j other inside. hung.elsewhere j other) (λ j. omega (arith, total j))
-          (Holds-frame old replaced spot.far (Some v) (child_at (other_side side) nv) far_replaced stored.far_held)
+          (Holds-frame old replaced spot.far (Some v) (child_at (other_side side) nv) (λ j inside. parent.elsewhere j (λ b. omega (arith, inside, in_way j b, total j))) stored.far_held)
 
       pub way_held : HoldsWay new root' spot.way (child_at (other_side side) nv)
       way_held =

@@ -1,20 +1,21 @@
 -- One step of the repair after a removal, with its account, and the path from a lowered shape to its parent.
 use Rattle.std.proofs.Common.{◌≡◌, ◌≢◌, ℕ, zero, suc, ◌+◌, ◌^◌, ◌<◌, ◌≤◌, Option, Some, None, List, [], ◌∷◌, length, arith, refl, inl, inr, sym, ◌∙◌, ap, is_some, option_map, MatchOption, Bool, true, false}
 use Rattle.std.specs.{Option.IfSome, Prelude.MatchBool}
-use Rattle.ord_tree.specs.Slots.{Slots, Holds, Way, plug, above, HoldsWay, here, times_in, times_way, IsOnce, IsApart}
-use Rattle.ord_tree.specs.Shape.{Shape, missing, node, fork, rank_of, root_of, size_of, walk}
-use Rattle.ord_tree.specs.{Demote.IsFallen, Demote.IsDemoted, Demote.IsDemotedNode, Demote.IsLeaning, Demote.HasDemoted, TreeLinks.other_side, TreeLinks.child_at}
+use Rattle.chain_base.specs.Chain.{Chain}
+use Rattle.ord_tree.specs.Slots.{Slots, Holds, Way, plug, above, HoldsWay, here, times_in, times_way, IsApart, Writes}
+use Rattle.ord_tree.specs.Shape.{Shape, missing, node, fork, rank_of, root_of, size_of}
+use Rattle.ord_tree.specs.{Demote.IsFallen, Demote.IsDemoted, Demote.IsLow, Demote.IsLeaning, Demote.HasDemoted, TreeLinks.other_side, TreeLinks.child_at}
 use Rattle.ord_tree.specs.{Balance.IsOver, Balance.IsBalanced, Balance.IsBalancedWay, declared.tree_links.TreeLinks.TreeLinks}
 use Rattle.ord_tree.specs.{Promote.IsBuilt, Promote.IsRepaired, declared.tree_links.Branch.Branch, declared.tree_links.Side.Side}
 use Rattle.ord_tree.specs.{Potential.node_potential, Potential.potential}
 use Rattle.ord_tree.specs.Account.{potential_way, rank_in, rank_way, leaf_reserve, NamesChanges, IsSpelledWithin, fallen_ranks, fallen_credit, leaning_ranks, leaning_credit, IsDemotedWithin, IsFallenWithin}
 use Rattle.ord_tree.proofs.Forks.{fork-other, rank-fork, size-fork, size-plug, walk-ranked, walk-plug, link-root, root_holds, rootless, fork_balanced, IsBalanced-fork, here-same, times_in-fork, IsApart-once, apart-from}
-use Rattle.ord_tree.proofs.Frames.{IsLast, last_step, under, not_far, no_step, occupied-above, HoldsWay-frame, IsReranked, Holds-reranked, backs-ranked}
+use Rattle.ord_tree.proofs.Frames.{IsLast, last_step, under, not_far, no_step, occupied-above, HoldsWay-frame, Holds-reranked, backs-ranked}
 use Rattle.ord_tree.proofs.{Rotations.ForkAt, Rotations.ForkAt-holds, Rotations.occupied-link, Slack.IsRanked-balanced, Slack.rank-small}
 use Rattle.ord_tree.proofs.{Doubles.IsJoint, Doubles.Forked, Doubles.forked, Doubles.forked_rank, Doubles.forked_listed, Doubles.site_of, Doubles.rank_at-held, Halves.size_of-walk}
 use Rattle.ord_tree.proofs.Plugs.{IsPlugged, IsBuilt-plugged, IsSpelledWithin-plugged, IsBuilt-fork, IsSpelledWithin-fork}
 use Rattle.ord_tree.proofs.Potentials.{node_potential-slack, node_potential-uneven, node_potential-tight, node_potential-most, potential-fork}
-use Rattle.ord_tree.proofs.RankChanges.{rank_here-other, rank_in-fork, NamesChanges-same, names_but, IsSpelledWithin-before, IsDemotedWithin-before}
+use Rattle.ord_tree.proofs.RankChanges.{rank_here-other, rank_in-fork, NamesChanges-same, names_but, IsWithin-before}
 use Rattle.ord_tree.proofs.LeafBranches.{some_in}
 
 -- the branch of a node, if it has one
@@ -55,18 +56,6 @@ module _ {I : Type 0} (number : I → ℕ) where
         let z = under held_way held last.1 in
         rw (by.side z.links last.0 z.at_z z.child (not_far z y (sym (link-root at (above way) (Some y) s held)) apart)) last.1
 
--- the nodes would form a balanced tree over this list if the shape at the end of the path were one higher
-pub record IsLow (at : Slots) (root link : Option ℕ) (order : List ℕ) : Type 0 where
-  pub way : Way
-  pub shape : Shape
-  pub held_way : HoldsWay at root way link
-  pub held : Holds at (above way) link shape
-  pub listed : walk (plug way shape) ≡ order
-  pub balanced : IsBalanced 1 shape
-  pub balanced_way : IsBalancedWay 1 way (rank_of shape + 1)
-  pub once : IsOnce order
-  pub few : length order < 2 ^ 64
-
 module _ {at : Slots} {root link : Option ℕ} {order : List ℕ} (low : IsLow at root link order) where
   plugged : IsPlugged at root low.way low.shape order
   plugged = record { link = link; held_way = low.held_way; held = low.held; listed = low.listed }
@@ -105,7 +94,7 @@ module _ {at : Slots} {root link : Option ℕ} {order : List ℕ} (low : IsLow a
       low_paid None paid none =
           IsSpelledWithin-plugged plugged named names (omega (arith, paid, more, ap (λ way. potential_way way (rank_of low.shape)) (no_step low.way none)))
       low_paid (Some b) paid last = record {
-        fallen = fallen_above last;
+        state = fallen_above last;
         named = named;
         within = omega (arith, paid, ap (λ way. potential_way way (rank_of low.shape + 1)) last.is);
         names = NamesChanges-same named was _ _ (λ j. omega (arith, ap (λ way. rank_way way j) last.is)) names;
@@ -151,7 +140,7 @@ module _ {at : Slots} {root : Option ℕ} {y : ℕ} {side : Side} {order : List 
       omega (arith, fallen.over.lesser, rank-small fallen.low (IsRanked-balanced 1 fallen.low fallen.balanced_low) few)
 
   -- y gets a rank lower by one
-  module _ {new : Slots} {rank : ℕ} (by : IsReranked at new y rank) (lower : rank + 1 ≡ fallen.rank) (over : IsOver 1 rank (rank_of fallen.low) (rank_of fallen.far))
+  module _ {T : Type 0} {first second : Chain T} {new : Slots} {rank : ℕ} (by : Writes y (λ n. record n { rank = rank }) at new first second) (lower : rank + 1 ≡ fallen.rank) (over : IsOver 1 rank (rank_of fallen.low) (rank_of fallen.far))
       (paid : node_potential rank (rank_of fallen.low) (rank_of fallen.far) + 1 ≤ leaf_reserve (rank_of fallen.low) + node_potential fallen.rank (rank_of fallen.low + 1) (rank_of fallen.far)) where
     abbrev lowered : Shape
     lowered = fork side fallen.low y rank fallen.far
@@ -159,7 +148,7 @@ module _ {at : Slots} {root : Option ℕ} {y : ℕ} {side : Side} {order : List 
     rank_lower : rank_of lowered ≡ rank
     rank_lower = rank-fork side fallen.low fallen.far y rank
 
-    abbrev demoted_node : IsDemotedNode new root y order
+    abbrev demoted_node : IsLow new root (Some y) order
     demoted_node = record {
       way = fallen.way;
       shape = lowered;
@@ -183,7 +172,7 @@ module _ {at : Slots} {root : Option ℕ} {y : ℕ} {side : Side} {order : List 
             backs = backs-ranked by some.0 some.1;
           },
           record {
-            demoted = demoted_node;
+            state = demoted_node;
             named = y ∷ [];
             within = omega (arith, paid, potential-fork side fallen.low fallen.far y rank, ap (potential_way fallen.way) (ap (λ k. k + 1) rank_lower ∙ lower));
             names = names_but (y ∷ []) _ _ (λ j other. omega (arith, rank_in-fork j side fallen.low fallen.far y rank, rank_here-other j y rank other, rank_here-other j y fallen.rank other));
@@ -191,7 +180,7 @@ module _ {at : Slots} {root : Option ℕ} {y : ℕ} {side : Side} {order : List 
         )
 
   -- the other side is empty: the reserve pays
-  module _ {new : Slots} (by : IsReranked at new y 1) (bare : root_of fallen.far ≡ None) where
+  module _ {T : Type 0} {first second : Chain T} {new : Slots} (by : Writes y (λ n. record n { rank = 1 }) at new first second) (bare : root_of fallen.far ≡ None) where
     pub fallen_bare : IsDemoted at new root y order × IsDemotedWithin (fallen_ranks fallen) new root y order (fallen_credit fallen)
     fallen_bare =
         let none : rank_of fallen.far ≡ 0 = ap rank_of (rootless fallen.far bare) in
@@ -201,9 +190,9 @@ module _ {at : Slots} {root : Option ℕ} {y : ℕ} {side : Side} {order : List 
 
   module _ (low : rank_of fallen.low + 3 ≡ fallen.rank) where
     -- the sibling is two below, so y would be slack: its potential pays
-    pub fallen_slack : {new : Slots} {rank : ℕ} → IsReranked at new y rank → rank_of fallen.far + 2 ≡ fallen.rank → rank + 1 ≡ fallen.rank
+    pub fallen_slack : {T : Type 0} {first second : Chain T} {new : Slots} {rank : ℕ} → Writes y (λ n. record n { rank = rank }) at new first second → rank_of fallen.far + 2 ≡ fallen.rank → rank + 1 ≡ fallen.rank
         → IsDemoted at new root y order × IsDemotedWithin (fallen_ranks fallen) new root y order (fallen_credit fallen)
-    fallen_slack {new} {rank} by far lower =
+    fallen_slack {rank = rank} by far lower =
         fallen_demoted by lower (omega (arith, fallen.over))
         (omega (arith, node_potential-slack fallen.rank (rank_of fallen.low + 1) (rank_of fallen.far) (omega arith) (omega arith), node_potential-uneven rank (rank_of fallen.low) (rank_of fallen.far) (omega arith)))
 
@@ -246,24 +235,11 @@ module _ {at : Slots} {root : Option ℕ} {y : ℕ} {side : Side} {order : List 
 
       pub leaning_paid : (new : Slots) (root' : Option ℕ) (b : Bool) → PaidOrDemoted (leaning_ranks IsLeaning-fallen) new root' y order (leaning_credit IsLeaning-fallen) b
           → PaidOrDemoted (fallen_ranks fallen) new root' y order (fallen_credit fallen) b
-      leaning_paid new root' true l = IsDemotedWithin-before [] same_ranks (omega (arith, same_credit)) l
-      leaning_paid new root' false paid = IsSpelledWithin-before [] same_ranks (omega (arith, same_credit)) paid
+      leaning_paid new root' true l = IsWithin-before [] same_ranks (omega (arith, same_credit)) l
+      leaning_paid new root' false paid = IsWithin-before [] same_ranks (omega (arith, same_credit)) paid
 
 -- a demoted node and its parent
-module _ {new : Slots} {root : Option ℕ} {y : ℕ} {order : List ℕ} (now : IsDemotedNode new root y order) where
-  abbrev low_node : IsLow new root (Some y) order
-  low_node = record {
-    way = now.way;
-    shape = now.shape;
-    held_way = now.held_way;
-    held = now.held;
-    listed = now.listed;
-    balanced = now.balanced;
-    balanced_way = now.balanced_way;
-    once = now.once;
-    few = now.few;
-  }
-
+module _ {new : Slots} {root : Option ℕ} {y : ℕ} {order : List ℕ} (now : IsLow new root (Some y) order) where
   node_end : {I : Type 0} (number : I → ℕ) (branch : Option (Branch I)) → IsBranchOf number new y branch → EndsAt number now.way branch
   node_end number branch by = ends_at number new root now.way now.shape y now.held_way now.held (IsApart-once now.way now.shape order now.listed now.once) branch by
 
@@ -286,12 +262,12 @@ module _ {old new : Slots} {root : Option ℕ} {y : ℕ} {order : List ℕ} (dem
 
   module _ {I : Type 0} (number : I → ℕ) where
     demoted_branch : (on : Option (Branch I)) → IsBranchOf number new y on → MatchOption on (IsRepaired old new root order 1) (λ b. HasDemoted old new root y (number b.parent) b.side order)
-    demoted_branch None by = let now = demoted.demoted in record { built = low_branch (low_node now) number None (node_end now number None by); backs = ([], omega arith, λ j. inr (demoted.backs j)) }
+    demoted_branch None by = let now = demoted.demoted in record { built = low_branch now number None (node_end now number None by); backs = ([], omega arith, λ j. inr (demoted.backs j)) }
     demoted_branch (Some b) by =
         let now = demoted.demoted in
         let last = node_end now number (Some b) by in
         let z = under now.held_way now.held last in
-        let fallen = fallen_above (low_node now) last in
+        let fallen = fallen_above now last in
         record { fallen = fallen; higher = rw z.at_z (omega (arith, z.rank, demoted.rank, fallen.over.lesser)); fits = demoted.fits; backs = demoted.backs }
 
     -- and the account
@@ -299,5 +275,5 @@ module _ {old new : Slots} {root : Option ℕ} {y : ℕ} {order : List ℕ} (dem
       pub demoted_next : MatchOption on (IsRepaired old new root order 1) (λ b. HasDemoted old new root y (number b.parent) b.side order)
           × MatchOption on (IsSpelledWithin was new root order (credit + 7)) (λ b. IsFallenWithin was new root (number b.parent) b.side order credit)
       demoted_next =
-          let now = l.demoted in
-          (demoted_branch on by, low_paid (low_node now) number l.named l.names {final = credit + 7} (omega arith) on (omega (arith, l.within, node_reserve now)) (node_end now number on by))
+          let now = l.state in
+          (demoted_branch on by, low_paid now number l.named l.names {final = credit + 7} (omega arith) on (omega (arith, l.within, node_reserve now)) (node_end now number on by))

@@ -1,5 +1,5 @@
 -- Entries of a chain of nodes: what a write of a node changes and keeps.
-use Rattle.std.proofs.Common.{arith, ◌≡◌, ◌≢◌, ℕ, Some, List, [], ◌∷◌, map, refl, sym, ◌∙◌, ap, is_some, option_map}
+use Rattle.std.proofs.Common.{arith, ◌≡◌, ◌≢◌, ℕ, Some, List, [], ◌∷◌, map, refl, sym, ◌∙◌, ap, option_map}
 use Rattle.std.proofs.{lemmas.Grind.common_steps, lemmas.Option.same_Some}
 use Rattle.chain_base.specs.Chain.{Entry, Chain, entry_at, with_item_among, with_item as chain_with_item}
 use Rattle.chain_base.proofs.CallerLemmas.{entry_at-with_item_among, entry_at-with_item_among_other}
@@ -25,14 +25,11 @@ module _ {P T I G : Type 0} where
     slots_of-elsewhere : (j : ℕ) → j ≢ i → slots_of (chain_with_item c i x) j ≡ slots_of c j
     slots_of-elsewhere j ne = ap (option_map (λ (e : ℕ × Node P T I G). links_in e.1)) (entry_at-with_item_among_other c.entries i j x ne)
 
-    slots_of-occupied : (j : ℕ) → is_some (slots_of (chain_with_item c i x) j) ≡ is_some (slots_of c j)
-    slots_of-occupied j = grind (arith, common_steps, j, slots_of-written, there, slots_of-elsewhere j)
-
     pub Writes-entry : (change : TreeLinks ℕ → TreeLinks ℕ) → links_in x ≡ change (links_in e.1)
         → Writes i change (slots_of c) (slots_of (chain_with_item c i x)) (bare c) (bare (chain_with_item c i x))
     Writes-entry change made = record {
       here = slots_of-changed change made;
       elsewhere = slots_of-elsewhere;
-      occupied = slots_of-occupied;
+      occupied = λ j. grind (arith, common_steps, j, slots_of-written, there, slots_of-elsewhere j);
       kept = ap (λ (es : List (Entry T)). record { entries = es; capacity = c.capacity; vacant = c.vacant; generation = c.generation; maximum = c.maximum }) (bare-with_item i e x t c.entries there);
     }

@@ -2,7 +2,7 @@
 use Rattle.std.proofs.Common.{◌≡◌, ◌≢◌, ℕ, ◌+◌, ◌<◌, ◌≤◌, Option, Some, None, arith, refl, sym, ◌∙◌, ap, subst, is_some, true}
 use Rattle.std.proofs.lemmas.Grind.{common_steps}
 use Rattle.chain_base.specs.Chain.{Chain}
-use Rattle.ord_tree.specs.Slots.{Slots, Holds, Way, top, up, above, HoldsWay, here, times_in, times_way, back_at, IsApart, ReplacesChild}
+use Rattle.ord_tree.specs.Slots.{Slots, Holds, Way, top, up, above, HoldsWay, here, times_in, times_way, back_at, IsApart, Writes, ReplacesChild}
 use Rattle.ord_tree.specs.declared.tree_links.Side.TheVariants.{Lesser, Greater}
 use Rattle.ord_tree.specs.{TreeLinks.other_side, TreeLinks.child_at, TreeLinks.with_child_at, declared.tree_links.TreeLinks.TreeLinks}
 use Rattle.ord_tree.specs.{Shape.Shape, Shape.missing, Shape.node, Shape.fork, Shape.root_of, declared.tree_links.Side.Side}
@@ -138,11 +138,7 @@ child-ranked Lesser rank n = refl
 child-ranked Greater rank n = refl
 
 -- the node i gets another rank; nothing else is written
-pub record IsReranked (old new : Slots) (i rank : ℕ) : Type 0 where
-  pub here : (n : TreeLinks ℕ) → old i ≡ Some n → new i ≡ Some (record n { rank = rank })
-  pub elsewhere : (j : ℕ) → j ≢ i → new j ≡ old j
-
-module _ {old new : Slots} {i rank : ℕ} (by : IsReranked old new i rank) where
+module _ {T : Type 0} {was is : Chain T} {old new : Slots} {i rank : ℕ} (by : Writes i (λ n. record n { rank = rank }) old new was is) where
   -- the same at the root of a shape
   module _ (over link : Option ℕ) (side : Side) (near far : Shape) (k : ℕ) where
     pub Holds-reranked : times_in i near + times_in i far ≡ 0 → Holds old over link (fork side near i k far) → Holds new over link (fork side near i rank far)

@@ -45,9 +45,6 @@ module _ {P T I G : Type 0} where
   IsFresh-bare : (c : Chain (Node P T I G)) → IsFresh (bare c) → IsFresh c
   IsFresh-bare c h = h ∙ vacant_among-bare c.entries 1 c.capacity
 
-  bare_fresh : (c : Chain (Node P T I G)) → IsFresh c → IsFresh (bare c)
-  bare_fresh c h = h ∙ sym (vacant_among-bare c.entries 1 c.capacity)
-
   module _ (old new last : Chain (Node P T I G)) (place : Entry (Node P T I G) → List (Entry (Node P T I G))) (put : Entry T → List (Entry T)) (item : Node P T I G) (i g : ℕ)
       (same : (e : Entry (Node P T I G)) → map bare_entry (place e) ≡ put (bare_entry e)) (kept : bare last ≡ bare new) where
     bare_inserted : (vacant : List ℕ) → bare (inserted (record old { vacant = vacant }) place item) ≡ inserted (record (bare old) { vacant = vacant }) put item.t
@@ -64,7 +61,7 @@ module _ {P T I G : Type 0} where
       least = λ fresh k low high. is_some-bare old.entries k ∙ h.least (IsFresh-bare old fresh) k low high;
       generation = h.generation;
       after = kept ∙ ap bare h.after ∙ bare_inserted old.vacant;
-      fresh = λ fresh. subst (λ (c : Chain T). IsFresh c) (sym kept) (bare_fresh new (h.fresh (IsFresh-bare old fresh)));
+      fresh = λ fresh. subst (λ (c : Chain T). IsFresh c) (sym kept) (h.fresh (IsFresh-bare old fresh) ∙ sym (vacant_among-bare new.entries 1 new.capacity));
     }
 
 -- the tree that lies in a chain, grown from this shape
@@ -292,11 +289,13 @@ module _ {P T I G : Type 0} (number : I → ℕ) (c : Chain (Node P T I G)) (roo
       ∙ put_is (record { index = index; generation = era; item = leaf })
       ∙ ap (λ (i : ℕ). put_at number at c.entries (record { index = i; generation = era; item = leaf })) (sym x_is)
 
-  links_are : links_in leaf ≡ leaf_links (option_map (λ (p : Branch I). number p.parent) branch)
-  links_are = ap (links_in) leaf_is ∙ ap (λ (b : Option I). leaf_links (option_map number b)) back_is ∙ ap leaf_links (mapped-twice number branch)
-
   put : IsPut number branch c d at (record { index = number x; generation = era; item = leaf })
-  put = record { can = can; found = branch_is; entries = entries_are; links = links_are }
+  put = record {
+    can = can;
+    found = branch_is;
+    entries = entries_are;
+    links = ap links_in leaf_is ∙ ap (λ (b : Option I). leaf_links (option_map number b)) back_is ∙ ap leaf_links (mapped-twice number branch);
+  }
 
   x_free : entry_times (number x) c.entries ≡ 0
   x_free = ap (λ (i : ℕ). entry_times i c.entries) x_is ∙ insertion.vacant.free

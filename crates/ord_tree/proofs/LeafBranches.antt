@@ -4,11 +4,9 @@ use Rattle.std.proofs.lemmas.Grind.{common_steps}
 use Rattle.chain_base.specs.Chain.{Entry, entry_at, times as entry_times, link_between, IsDistinct}
 use Rattle.chain_base.specs.Link.{Link}
 use Rattle.chain_base.proofs.CallerLemmas.{entry-occurs}
-use Rattle.ord_tree.specs.{Node.indexes}
-use Rattle.ord_tree.specs.{Leaf.previous, Leaf.following, Leaf.neighbour_in, Leaf.beside, declared.tree_links.Branch.Branch}
+use Rattle.ord_tree.specs.{Node.indexes, Leaf.previous, Leaf.following, Leaf.neighbour_in, Leaf.beside, declared.tree_links.Branch.Branch}
 use Rattle.ord_tree.specs.{Slots.Slots, Slots.Holds, Slots.times, Slots.IsOnce, TreeLinks.other_side, TreeLinks.child_at}
-use Rattle.ord_tree.specs.{declared.tree_links.TreeLinks.TreeLinks, declared.tree_links.Side.Side, Shape.Shape, Shape.walk}
-use Rattle.ord_tree.specs.LeafBranch.{IsLeafBranch}
+use Rattle.ord_tree.specs.{declared.tree_links.TreeLinks.TreeLinks, declared.tree_links.Side.Side, Shape.Shape, Shape.walk, LeafBranch.IsLeafBranch}
 use Rattle.ord_tree.proofs.Neighbours.{neighbour_of, neighbour_is}
 
 module _ {T : Type 0} where

@@ -1,15 +1,16 @@
 -- The rotations after a removal, when the sibling is one below, and their account.
 use Rattle.std.proofs.Common.{◌≡◌, ◌≢◌, ℕ, ◌+◌, ◌-◌, ◌<◌, ◌≤◌, Option, Some, List, [], ◌∷◌, length, ◌^◌, arith, refl, sym, ◌∙◌, ap, subst, inl, is_some, true}
-use Rattle.ord_tree.specs.Slots.{Slots, Holds, plug, above, here, times_in, times_way, rank_at}
+use Rattle.chain_base.specs.Chain.{Chain}
+use Rattle.ord_tree.specs.Slots.{Slots, Holds, plug, above, here, times_in, times_way, rank_at, Writes}
 use Rattle.ord_tree.specs.{Shape.Shape, Shape.fork, Shape.rank_of, Shape.root_of, Shape.size_of, TreeLinks.other_side, TreeLinks.child_at}
 use Rattle.ord_tree.specs.{declared.tree_links.TreeLinks.TreeLinks, Balance.IsBalancedWay, declared.tree_links.Side.Side}
-use Rattle.ord_tree.specs.{Demote.IsDemoted, Demote.IsDemotedNode, Demote.IsLeaning, Promote.IsRepaired, Rotate.IsRotated}
+use Rattle.ord_tree.specs.{Demote.IsDemoted, Demote.IsLow, Demote.IsLeaning, Promote.IsRepaired, Rotate.IsRotated}
 use Rattle.ord_tree.proofs.Forks.{rank-fork, size-fork, size-plug, walk-ranked, walk-fork_near, walk-plug, HoldsFork-holds, Holds-fork, IsBalanced-fork, here-same, times_in-fork, apart-from}
 use Rattle.ord_tree.specs.Account.{potential_way, leaning_ranks, leaning_credit, IsSpelledWithin, IsDemotedWithin}
 use Rattle.ord_tree.proofs.Doubles.{root-some, rank_at-held, inner_root, rotated_once, middle_rank_is, site_below, site_above, rotated_twice}
 use Rattle.ord_tree.proofs.Potentials.{node_potential-full, node_potential-slack, node_potential-uneven, node_potential-tight, node_potential-most, potential-fork}
 use Rattle.ord_tree.proofs.{RankChanges.rank_here-other, RankChanges.rank_in-fork, RankChanges.names_but, LeafBranches.some_in}
-use Rattle.ord_tree.proofs.Frames.{Holds-frame, HoldsWay-frame, IsReranked, Holds-reranked, backs-ranked}
+use Rattle.ord_tree.proofs.Frames.{Holds-frame, HoldsWay-frame, Holds-reranked, backs-ranked}
 use Rattle.ord_tree.proofs.{Slack.IsRanked-balanced, Slack.rank-small, Halves.size_of-walk}
 
 module _ {old : Slots} {old_root : Option ℕ} {side : Side} {y s : ℕ} {order : List ℕ} (lean : IsLeaning old old_root side y s order) where
@@ -54,7 +55,8 @@ module _ {old : Slots} {old_root : Option ℕ} {side : Side} {y s : ℕ} {order 
       omega (arith, rank-fork side lean.site.outer lean.site.inner s lean.site.low, rank-small t (IsRanked-balanced 1 t balanced) few)
 
   -- both are demoted
-  module _ {mid new : Slots} (by_s : IsReranked old mid s (lean.site.low - 1)) (by_y : IsReranked mid new y (lean.site.high - 1)) where
+  module _ {T : Type 0} {first second third : Chain T} {mid new : Slots} (by_s : Writes s (λ n. record n { rank = lean.site.low - 1 }) old mid first second)
+      (by_y : Writes y (λ n. record n { rank = lean.site.high - 1 }) mid new second third) where
     pub total : (j : ℕ) → times_way j lean.site.way + times_in j lean.site.outer + here j s + times_in j lean.site.inner + here j y + times_in j lean.site.far ≤ 1
     total j = omega (arith, lean.site.apart j, times_in-fork j side (fork side lean.site.outer s lean.site.low lean.site.inner) lean.site.far y lean.site.high, times_in-fork j side lean.site.outer lean.site.inner s lean.site.low)
 
@@ -85,7 +87,7 @@ module _ {old : Slots} {old_root : Option ℕ} {side : Side} {y s : ℕ} {order 
     pub rank_both : rank_of (fork side lowered y (lean.site.high - 1) lean.site.far) ≡ lean.site.high - 1
     rank_both = rank-fork side lowered lean.site.far y (lean.site.high - 1)
 
-    abbrev pub demoted_both : rank_of lean.site.outer + 2 ≡ lean.site.low → rank_of lean.site.inner + 2 ≡ lean.site.low → IsDemotedNode new old_root y order
+    abbrev pub demoted_both : rank_of lean.site.outer + 2 ≡ lean.site.low → rank_of lean.site.inner + 2 ≡ lean.site.low → IsLow new old_root (Some y) order
     demoted_both outer inner =
         let site = lean.site in
         let whole = fork side lowered y (site.high - 1) site.far in
@@ -123,7 +125,7 @@ module _ {old : Slots} {old_root : Option ℕ} {side : Side} {y s : ℕ} {order 
                 ∙ backs-ranked by_y (some_in (old y) some_y).0 (by_s.elsewhere y (λ e. s≢y (sym e)) ∙ (some_in (old y) some_y).1) j;
           },
           record {
-            demoted = demoted_both outer inner;
+            state = demoted_both outer inner;
             named = y ∷ s ∷ [];
             within = omega (
               arith,

@@ -1,10 +1,9 @@
 -- What the arena below a tree shows at an index.
-use Rattle.std.proofs.Common.{◌≡◌, ℕ, Option, Some, None, IsSome, is_some, MatchOption, sym, ap, ◌∙◌, arith, option_map}
-use Rattle.std.proofs.lemmas.Grind.{common_steps}
+use Rattle.std.proofs.Common.{◌≡◌, ℕ, Option, Some, None, IsSome, is_some, MatchOption, sym, ap, ◌∙◌, option_map}
 use Rattle.chain_base.specs.{Chain.Chain, Chain.entry_at, Chain.link_at, Link.Link, PlainArena.Arena, PlainArena.slot}
 use Rattle.chain_base.proofs.CallerLemmas.{entry_at-link}
 use Rattle.ord_tree.specs.{declared.node.SimpleOrdArenaNode.SimpleOrdArenaNode as Node, Tree.Tree, Tree.IsArenaBelow, Tree.ShowsNode}
-use Rattle.ord_tree.proofs.{LeafBranches.is_some-mapped, Trees.is_some-bare}
+use Rattle.ord_tree.proofs.{LeafBranches.is_some-mapped, LeafBranches.none_of, Trees.is_some-bare}
 
 module _ {P T I G : Type 0} {t : Tree T} {a : Arena (Link (Node P T I G))} (arena : IsArenaBelow t a) where
   -- an index has an entry in the list if and only if its slot has one
@@ -21,8 +20,5 @@ module _ {P T I G : Type 0} {t : Tree T} {a : Arena (Link (Node P T I G))} (aren
 
   pub slot-looked_up : {X : Type 0} (f : X → ℕ × Link (Node P T I G)) (o : Option X) (i : ℕ) → option_map f o ≡ slot a i
       → MatchOption o (entry_at t.list.entries i ≡ None) (λ x. ShowsNode t i (f x).0 (f x).1)
-  slot-looked_up f None i is = vacant (entry_at t.list.entries i) (sym (occupied-alike i) ∙ ap is_some (sym is))
-    where
-      vacant : (o : Option (ℕ × T)) → is_some o ≡ is_some {T = ℕ × T} None → o ≡ None
-      vacant o none = grind (arith, common_steps)
+  slot-looked_up f None i is = none_of (entry_at t.list.entries i) (sym (occupied-alike i) ∙ ap is_some (sym is))
   slot-looked_up f (Some x) i is = slot-shown i (f x).0 (f x).1 (sym is)

@@ -1,9 +1,9 @@
 -- An entry that moves: from the tree without its node to the tree with it as a new leaf.
 use Rattle.std.proofs.Common.{arith, ◌≡◌, ◌≢◌, ℕ, ◌+◌, ◌<◌, Option, Some, None, List, [], ◌∷◌, ◌++◌, ◌∙◌, map, length, length-append, refl, sym, ap, subst, inl, inr, ⊎_elim, is_some, true, option_map}
 use Rattle.std.proofs.{lemmas.Grind.common_steps, lemmas.Bool.cases_eq, lemmas.Bool.ne_eqb}
-use Rattle.chain_base.specs.Chain.{Entry, Chain, entry_at, times as entry_times, without as entries_without}
+use Rattle.chain_base.specs.Chain.{Entry, Chain, entry_at, without as entries_without}
 use Rattle.chain_base.specs.{declared.chain.insert.LinkInsertKind.LinkInsertKind, Insert.placed, Insert.CanPlace, Move.with_entry_moved, Move.without_entry, Move.list_with}
-use Rattle.chain_base.proofs.CallerLemmas.{entry_at-without_other}
+use Rattle.chain_base.proofs.CallerLemmas.{entry_at-without_other, occurs-entry}
 use Rattle.ord_tree.specs.{declared.node.SimpleOrdArenaNode.SimpleOrdArenaNode as Node, Node.bare_entry, Node.bare, Node.entry_in, Node.links_in, Node.slots_of, Node.indexes}
 use Rattle.ord_tree.specs.{declared.tree_links.Side.TheVariants.Lesser, declared.tree_links.Side.TheVariants.Greater, declared.tree_links.Side.Side}
 use Rattle.ord_tree.specs.{declared.tree_links.TreeLinks.TreeLinks, declared.tree_links.Branch.Branch, Shape.Shape, Shape.walk}
@@ -12,8 +12,7 @@ use Rattle.ord_tree.specs.{LeafBranch.kind_at, LeafBranch.IsLeafBranch, Detach.w
 use Rattle.ord_tree.specs.{Slots.Slots, Slots.Holds, Slots.times, Slots.MovesBacks, Slots.Writes, Layout.shape_in, Layout.IsLaidOut}
 use Rattle.ord_tree.specs.{Promote.IsRepaired, Tree.put_on, Tree.CanPutAt, Move.IsRearranged, Move.IsAside}
 use Rattle.ord_tree.specs.{Potential.potential, Account.IsSpelledWithin, Account.NamesChanges, Account.rank_in, Account.ranks_without}
-use Rattle.ord_tree.proofs.Trees.{entry_at-bare, is_some-bare, indexes-bare, shape_in-held, IsLaidOut-held}
-use Rattle.ord_tree.proofs.Shrunk.{still_in}
+use Rattle.ord_tree.proofs.{Trees.entry_at-bare, Trees.is_some-bare, Trees.indexes-bare, Trees.shape_in-held, Trees.IsLaidOut-held, Shrunk.still_in}
 use Rattle.ord_tree.proofs.{Shrunk.bare-without, Shrunk.IsTakenOut, Shrunk.rest, Shrunk.rest_is, Shrunk.rest_fresh, Shrunk.rest_once, Shrunk.not_out, Spots.times-beside-ge, Spots.IsOnce-beside}
 use Rattle.ord_tree.proofs.{Puts.put-same, Puts.put-other, Puts.put-indexes, Puts.put-bare, Grown.placed-put, Grown.CanPlace-put}
 use Rattle.ord_tree.proofs.{LeafBranches.times-indexes, LeafBranches.within-occupied, LeafBranches.some_in, LeafBranches.is_some-mapped, Views.MovesAtMost-backs, Views.Holds-unique}
@@ -23,11 +22,6 @@ use Rattle.ord_tree.proofs.{RankChanges.NamesChanges-joined, RankChanges.Changes
 length-without_in : (i : ℕ) (xs : List ℕ) → 0 < times i xs → length (without i xs) + 1 ≡ length xs
 length-without_in i [] inside = absurd (omega arith)
 length-without_in i (x ∷ xs) inside = grind (arith, common_steps, length-without_in i xs)
-
--- an index in a list of entries is found there
-occupied-within : {T : Type 0} (es : List (Entry T)) (i : ℕ) → 0 < times i (indexes es) → is_some (entry_at es i) ≡ true
-occupied-within [] i inside = absurd (omega arith)
-occupied-within (e ∷ es) i inside = grind (arith, common_steps, occupied-within es i)
 
 -- a new index has the neighbour that the other index had on that side
 module _ (y x : ℕ) where
@@ -45,21 +39,19 @@ module _ (y x : ℕ) where
 
 -- the accounts of removing and inserting one entry, together: its own rank may change too
 module _ (s t : Shape) (x : ℕ) {at new : Slots} {root root' : Option ℕ} {order order' : List ℕ} (removal : IsSpelledWithin (ranks_without x s) at root order (potential s + 9)) where
-  pub both_accounts : removal.shape ≡ t → IsSpelledWithin (rank_in t) new root' order' (potential t + 4) → IsSpelledWithin (rank_in s) new root' order' (potential s + 14)
+  pub both_accounts : removal.state.shape ≡ t → IsSpelledWithin (rank_in t) new root' order' (potential t + 4) → IsSpelledWithin (rank_in s) new root' order' (potential s + 14)
   both_accounts same insertion =
-      let all = NamesChanges-joined removal.named insertion.named (ranks_without x s) (rank_in t) (rank_in insertion.shape)
+      let all = NamesChanges-joined removal.named insertion.named (ranks_without x s) (rank_in t) (rank_in insertion.state.shape)
       (subst (λ (u : Shape). NamesChanges removal.named (ranks_without x s) (rank_in u)) same removal.names) insertion.names in
       record {
-        shape = insertion.shape;
-        held = insertion.held;
-        listed = insertion.listed;
+        state = insertion.state;
         named = x ∷ removal.named ++ insertion.named;
         within = omega (arith, removal.within, insertion.within, ap potential same, length-append removal.named insertion.named);
         names = λ j. ⊎_elim (λ (is : j ≡ x). inl (inl is))
             (λ other. let was : ranks_without x s j ≡ rank_in s j = rw (ne_eqb j x other) refl in
             ⊎_elim (λ named. inl (inr named))
             (⊎_elim (λ (none : ranks_without x s j ≡ 0). inr (inl (sym was ∙ none)))
-            (λ (stays : ranks_without x s j ≡ rank_in insertion.shape j). inr (inr (sym was ∙ stays)))) (all j)) (cases_eq j x);
+            (λ (stays : ranks_without x s j ≡ rank_in insertion.state.shape j). inr (inr (sym was ∙ stays)))) (all j)) (cases_eq j x);
       }
 
 module _ {P T I G : Type 0} {c d : Chain (Node P T I G)} {root root' : Option ℕ} {x : ℕ} (out : IsTakenOut c root d root' x) where
@@ -84,16 +76,13 @@ module _ {P T I G : Type 0} {c d : Chain (Node P T I G)} {root root' : Option �
       abbrev entry : Entry (Node P T I G)
       entry = record { index = x; generation = e.0; item = e.1 }
 
-      left_free : entry_times x left ≡ 0
-      left_free = sym (times-indexes left x) ∙ ap (times x) (rest_is out) ∙ (rest_fresh out)
-
       abbrev put : List (Entry (Node P T I G))
       put = put_on at.1 y left entry
 
       -- every index has the same entry as before
       entry_at-put : (j : ℕ) → entry_at put j ≡ entry_at d.entries j
       entry_at-put j = ⊎_elim
-          (λ (same : j ≡ x). rw same (put-same at.1 left y y_left entry left_free ∙ sym has))
+          (λ (same : j ≡ x). rw same (put-same at.1 left y y_left entry (sym (times-indexes left x) ∙ ap (times x) (rest_is out) ∙ rest_fresh out) ∙ sym has))
           (λ (other : j ≢ x). put-other at.1 left y y_left entry j other ∙ entry_at-without_other d.entries x j other)
           (cases_eq j x)
 
@@ -144,7 +133,7 @@ module _ {P T I G : Type 0} {c d : Chain (Node P T I G)} {root root' : Option �
       y_within = omega (arith, ap (times y) (rest_is out), within-occupied left y y_left)
 
       pub y_in : is_some (entry_at m.entries y) ≡ true
-      y_in = occupied-within m.entries y (omega (arith, ap (times y) order_is, times-beside-ge at.1 y x y (rest out), y_within))
+      y_in = occurs-entry m.entries y (omega (arith, times-indexes m.entries y, ap (times y) order_is, times-beside-ge at.1 y x y (rest out), y_within))
 
       held_rest : Holds (slots_of m) None root' out.built.shape
       held_rest = Holds-frame (slots_of d) (slots_of m) out.built.shape None root' (λ j _. same_slots j) out.built.held
@@ -216,7 +205,7 @@ module _ {P T I G : Type 0} {c d : Chain (Node P T I G)} {root root' : Option �
             unfolding new_leaf
             account =
                 both_accounts (shape_in c root) out.built.shape x out.account
-                (Holds-unique (slots_of d) None root' out.account.shape out.built.shape out.account.held out.built.held) (accounts (rest out) 1 new_leaf)
+                (Holds-unique (slots_of d) None root' out.account.state.shape out.built.shape out.account.state.held out.built.held) (accounts (rest out) 1 new_leaf)
 
             pub rearranged : IsRearranged (shape_in c root) (shape_in q root'')
             rearranged =

@@ -4,10 +4,8 @@ use Rattle.std.proofs.{lemmas.Grind.common_steps, lemmas.Bool.eq-eqb}
 use Rattle.ord_tree.specs.declared.tree_links.Side.TheVariants.{Lesser, Greater}
 use Rattle.ord_tree.specs.Slots.{Slots, Holds, here, times, top, above, IsOnce}
 use Rattle.ord_tree.specs.{Shape.Shape, Shape.missing, Shape.node, Shape.root_of, Shape.walk, Leaf.previous, Leaf.following, Leaf.neighbour_in, Leaf.paired, Leaf.beside}
-use Rattle.ord_tree.specs.{TreeLinks.child_at, TreeLinks.other_side, declared.tree_links.Side.Side}
-use Rattle.ord_tree.specs.declared.tree_links.TreeLinks.{TreeLinks}
-use Rattle.ord_tree.proofs.Forks.{here-same, times-append, times-walk, link-root}
-use Rattle.ord_tree.proofs.Rotations.{ForkAt}
+use Rattle.ord_tree.specs.{TreeLinks.child_at, TreeLinks.other_side, declared.tree_links.Side.Side, declared.tree_links.TreeLinks.TreeLinks}
+use Rattle.ord_tree.proofs.{Forks.here-same, Forks.times-append, Forks.times-walk, Forks.link-root, Rotations.ForkAt}
 use Rattle.ord_tree.proofs.Spots.{Spot, spot_in, spot_holds, around, beside-split}
 
 -- a list with this index at its end on a side

@@ -8,7 +8,7 @@ use Rattle.ord_tree.specs.{TreeLinks.other_side, TreeLinks.child_at, TreeLinks.w
 use Rattle.ord_tree.specs.declared.tree_links.TreeLinks.{TreeLinks}
 use Rattle.ord_tree.proofs.Forks.{rank-fork, here-same, apart-from, child-with_child, other_child-with_child, back-with_child, rank-with_child}
 use Rattle.ord_tree.proofs.Spots.{Spot, IsBare, bare_spot, bare_occupied, bare_whole, bare_total, bare_split, bare_first, bare_balanced, beside-split, IsOnce-beside, length-beside}
-use Rattle.ord_tree.proofs.{Frames.Holds-frame, Frames.HoldsWay-frame, Promoting.IsRepaired-after, RankChanges.IsSpelledWithin-before}
+use Rattle.ord_tree.proofs.{Frames.Holds-frame, Frames.HoldsWay-frame, Promoting.IsRepaired-after, RankChanges.IsWithin-before}
 use Rattle.ord_tree.proofs.{RankChanges.rank_in-fork, RankChanges.rank_in-plug, Potentials.node_potential-full, Potentials.potential-fork, Potentials.potential-plug}
 
 module _ {at : Slots} {root : Option ℕ} {side : Side} {y x : ℕ} {order : List ℕ} {slack : ℕ} (bud : IsNewLeaf at root side y x order slack) where
@@ -73,7 +73,7 @@ module _ {at : Slots} {root : Option ℕ} {side : Side} {y x : ℕ} {order : Lis
     attached done =
         let before = fork side missing y spot.rank spot.far in (
           IsRepaired-after backs-attached done.0,
-          IsSpelledWithin-before []
+          IsWithin-before []
               (λ j. inr (inr (omega (arith, ap (λ s. rank_in s j) (bare_whole bare), rank_in-plug j spot.way before, rank_in-fork j side missing spot.far y spot.rank))))
               (omega (
                 arith,

@@ -2,8 +2,7 @@
 use Rattle.std.proofs.Common.{◌≡◌, ℕ, ◌+◌, ◌≤◌, Option, None, List, length, arith, sym, ap}
 use Rattle.ord_tree.specs.Slots.{Slots, Holds, Way, plug, above, HoldsWay}
 use Rattle.ord_tree.specs.{Shape.Shape, Shape.fork, Shape.rank_of, Shape.walk, declared.tree_links.Side.Side}
-use Rattle.ord_tree.specs.{Balance.IsOver, Balance.IsBalanced, Balance.IsBalancedWay, Promote.IsBuilt}
-use Rattle.ord_tree.specs.{Potential.node_potential, Potential.potential}
+use Rattle.ord_tree.specs.{Balance.IsOver, Balance.IsBalanced, Balance.IsBalancedWay, Promote.IsBuilt, Potential.node_potential, Potential.potential}
 use Rattle.ord_tree.specs.Account.{potential_way, rank_here, rank_in, rank_way, NamesChanges, IsSpelledWithin}
 use Rattle.ord_tree.proofs.Forks.{rank-fork, Holds-plug, IsBalanced-fork, IsBalanced-plug}
 use Rattle.ord_tree.proofs.{Potentials.potential-fork, Potentials.potential-plug}
@@ -28,9 +27,7 @@ module _ {at : Slots} {root : Option ℕ} {way : Way} {order : List ℕ} where
     module _ {was : ℕ → ℕ} {credit : ℕ} (named : List ℕ) (names : NamesChanges named was (λ j. rank_way way j + rank_in s j)) where
       pub IsSpelledWithin-plugged : length named + potential_way way (rank_of s) + potential s ≤ credit → IsSpelledWithin was at root order credit
       IsSpelledWithin-plugged paid = record {
-        shape = plug way s;
-        held = held_whole;
-        listed = p.listed;
+        state = record { shape = plug way s; held = held_whole; listed = p.listed };
         named = named;
         within = omega (arith, paid, potential-plug way s);
         names = NamesChanges-same named was _ _ (λ j. sym (rank_in-plug j way s)) names;

@@ -1,19 +1,20 @@
 -- One step of the repair after an insertion, at a node that has risen, and its account: the potential pays for each step.
 use Rattle.std.proofs.Common.{◌≡◌, ◌≢◌, ℕ, ◌+◌, ◌*◌, ◌^◌, ◌<◌, ◌≤◌, Option, Some, None, List, [], ◌∷◌, length, arith, refl, sym, ◌∙◌, ap, subst, inl, inr, ⊎_elim, is_some, true}
 use Rattle.std.proofs.lemmas.Bool.{cases_eq}
-use Rattle.ord_tree.specs.Slots.{Slots, Holds, plug, above, here, times_in, times_way, Among, IsApart, back_at, rank_at}
+use Rattle.chain_base.specs.Chain.{Chain}
+use Rattle.ord_tree.specs.Slots.{Slots, Holds, plug, above, here, times_in, times_way, Among, IsApart, back_at, rank_at, Writes}
 use Rattle.ord_tree.specs.Shape.{Shape, fork, rank_of, root_of, size_of, walk}
 use Rattle.ord_tree.specs.Promote.{IsRising, IsSteep, IsRepaired, IsPromoted}
 use Rattle.ord_tree.specs.Account.{rank_in, rank_way, potential_way, NamesChanges, pending_change, IsSpelledWithin, rising_ranks, rising_credit, steep_ranks, steep_credit, IsRisingWithin}
 use Rattle.ord_tree.specs.{Potential.potential, Balance.IsOver, Balance.IsBalanced, Balance.IsBalancedWay, declared.tree_links.Side.Side}
 use Rattle.ord_tree.specs.{TreeLinks.other_side, TreeLinks.child_at, declared.tree_links.TreeLinks.TreeLinks}
 use Rattle.ord_tree.proofs.Forks.{rank-fork, size-plug, walk-ranked, walk-plug, link-root, root_holds, IsBalanced-fork, here-same, here-other, IsApart-once, apart-from}
-use Rattle.ord_tree.proofs.Frames.{IsLast, IsUnder, under, not_far, no_step, root-in, HoldsWay-frame, IsReranked, Holds-reranked, backs-ranked}
+use Rattle.ord_tree.proofs.Frames.{IsLast, IsUnder, under, not_far, no_step, root-in, HoldsWay-frame, Holds-reranked, backs-ranked}
 use Rattle.ord_tree.proofs.{Slack.IsRanked-balanced, Slack.rank-small, Slack.IsUneven-fork, Slack.fork_uneven, Rotations.occupied-link, Views.MovesBacks-same}
 use Rattle.ord_tree.proofs.{Doubles.IsJoint, Doubles.Forked, Doubles.forked, Doubles.forked_rank, Doubles.forked_listed, Doubles.site_of, Doubles.rank_at-held, Halves.size_of-walk}
 use Rattle.ord_tree.proofs.Plugs.{IsPlugged, IsBuilt-plugged, IsSpelledWithin-plugged, IsBuilt-fork, IsSpelledWithin-fork}
 use Rattle.ord_tree.proofs.Potentials.{node_potential-full, node_potential-uneven, node_potential-tight, potential-fork}
-use Rattle.ord_tree.proofs.RankChanges.{rank_here-next, rank_way-absent, rank_in-root, rank_in-fork, names_but, pending_or_new, pending-least, IsSpelledWithin-before}
+use Rattle.ord_tree.proofs.RankChanges.{rank_here-next, rank_way-absent, rank_in-root, rank_in-fork, names_but, pending_or_new, pending-least, IsWithin-before}
 
 -- only the rank of y may differ
 names_pending : (y low : ℕ) (was is : ℕ → ℕ) → was y ≡ low → ((j : ℕ) → j ≢ y → was j ≡ is j) → NamesChanges (pending_change y low) was is
@@ -107,7 +108,7 @@ module _ {at : Slots} {root : Option ℕ} {y : ℕ} {order : List ℕ} {slack : 
         )
 
     -- a promotion: z, which was full, pays
-    module _ (new : Slots) (by : IsReranked at new z (last.rank + 1)) (equal : last.rank ≡ rising.low + 1) (sibling : rank_of last.far + 1 ≡ last.rank) where
+    module _ {T : Type 0} {first second : Chain T} (new : Slots) (by : Writes z (λ n. record n { rank = last.rank + 1 }) at new first second) (equal : last.rank ≡ rising.low + 1) (sibling : rank_of last.far + 1 ≡ last.rank) where
       abbrev raised : Shape
       raised = fork side rising.shape z (last.rank + 1) last.far
 
@@ -137,7 +138,7 @@ module _ {at : Slots} {root : Option ℕ} {y : ℕ} {order : List ℕ} {slack : 
               fits = omega (arith, rank_y, low-small);
             },
             record {
-              rising = rising_promoted;
+              state = rising_promoted;
               named = pending_change y rising.low;
               within = omega (
                 arith,
@@ -190,7 +191,7 @@ module _ {at : Slots} {root : Option ℕ} {y : ℕ} {order : List ℕ} {slack : 
           → IsSpelledWithin (rising_ranks rising) new root' order (rising_credit rising + 3)
       unfolding IsSteep-rising
       risen_steep paid =
-          IsSpelledWithin-before []
+          IsWithin-before []
           (λ j. inr (inr (omega (arith, ap (λ way. rank_way way j) last.is, ap (λ s. rank_in s j) split.is, rank_in-fork j side split.near split.far y split.rank))))
           (omega (
             arith,

@@ -3,9 +3,8 @@ use Rattle.std.proofs.Common.{arith, ◌≡◌, ◌≢◌, ℕ, Some, List, [], 
 use Rattle.std.proofs.lemmas.Grind.{common_steps}
 use Rattle.chain_base.specs.Chain.{Entry, entry_at, times as entry_times}
 use Rattle.chain_base.proofs.CallerLemmas.{entry_at-between, entry_at-between_other, Parted, insert_after-between, insert_before-between}
-use Rattle.ord_tree.specs.declared.tree_links.Side.TheVariants.{Lesser, Greater}
+use Rattle.ord_tree.specs.{declared.tree_links.Side.TheVariants.Lesser, declared.tree_links.Side.TheVariants.Greater, Leaf.beside, Tree.put_on}
 use Rattle.ord_tree.specs.{declared.node.SimpleOrdArenaNode.SimpleOrdArenaNode as Node, Node.indexes, Node.bare_entry, declared.tree_links.Side.Side}
-use Rattle.ord_tree.specs.{Leaf.beside, Tree.put_on}
 
 module _ {T : Type 0} where
   -- on either side, the entry is between two parts of the list

@@ -6,7 +6,7 @@ use Rattle.ord_tree.specs.Slots.{Holds, Way, top, up, plug, here, times, times_i
 use Rattle.ord_tree.proofs.{Forks.here-same, Forks.times-walk, Views.Holds-unique, Views.Contains-among, Views.Among-before, Views.Among-behind}
 use Rattle.ord_tree.specs.{Potential.potential, Ranks.HasRank, Potential.ChangesRanksWithin, Ranks.IsRanked, Account.IsSpelledWithin, Slots.Slots}
 use Rattle.ord_tree.specs.{Shape.Shape, Shape.missing, Shape.node, Shape.fork, Shape.root_of, Shape.rank_of, Shape.walk, declared.tree_links.Side.Side}
-use Rattle.ord_tree.specs.Account.{rank_here, rank_in, rank_way, NamesChanges, pending_change, rising_ranks, fallen_ranks, IsRisingWithin, IsFallenWithin, IsDemotedWithin}
+use Rattle.ord_tree.specs.Account.{rank_here, rank_in, rank_way, NamesChanges, IsWithin, pending_change}
 
 pub rank_here-same : (i k : ℕ) → rank_here i i k ≡ k
 rank_here-same i k = rw (eq-eqb i i refl) refl
@@ -58,39 +58,13 @@ pub NamesChanges-same : (named : List ℕ) (was f g : ℕ → ℕ) → ((j : ℕ
 NamesChanges-same named was f g same names j = subst (λ (k : ℕ). Among j named ⊎ (was j ≡ 0) ⊎ (was j ≡ k)) (same j) (names j)
 
 -- a change, and then a state with its account: the credit pays for both
-module _ {was is : ℕ → ℕ} (named : List ℕ) (names : NamesChanges named was is) {at : Slots} {root : Option ℕ} {order : List ℕ} {spent total : ℕ} (enough : length named + spent ≤ total) where
-  pub IsSpelledWithin-before : IsSpelledWithin is at root order spent → IsSpelledWithin was at root order total
-  IsSpelledWithin-before paid = record {
-    shape = paid.shape;
-    held = paid.held;
-    listed = paid.listed;
+module _ {was is : ℕ → ℕ} (named : List ℕ) (names : NamesChanges named was is) {spent total : ℕ} (enough : length named + spent ≤ total) {S : Type 0} {ranks : S → ℕ → ℕ} {needs : S → ℕ} where
+  pub IsWithin-before : IsWithin is ranks needs spent → IsWithin was ranks needs total
+  IsWithin-before paid = record {
+    state = paid.state;
     named = named ++ paid.named;
     within = omega (arith, enough, paid.within, length-append named paid.named);
-    names = NamesChanges-joined named paid.named was is (rank_in paid.shape) names paid.names;
-  }
-
-  pub IsRisingWithin-before : {z slack : ℕ} → IsRisingWithin is at root z order slack spent → IsRisingWithin was at root z order slack total
-  IsRisingWithin-before next = record {
-    rising = next.rising;
-    named = named ++ next.named;
-    within = omega (arith, enough, next.within, length-append named next.named);
-    names = NamesChanges-joined named next.named was is (rising_ranks next.rising) names next.names;
-  }
-
-  pub IsFallenWithin-before : {z : ℕ} {side : Side} → IsFallenWithin is at root z side order spent → IsFallenWithin was at root z side order total
-  IsFallenWithin-before next = record {
-    fallen = next.fallen;
-    named = named ++ next.named;
-    within = omega (arith, enough, next.within, length-append named next.named);
-    names = NamesChanges-joined named next.named was is (fallen_ranks next.fallen) names next.names;
-  }
-
-  pub IsDemotedWithin-before : {y : ℕ} → IsDemotedWithin is at root y order spent → IsDemotedWithin was at root y order total
-  IsDemotedWithin-before l = record {
-    demoted = l.demoted;
-    named = named ++ l.named;
-    within = omega (arith, enough, l.within, length-append named l.named);
-    names = NamesChanges-joined named l.named was is (λ j. rank_way l.demoted.way j + rank_in l.demoted.shape j) names l.names;
+    names = NamesChanges-joined named paid.named was is (ranks paid.state) names paid.names;
   }
 
 -- for an index apart from all of these, A is true
@@ -148,13 +122,13 @@ rank-positive (node l j m r) i k ranked h =
 module _ (m : ℕ) (s t : Shape) {was : ℕ → ℕ} {at : Slots} {root : Option ℕ} {before order : List ℕ} (listed : walk s ≡ before) (once : IsOnce before) (ranked : IsRanked s)
     (held : Holds at None root t) (once' : IsOnce order) (stays : (j : ℕ) → 0 < times j order → was j ≡ rank_in s j) where
   pub ChangesRanksWithin-spelled : IsSpelledWithin was at root order (potential s + m) → ChangesRanksWithin m s t
-  ChangesRanksWithin-spelled paid = subst (λ (t : Shape). ChangesRanksWithin m s t) (Holds-unique at None root paid.shape t paid.held held) (
+  ChangesRanksWithin-spelled paid = subst (λ (t : Shape). ChangesRanksWithin m s t) (Holds-unique at None root paid.state.shape t paid.state.held held) (
     paid.named,
     paid.within,
     λ i k l was_k is_l.
-        let count : times i order ≡ times_in i paid.shape = ap (times i) (sym paid.listed) ∙ times-walk i paid.shape in
-        let same = stays i (omega (arith, count, standing paid.shape i l is_l)) ∙ rank_in-standing s i k (omega (arith, once i, ap (times i) listed, times-walk i s)) was_k in
+        let count : times i order ≡ times_in i paid.state.shape = ap (times i) (sym paid.state.listed) ∙ times-walk i paid.state.shape in
+        let same = stays i (omega (arith, count, standing paid.state.shape i l is_l)) ∙ rank_in-standing s i k (omega (arith, once i, ap (times i) listed, times-walk i s)) was_k in
         ⊎_elim (λ among. inl (Contains-among i paid.named among))
         (⊎_elim (λ (none : was i ≡ 0). absurd (omega (arith, none, same, rank-positive s i k ranked was_k)))
-        (λ (e : was i ≡ rank_in paid.shape i). inr (sym same ∙ e ∙ rank_in-standing paid.shape i l (omega (arith, once' i, count)) is_l))) (paid.names i),
+        (λ (e : was i ≡ rank_in paid.state.shape i). inr (sym same ∙ e ∙ rank_in-standing paid.state.shape i l (omega (arith, once' i, count)) is_l))) (paid.names i),
   )

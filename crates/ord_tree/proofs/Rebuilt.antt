@@ -1,13 +1,11 @@
 -- A rebuild over a chain of nodes: what it requires of the chain, and what it does to the tree.
 use Rattle.std.proofs.Common.{◌≡◌, ℕ, ◌<◌, ◌≤◌, Option, Some, None, List, [], ◌∷◌, map, arith, refl, sym, ◌∙◌, ap, subst, is_some, true}
 use Rattle.std.proofs.{lemmas.Grind.common_steps, lemmas.Bool.ne_eqb}
-use Rattle.chain_base.specs.Pointer.{index_number}
-use Rattle.chain_base.specs.Chain.{Entry, Chain, entry_at, first_pointer, IsSound}
-use Rattle.chain_base.proofs.CallerLemmas.{occurs-entry}
+use Rattle.chain_base.specs.{Pointer.index_number, Chain.Entry, Chain.Chain, Chain.entry_at, Chain.first_pointer, Chain.IsSound}
+use Rattle.chain_base.proofs.{CallerLemmas.occurs-entry, ArenaLemmas.limit_of-below}
 use Rattle.ord_tree.specs.{Node.bare_entry, Node.bare, Node.links_in, Node.slots_of, Node.indexes, Slots.times, Slots.Holds, Slots.IsOnce}
-use Rattle.ord_tree.specs.{declared.node.SimpleOrdArenaNode.SimpleOrdArenaNode as Node, Layout.shape_in, Layout.IsLaidOut, Half.IsRebuilt}
 use Rattle.ord_tree.specs.Shape.{Shape, walk}
-use Rattle.chain_base.proofs.ArenaLemmas.{limit_of-below}
+use Rattle.ord_tree.specs.{declared.node.SimpleOrdArenaNode.SimpleOrdArenaNode as Node, Layout.shape_in, Layout.IsLaidOut, Half.IsRebuilt}
 use Rattle.ord_tree.proofs.LeafBranches.{is_some-mapped, times-indexes, within-occupied, IsOnce-distinct}
 use Rattle.ord_tree.proofs.{Trees.indexes-bare, Trees.shape_in-held, Trees.IsLaidOut-held, Halves.IsRanked-from_rebuilt}
 

@@ -1,19 +1,18 @@
 -- What the code of a removal finds at each of its steps.
-use Rattle.std.proofs.Common.{◌≡◌, ℕ, ◌+◌, ◌≤◌, Option, Some, None, List, [], ◌∷◌, ◌++◌, map, arith, refl, sym, ◌∙◌, ap, inr, option_map, is_some, true, false, append_assoc, MatchOption}
+use Rattle.std.proofs.Common.{◌≡◌, ℕ, ◌+◌, ◌≤◌, Option, Some, None, List, [], ◌∷◌, ◌++◌, map, arith, refl, sym, ◌∙◌, ap, subst, inr, option_map, is_some, true, append_assoc, MatchOption}
 use Rattle.std.proofs.lemmas.List.{map-append}
 use Rattle.std.specs.Option.{IsSomeAnd}
 use Rattle.ord_tree.specs.Slots.{Slots, Holds, Way, top, plug, above, HoldsWay, here, times}
 use Rattle.ord_tree.specs.Detach.{without, stand_in, renamed, IsLoose, CanStandIn, IsDetachable}
 use Rattle.ord_tree.specs.{declared.tree_links.Side.TheVariants.Lesser, declared.tree_links.Side.TheVariants.Greater, Promote.IsBuilt}
 use Rattle.ord_tree.specs.{Shape.Shape, Shape.fork, Shape.rank_of, Shape.walk, declared.tree_links.TreeLinks.TreeLinks, Demote.IsFallen}
-use Rattle.ord_tree.specs.{declared.tree_links.Branch.Branch, declared.tree_links.Side.Side, Balance.IsOver}
-use Rattle.ord_tree.proofs.Displacing.{potential-renamed, potential_way-renamed, rank_here-renamed, rank_in-renamed, rank_way-renamed, names_stood, renamed_way, renamed-fork, renamed-plug, rank-renamed, IsBalanced-renamed, IsBalancedWay-renamed, walk-renamed, map-absent, plug_held}
-use Rattle.ord_tree.specs.Potential.{node_potential}
+use Rattle.ord_tree.specs.{declared.tree_links.Branch.Branch, declared.tree_links.Side.Side, Balance.IsOver, Potential.node_potential}
 use Rattle.ord_tree.specs.Account.{rank_in, leaf_reserve, ranks_without, fallen_ranks, IsSpelledWithin, IsFallenWithin}
+use Rattle.ord_tree.proofs.Displacing.{potential-renamed, potential_way-renamed, rank_here-renamed, rank_in-renamed, rank_way-renamed, names_stood, renamed_way, renamed-fork, renamed-plug, rank-renamed, IsBalanced-renamed, IsBalancedWay-renamed, walk-renamed, map-absent, plug_held}
 use Rattle.ord_tree.proofs.Neighbours.{NeighbourIn, neighbour_of, neighbour_is, first-within}
 use Rattle.ord_tree.proofs.Forks.{Holds-plug, HoldsFork-holds, here-same, times-append, times-walk}
 use Rattle.ord_tree.proofs.{Cutting.without-split, Cutting.times-without, Cutting.length-without, Spots.Spot, Spots.spot_in}
-use Rattle.ord_tree.proofs.{Demoting.BuiltOrFallen, Demoting.PaidOrFallen, Standing.stand_in-same, RankChanges.IsSpelledWithin-before, RankChanges.IsFallenWithin-before}
+use Rattle.ord_tree.proofs.{Demoting.BuiltOrFallen, Demoting.PaidOrFallen, Standing.stand_in-same, RankChanges.IsWithin-before, LeafBranches.some_in}
 
 -- the second branch is the first with v in place of z
 abbrev pub IsRenamed : {I : Type 0} → (I → ℕ) → ℕ → ℕ → Option (Branch I) → Option (Branch I) → Type 0
@@ -150,21 +149,23 @@ module _ {old : Slots} {root : Option ℕ} {z : ℕ} {before : Option ℕ} {orde
           -- and the account
           module _ (s : Shape) (credit : ℕ) where
             built_paid : (total : ℕ) → credit + 1 ≤ total → IsSpelledWithin (ranks_without v s) mid root' (without v order) credit → IsSpelledWithin (ranks_without z s) new root'' (without z order) total
-            built_paid total enough paid = record {
-              shape = renamed z v paid.shape;
-              held = held paid.shape (stands paid.shape paid.held paid.listed);
-              listed = walk-renamed z v paid.shape ∙ ap (map (stand_in z v)) paid.listed ∙ order_renamed;
+            built_paid total enough paid = let p = paid.state in record {
+              state = record {
+                shape = renamed z v p.shape;
+                held = held p.shape (stands p.shape p.held p.listed);
+                listed = walk-renamed z v p.shape ∙ ap (map (stand_in z v)) p.listed ∙ order_renamed;
+              };
               named = v ∷ paid.named;
-              within = omega (arith, paid.within, potential-renamed z v paid.shape);
-              names = names_stood z v s paid.named (rank_in paid.shape) (rank_in (renamed z v paid.shape)) paid.names (λ j not_z not_v. rank_in-renamed z v j not_z not_v paid.shape);
+              within = omega (arith, paid.within, potential-renamed z v p.shape);
+              names = names_stood z v s paid.named (rank_in p.shape) (rank_in (renamed z v p.shape)) paid.names (λ j not_z not_v. rank_in-renamed z v j not_z not_v p.shape);
             }
 
             fallen_paid : (total : ℕ) → credit + 1 ≤ total → (y : ℕ) (side : Side) → IsFallenWithin (ranks_without v s) mid root' y side (without v order) credit
                 → IsFallenWithin (ranks_without z s) new root'' (stand_in z v y) side (without z order) total
             fallen_paid total enough y side up =
-                let f = up.fallen in
+                let f = up.state in
                 record {
-                  fallen = fallen_stood f;
+                  state = fallen_stood f;
                   named = v ∷ up.named;
                   within = omega (
                     arith,
@@ -192,7 +193,9 @@ module _ {old : Slots} {root : Option ℕ} {z : ℕ} {before : Option ℕ} {orde
               displaced_paid None None is h = built_paid total enough h
               displaced_paid None (Some q) is h = absurd cc
               displaced_paid (Some p) None is h = elim is [ ]
-              displaced_paid (Some p) (Some q) is h = rw (is.0, is.1) (fallen_paid total enough (number p.parent) p.side h)
+              displaced_paid (Some p) (Some q) is h =
+                  let F : ℕ → Side → Type 0 = λ y side. IsFallenWithin (ranks_without z s) new root'' y side (without z order) total in
+                  subst (λ (y : ℕ). F y q.side) (sym is.0) (subst (F (stand_in z v (number p.parent))) (sym is.1) (fallen_paid total enough (number p.parent) p.side h))
 
           module _ {I : Type 0} (number : I → ℕ) where
             pub displaced : (cut branch : Option (Branch I)) → IsRenamed number z v cut branch → BuiltOrFallen number mid root' (without v order) cut
@@ -205,19 +208,9 @@ module _ {old : Slots} {root : Option ℕ} {z : ℕ} {before : Option ℕ} {orde
 -- more credit
 pub paid_more : {I : Type 0} (number : I → ℕ) (was : ℕ → ℕ) (at : Slots) (root : Option ℕ) (order : List ℕ) (c d : ℕ) → c ≤ d → (on : Option (Branch I))
     → PaidOrFallen number was at root order c on → PaidOrFallen number was at root order d on
-paid_more number was at root order c d more None paid = IsSpelledWithin-before [] (λ j. inr (inr refl)) (omega arith) paid
-paid_more number was at root order c d more (Some b) up = IsFallenWithin-before [] (λ j. inr (inr refl)) (omega arith) up
-
--- an empty link, with numbers for indexes
-pub mapped_none : {I : Type 0} (number : I → ℕ) (o : Option I) → is_some o ≡ false → option_map number o ≡ None
-mapped_none number None e = refl
-mapped_none number (Some i) e = absurd cc
+paid_more number was at root order c d more None paid = IsWithin-before [] (λ j. inr (inr refl)) (omega arith) paid
+paid_more number was at root order c d more (Some b) up = IsWithin-before [] (λ j. inr (inr refl)) (omega arith) up
 
 -- a nonempty link, with numbers for indexes
 pub mapped : {I : Type 0} (number : I → ℕ) (o : Option I) → is_some o ≡ true → (j : ℕ) × option_map number o ≡ Some j
-mapped number None e = absurd cc
-mapped number (Some i) e = (number i, refl)
-
-pub unmapped : {I : Type 0} (number : I → ℕ) (o : Option I) (j : ℕ) → option_map number o ≡ Some j → is_some o ≡ true
-unmapped number None j e = absurd cc
-unmapped number (Some i) j e = refl
+mapped number o e = let some = some_in o e in (number some.0, ap (option_map number) some.1)

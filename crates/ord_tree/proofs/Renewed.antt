@@ -1,11 +1,11 @@
 -- A new pointer for an entry; the tree is unchanged.
 use Rattle.std.proofs.Common.{arith, ◌≡◌, ℕ, Option, Some, None, List, [], ◌∷◌, map, refl, sym, ◌∙◌, ap, is_some, option_map, OnSome, IfNone, subst}
-use Rattle.std.proofs.lemmas.Grind.{common_steps}
+use Rattle.std.proofs.{lemmas.Grind.common_steps, lemmas.Option.IfSome_then}
 use Rattle.chain_base.specs.{Generation.next_generation, PlainArena.item_if}
 use Rattle.chain_base.specs.Chain.{Entry, Chain, entry_at, item_of, with_generation, renewed}
 use Rattle.ord_tree.specs.{declared.node.SimpleOrdArenaNode.SimpleOrdArenaNode as Node, Layout.shape_in, Layout.tree_of, Layout.IsLaidOut}
 use Rattle.ord_tree.specs.Node.{bare_entry, bare, entry_in, indexes}
-use Rattle.ord_tree.proofs.Trees.{links_at, entry_at-bare, IsLaidOut-linked, shape_in-linked, either_option, on_some, if_none}
+use Rattle.ord_tree.proofs.Trees.{links_at, entry_at-bare, IsLaidOut-linked, shape_in-linked, either_option}
 
 module _ {P T I G : Type 0} where
   -- a pointer names an entry of the list if it names a node
@@ -47,10 +47,7 @@ module _ {P T I G : Type 0} where
       pub call_laid_out : IfNone o (new ≡ c) → IsLaidOut new root (shape_in new root)
       call_laid_out keeping =
           let L : Chain (Node P T I G) → Type 0 = λ c. IsLaidOut c root (shape_in c root) in
-          let A : Type 0 = L new in
-          either_option o A (on_some o (new ≡ renewed greatest c i) A renewing (λ e. subst L (sym e) IsLaidOut-renewed)) (if_none o (new ≡ c) A keeping (λ e. subst L (sym e) laid))
+          either_option o renewing keeping (λ (e : new ≡ renewed greatest c i). subst L (sym e) IsLaidOut-renewed) (λ (e : new ≡ c). subst L (sym e) laid)
 
       pub call_renewed : OnSome o (tree_of new root ≡ record (tree_of c root) { list = renewed greatest (bare c) i })
-      call_renewed =
-          on_some o (new ≡ renewed greatest c i) (tree_of new root ≡ record (tree_of c root) { list = renewed greatest (bare c) i }) renewing
-          (λ e. ap (λ (c : Chain (Node P T I G)). tree_of c root) e ∙ tree_of-renewed)
+      call_renewed = IfSome_then o renewing (λ _ (e : new ≡ renewed greatest c i). ap (λ (c : Chain (Node P T I G)). tree_of c root) e ∙ tree_of-renewed)

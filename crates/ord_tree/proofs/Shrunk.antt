@@ -4,13 +4,11 @@ use Rattle.std.proofs.{lemmas.Grind.common_steps, lemmas.List.length-map, lemmas
 use Rattle.chain_base.specs.Chain.{Entry, Chain, entry_at, link_at, IsSound, removed, without as entries_without}
 use Rattle.chain_base.specs.Link.{Link}
 use Rattle.ord_tree.specs.{Node.bare_entry, Node.bare, Node.entry_in, Node.links_in, Node.slots_of, Node.indexes, Shape.Shape, Shape.walk}
-use Rattle.ord_tree.specs.{declared.node.SimpleOrdArenaNode.SimpleOrdArenaNode as Node, Detach.without, Detach.IsDetachable, Leaf.previous}
 use Rattle.ord_tree.specs.{Slots.Holds, Slots.times, Slots.times_in, Slots.IsOnce, Slots.MovesBacks, Layout.shape_in, Layout.IsLaidOut, Promote.IsBuilt}
-use Rattle.ord_tree.specs.Tree.{IsShrunk}
-use Rattle.chain_base.proofs.ArenaLemmas.{limit_of-below}
-use Rattle.chain_base.proofs.CallerLemmas.{entry_at-link, entry_at-without_other}
+use Rattle.ord_tree.specs.{Tree.IsShrunk, Potential.potential, Account.IsSpelledWithin, Account.ranks_without}
+use Rattle.ord_tree.specs.{declared.node.SimpleOrdArenaNode.SimpleOrdArenaNode as Node, Detach.without, Detach.IsDetachable, Leaf.previous}
+use Rattle.chain_base.proofs.{ArenaLemmas.limit_of-below, CallerLemmas.entry_at-link, CallerLemmas.entry_at-without_other}
 use Rattle.ord_tree.proofs.{Trees.entry_at-bare, Trees.is_some-bare, Trees.indexes-bare, Trees.shape_in-held, Trees.IsLaidOut-held, Views.MovesAtMost-backs}
-use Rattle.ord_tree.specs.{Potential.potential, Account.IsSpelledWithin, Account.ranks_without}
 use Rattle.ord_tree.proofs.{RankChanges.ChangesRanksWithin-spelled, Cutting.times-without}
 use Rattle.ord_tree.proofs.{LeafBranches.IsOnce-distinct, LeafBranches.within-occupied, Slack.IsRanked-balanced, Slack.IsBalanced-ranked}
 use Rattle.ord_tree.proofs.{Forks.times-walk, Forks.apart-from, Frames.Holds-frame}
@@ -138,9 +136,6 @@ module _ {P T I G : Type 0} (c : Chain (Node P T I G)) (root : Option ℕ) (x : 
     taken_out =
         let can = detachable before is_before in
         record { kept = kept; built = builds _ can; backs = moves _ can; account = account _ can; once = can.once; few = can.few; there = occupied }
-
-    pub still_there : is_some (entry_at d.entries x) ≡ true
-    still_there = still_in taken_out
 
     -- the call, from what its steps ensure: the chain's result, with the item alone
     module _ (new : Chain (Node P T I G)) (gen : G → ℕ) (taken : G × Link (Node P T I G)) (answer : G × T)

@@ -45,8 +45,7 @@ nodes_over_rank (node l i k r) (suc zero) h b =
 nodes_over_rank (node l i k r) (suc (suc j)) h b =
     let lesser = nodes_over_rank l j h.1 (omega (arith, h.0.lesser, b)) in
     let greater = nodes_over_rank r j h.2 (omega (arith, h.0.greater, b)) in
-    let sum = square_of_sum (size_of l + 1) (size_of r + 1) (2 ^ suc (suc j)) lesser greater in
-    omega (arith, four_powers (suc (suc j)), sum)
+    omega (arith, four_powers (suc (suc j)), square_of_sum (size_of l + 1) (size_of r + 1) (2 ^ suc (suc j)) lesser greater)
 
 pub square-ge-power : RankSquareLaw
 square-ge-power missing h b = absurd (omega (arith, b))

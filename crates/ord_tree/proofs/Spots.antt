@@ -1,6 +1,6 @@
 -- The place of an index in a tree, and what is before and after it.
 use Rattle.std.proofs.Common.{◌≡◌, ◌≢◌, ℕ, ◌+◌, ◌<◌, ◌≤◌, Option, Some, None, is_some, true, List, [], ◌∷◌, ◌++◌, length, arith, refl, sym, ◌∙◌, ap, subst, ⊎_elim, append_assoc}
-use Rattle.std.proofs.{lemmas.Bool.cases_eq, lemmas.Bool.cases_lt, lemmas.Bool.eq-eqb, lemmas.Grind.common_steps}
+use Rattle.std.proofs.{lemmas.Bool.cases_eq, lemmas.Bool.cases_lt, lemmas.Bool.eq-eqb, lemmas.List.append-nil, lemmas.Grind.common_steps}
 use Rattle.ord_tree.specs.Slots.{Slots, Holds, Way, top, up, plug, above, HoldsWay, here, times, times_in, times_way, IsOnce}
 use Rattle.ord_tree.specs.declared.tree_links.Side.TheVariants.{Lesser, Greater}
 use Rattle.ord_tree.specs.{Shape.Shape, Shape.missing, Shape.node, Shape.fork, Shape.rank_of, Shape.walk, declared.tree_links.Side.Side}
@@ -73,11 +73,7 @@ pub record Around (way : Way) : Type 0 where
   pub is : (s : Shape) → walk (plug way s) ≡ before ++ (walk s ++ behind)
 
 pub around : (way : Way) → Around way
-around top = record { before = []; behind = []; is = λ s. sym (append-empty (walk s)) }
-  where
-    append-empty : (xs : List ℕ) → xs ++ [] ≡ xs
-    append-empty [] = refl
-    append-empty (x ∷ xs) = ap (λ ys. x ∷ ys) (append-empty xs)
+around top = record { before = []; behind = []; is = λ s. sym (append-nil (walk s)) }
 around (up Lesser i k far rest) =
     let a = around rest in
     record { before = a.before; behind = i ∷ (walk far ++ a.behind); is = λ s. a.is (node s i k far) ∙ ap (λ ys. a.before ++ ys) (append_assoc (walk s) (i ∷ walk far) a.behind) }

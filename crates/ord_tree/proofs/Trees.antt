@@ -6,40 +6,18 @@ use Rattle.std.specs.Option.{ForSome}
 use Rattle.chain_base.specs.{Generation.IsLawfulGeneration, PlainArena.times as times_among}
 use Rattle.ord_tree.specs.{Layout.shape_in, Layout.tree_of, Layout.IsLaidOut, Layout.with_item_below, Layout.with_node_item}
 use Rattle.ord_tree.specs.Node.{bare_entry, bare, entry_in, links_in, slots_of, indexes}
-use Rattle.ord_tree.specs.Shape.{Shape, missing, node, size_of, height, walk}
+use Rattle.ord_tree.specs.{Shape.Shape, Shape.missing, Shape.node, Shape.size_of, Shape.height, Shape.walk, Tree.IsSoundTree, Tree.with_item}
 use Rattle.ord_tree.specs.{declared.node.SimpleOrdArenaNode.SimpleOrdArenaNode as Node, Slots.Slots, Slots.Holds}
-use Rattle.ord_tree.specs.Tree.{IsSoundTree, with_item}
 use Rattle.ord_tree.proofs.{Views.shape_under-held, Halves.size_of-walk, Frames.Holds-frame}
 
--- nodes with the same links form the same shape
-Holds-same : (old new : Slots) → ((j : ℕ) → new j ≡ old j) → (s : Shape) (over link : Option ℕ) → Holds old over link s → Holds new over link s
-Holds-same old new same s over link h = Holds-frame old new s over link (λ j _. same j) h
+-- what follows from either outcome of a result or of an option
+pub either_result : {X Y A B C : Type 0} (r : Result X Y) → OnOk r A → OnErr r B → (A → C) → (B → C) → C
+either_result (Ok x) ok err f g = f ok
+either_result (Err y) ok err f g = g err
 
--- what holds for both outcomes of a result
-pub either_result : {X Y : Type 0} (r : Result X Y) (A : Type 0) → OnOk r A → OnErr r A → A
-either_result (Ok x) A ok err = ok
-either_result (Err y) A ok err = err
-
-pub on_ok : {X Y : Type 0} (r : Result X Y) (A B : Type 0) → OnOk r A → (A → B) → OnOk r B
-on_ok (Ok x) A B ok f = f ok
-on_ok (Err y) A B ok f = ok
-
-pub on_err : {X Y : Type 0} (r : Result X Y) (A B : Type 0) → OnErr r A → (A → B) → OnErr r B
-on_err (Ok x) A B err f = err
-on_err (Err y) A B err f = f err
-
--- what holds for both outcomes of an option
-pub either_option : {X : Type 0} (o : Option X) (A : Type 0) → OnSome o A → IfNone o A → A
-either_option None A some none = none
-either_option (Some x) A some none = some
-
-pub on_some : {X : Type 0} (o : Option X) (A B : Type 0) → OnSome o A → (A → B) → OnSome o B
-on_some None A B some f = some
-on_some (Some x) A B some f = f some
-
-pub if_none : {X : Type 0} (o : Option X) (A B : Type 0) → IfNone o A → (A → B) → IfNone o B
-if_none None A B none f = f none
-if_none (Some x) A B none f = none
+pub either_option : {X A B C : Type 0} (o : Option X) → OnSome o A → IfNone o B → (A → C) → (B → C) → C
+either_option None some none f g = g none
+either_option (Some x) some none f g = f some
 
 -- the height of a shape is at most its size
 pub height-le-size : (s : Shape) → height s ≤ size_of s
@@ -130,7 +108,7 @@ module _ {P T I G : Type 0} where
   module _ {U : Type 0} (c : Chain (Node P U I G)) (d : Chain (Node P T I G)) (root : Option ℕ) (links : (j : ℕ) → slots_of d j ≡ slots_of c j) (order : indexes d.entries ≡ indexes c.entries)
       (h : IsLaidOut c root (shape_in c root)) where
     held-linked : Holds (slots_of d) None root (shape_in c root)
-    held-linked = Holds-same (slots_of c) (slots_of d) links (shape_in c root) None root h.held
+    held-linked = Holds-frame (slots_of c) (slots_of d) (shape_in c root) None root (λ j _. links j) h.held
 
     pub shape_in-linked : shape_in d root ≡ shape_in c root
     shape_in-linked = shape_in-held d root (shape_in c root) held-linked (h.listed ∙ sym order)

@@ -1,10 +1,9 @@
 -- The amortized account of a repair, step by step: which ranks have changed, and what the potential has to pay for. No public clause
 -- cites this file.
-use Rattle.std.specs.Prelude.{◌≡◌, ℕ, zero, suc, ◌+◌, ◌-◌, ◌≤◌, ◌==◌, ◌⊎◌, if◌then◌else◌, Option, None, List, [], ◌∷◌, length}
+use Rattle.std.specs.Prelude.{◌≡◌, ℕ, zero, suc, ◌+◌, ◌-◌, ◌≤◌, ◌==◌, ◌⊎◌, if◌then◌else◌, Option, Some, None, List, [], ◌∷◌, length}
 use Rattle.ord_tree.specs.Slots.{Slots, Holds, Way, top, up, here, Among}
 use Rattle.ord_tree.specs.{Shape.Shape, Shape.missing, Shape.node, Shape.rank_of, Shape.walk, Potential.node_potential, Potential.potential, Promote.IsRising, Promote.IsSteep}
-use Rattle.ord_tree.specs.Demote.{IsFallen, IsLeaning, IsDemotedNode}
-use Rattle.ord_tree.specs.{declared.tree_links.Side.Side}
+use Rattle.ord_tree.specs.{Demote.IsFallen, Demote.IsLeaning, Demote.IsLow, declared.tree_links.Side.Side}
 
 -- the potential of the nodes on a path up to the root, with this rank at its end
 abbrev pub potential_way : Way → ℕ → ℕ
@@ -28,15 +27,23 @@ rank_way (up side i k far rest) j = rank_here j i k + rank_in far j + rank_way r
 abbrev pub NamesChanges : List ℕ → (ℕ → ℕ) → (ℕ → ℕ) → Type 0
 NamesChanges named was is = (j : ℕ) → Among j named ⊎ (was j ≡ 0) ⊎ (was j ≡ is j)
 
--- The nodes form a tree over `order`. The number of indexes whose ranks have changed since `was`, plus the potential, is at most the
--- credit.
-pub record IsSpelledWithin (was : ℕ → ℕ) (at : Slots) (root : Option ℕ) (order : List ℕ) (credit : ℕ) : Type 0 where
+-- a state of the tree: the number of indexes whose ranks have changed since `was`, plus the credit that the state needs, is at most
+-- the credit
+pub record IsWithin {S : Type 0} (was : ℕ → ℕ) (ranks : S → ℕ → ℕ) (needs : S → ℕ) (credit : ℕ) : Type 0 where
+  pub state : S
+  pub named : List ℕ
+  pub within : length named + needs state ≤ credit
+  pub names : NamesChanges named was (ranks state)
+
+-- the nodes form a tree over this list
+pub record IsSpelled (at : Slots) (root : Option ℕ) (order : List ℕ) : Type 0 where
   pub shape : Shape
   pub held : Holds at None root shape
   pub listed : walk shape ≡ order
-  pub named : List ℕ
-  pub within : length named + potential shape ≤ credit
-  pub names : NamesChanges named was (rank_in shape)
+
+-- it needs its potential
+abbrev pub IsSpelledWithin : (ℕ → ℕ) → Slots → Option ℕ → List ℕ → ℕ → Type 0
+IsSpelledWithin was at root order credit = IsWithin {S = IsSpelled at root order} was (λ s. rank_in s.shape) (λ s. potential s.shape) credit
 
 -- y, if its change from the rank low is still to be counted; nothing if y is new
 abbrev pub pending_change : ℕ → ℕ → List ℕ
@@ -63,12 +70,9 @@ module _ {at : Slots} {root : Option ℕ} {side : Side} {z y : ℕ} {order : Lis
   abbrev pub steep_credit : ℕ
   steep_credit = 1 + potential_way steep.site.way steep.site.high + potential steep.site.outer + potential steep.site.inner + potential steep.site.far
 
--- z has now risen; the changes so far, plus the credit that this state needs, are at most the credit
-pub record IsRisingWithin (was : ℕ → ℕ) (at : Slots) (root : Option ℕ) (z : ℕ) (order : List ℕ) (slack credit : ℕ) : Type 0 where
-  pub rising : IsRising at root z order slack
-  pub named : List ℕ
-  pub within : length named + rising_credit rising ≤ credit
-  pub names : NamesChanges named was (rising_ranks rising)
+-- z has now risen
+abbrev pub IsRisingWithin : (ℕ → ℕ) → Slots → Option ℕ → ℕ → List ℕ → ℕ → ℕ → Type 0
+IsRisingWithin was at root z order slack credit = IsWithin {S = IsRising at root z order slack} was (λ r. rising_ranks r) (λ r. rising_credit r) credit
 
 -- the reserve for an empty side: its node may become a leaf, which changes one rank and makes a full node
 abbrev pub leaf_reserve : ℕ → ℕ
@@ -103,16 +107,11 @@ module _ {at : Slots} {root : Option ℕ} {side : Side} {y s : ℕ} {order : Lis
       node_potential lean.site.low (rank_of lean.site.outer) (rank_of lean.site.inner) + potential lean.site.outer + potential lean.site.inner
       + potential lean.site.far + potential_way lean.site.way lean.site.high
 
--- y was demoted; the changes so far, plus the potential with y one higher as seen from its parent, are at most the credit
-pub record IsDemotedWithin (was : ℕ → ℕ) (at : Slots) (root : Option ℕ) (y : ℕ) (order : List ℕ) (credit : ℕ) : Type 0 where
-  pub demoted : IsDemotedNode at root y order
-  pub named : List ℕ
-  pub within : length named + potential_way demoted.way (rank_of demoted.shape + 1) + potential demoted.shape ≤ credit
-  pub names : NamesChanges named was (λ j. rank_way demoted.way j + rank_in demoted.shape j)
+-- y was demoted: this needs the potential with y one higher as seen from its parent
+abbrev pub IsDemotedWithin : (ℕ → ℕ) → Slots → Option ℕ → ℕ → List ℕ → ℕ → Type 0
+IsDemotedWithin was at root y order credit =
+    IsWithin {S = IsLow at root (Some y) order} was (λ d j. rank_way d.way j + rank_in d.shape j) (λ d. potential_way d.way (rank_of d.shape + 1) + potential d.shape) credit
 
--- this side of y has now fallen; the changes so far, plus the credit that this state needs, are at most the credit
-pub record IsFallenWithin (was : ℕ → ℕ) (at : Slots) (root : Option ℕ) (y : ℕ) (side : Side) (order : List ℕ) (credit : ℕ) : Type 0 where
-  pub fallen : IsFallen at root y side order
-  pub named : List ℕ
-  pub within : length named + fallen_credit fallen ≤ credit
-  pub names : NamesChanges named was (fallen_ranks fallen)
+-- this side of y has now fallen
+abbrev pub IsFallenWithin : (ℕ → ℕ) → Slots → Option ℕ → ℕ → Side → List ℕ → ℕ → Type 0
+IsFallenWithin was at root y side order credit = IsWithin {S = IsFallen at root y side order} was (λ f. fallen_ranks f) (λ f. fallen_credit f) credit

@@ -20,12 +20,12 @@ pub record IsFallen (at : Slots) (root : Option ℕ) (y : ℕ) (side : Side) (or
   pub once : IsOnce order
   pub few : length order < 2 ^ 64
 
--- the nodes would form a balanced tree over this list if y were one higher: y was demoted
-pub record IsDemotedNode (at : Slots) (root : Option ℕ) (y : ℕ) (order : List ℕ) : Type 0 where
+-- the nodes would form a balanced tree over this list if the shape at this link were one higher: its root was demoted, or removed
+pub record IsLow (at : Slots) (root link : Option ℕ) (order : List ℕ) : Type 0 where
   pub way : Way
   pub shape : Shape
-  pub held_way : HoldsWay at root way (Some y)
-  pub held : Holds at (above way) (Some y) shape
+  pub held_way : HoldsWay at root way link
+  pub held : Holds at (above way) link shape
   pub listed : walk (plug way shape) ≡ order
   pub balanced : IsBalanced 1 shape
   pub balanced_way : IsBalancedWay 1 way (rank_of shape + 1)
@@ -34,7 +34,7 @@ pub record IsDemotedNode (at : Slots) (root : Option ℕ) (y : ℕ) (order : Lis
 
 -- y was demoted by one; no node has another parent
 pub record IsDemoted (old new : Slots) (root : Option ℕ) (y : ℕ) (order : List ℕ) : Type 0 where
-  pub demoted : IsDemotedNode new root y order
+  pub demoted : IsLow new root (Some y) order
   pub rank : rank_of demoted.shape + 1 ≡ rank_at old (Some y)
   pub fits : rank_at old (Some y) < 256
   pub backs : (j : ℕ) → back_at old j ≡ back_at new j

@@ -1,9 +1,7 @@
 -- Removing a node: the list without it, and what takes its place. No public clause cites this file.
 use Rattle.std.specs.Prelude.{◌≡◌, ℕ, ◌^◌, ◌<◌, ◌≤◌, ◌==◌, if◌then◌else◌, Option, None, Some, List, [], ◌∷◌, length, IsSome}
-use Rattle.ord_tree.specs.Slots.{Slots, Holds, times, times_in, IsOnce, MovesBacks}
-use Rattle.ord_tree.specs.declared.tree_links.TreeLinks.{TreeLinks}
-use Rattle.ord_tree.specs.{Shape.Shape, Shape.missing, Shape.node, declared.tree_links.Side.Side, TreeLinks.child_at, Promote.IsBuilt}
-use Rattle.ord_tree.specs.Leaf.{previous}
+use Rattle.ord_tree.specs.{Slots.Slots, Slots.Holds, Slots.times, Slots.times_in, Slots.IsOnce, Slots.MovesBacks, declared.tree_links.TreeLinks.TreeLinks}
+use Rattle.ord_tree.specs.{Shape.Shape, Shape.missing, Shape.node, declared.tree_links.Side.Side, TreeLinks.child_at, Promote.IsBuilt, Leaf.previous}
 
 -- the list without this index
 abbrev pub without : ℕ → List ℕ → List ℕ

@@ -1,8 +1,7 @@
 -- A new leaf: its place in the list, and the state in which it is attached. No public clause cites this file.
 use Rattle.std.specs.Prelude.{◌≡◌, ℕ, ◌+◌, ◌^◌, ◌<◌, ◌==◌, if◌then◌else◌, Option, None, Some, List, [], ◌∷◌, length}
 use Rattle.ord_tree.specs.{declared.tree_links.Side.TheVariants.Lesser, declared.tree_links.Side.TheVariants.Greater, TreeLinks.child_at}
-use Rattle.ord_tree.specs.{declared.tree_links.TreeLinks.TreeLinks, Slots.Slots, Slots.times, Slots.IsOnce, declared.tree_links.Side.Side}
-use Rattle.ord_tree.specs.Promote.{IsBuilt}
+use Rattle.ord_tree.specs.{declared.tree_links.TreeLinks.TreeLinks, Slots.Slots, Slots.times, Slots.IsOnce, declared.tree_links.Side.Side, Promote.IsBuilt}
 
 -- two consecutive indexes, with x on that side of y
 abbrev pub paired : Side → ℕ → ℕ → List ℕ → List ℕ

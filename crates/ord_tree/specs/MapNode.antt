@@ -1,7 +1,6 @@
 -- How the item of a node is mapped. No public clause cites this file.
 use Rattle.std.specs.Prelude.{◌≡◌}
-use Rattle.chain_base.specs.InvalidationOption.{InvalidationOption}
-use Rattle.chain_base.specs.Invalidation.{allowed_value, is_overflow}
+use Rattle.chain_base.specs.{InvalidationOption.InvalidationOption, Invalidation.allowed_value, Invalidation.is_overflow}
 use Rattle.ord_tree.specs.declared.node.SimpleOrdArenaNode.{SimpleOrdArenaNode as Node}
 
 -- the call made the new item from the item of the removed node

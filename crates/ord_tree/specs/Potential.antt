@@ -1,7 +1,6 @@
 -- The potential of a shape (Sleator and Tarjan, "Amortized computational complexity", 1985), and the rank changes that it pays for.
 use Rattle.std.specs.Prelude.{◌≡◌, ℕ, ◌+◌, ◌≤◌, ◌==◌, ◌&&◌, ◌⊎◌, if◌then◌else◌, List, length, Contains}
-use Rattle.ord_tree.specs.Shape.{Shape, missing, node, rank_of}
-use Rattle.ord_tree.specs.Ranks.{HasRank}
+use Rattle.ord_tree.specs.{Shape.Shape, Shape.missing, Shape.node, Shape.rank_of, Ranks.HasRank}
 
 -- The potential of a node of rank k over sides of ranks l and r: 1 if it is full, with both rank differences 1; 3 if it is slack,
 -- with both differences 2; otherwise 0.

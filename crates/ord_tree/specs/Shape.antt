@@ -1,7 +1,6 @@
 -- Binary trees of indexes and ranks, which the nodes of an arena form together.
 use Rattle.std.specs.Prelude.{ℕ, ◌+◌, max, Option, None, Some, List, [], ◌∷◌, ◌++◌}
-use Rattle.ord_tree.specs.declared.tree_links.Side.TheVariants.{Lesser, Greater}
-use Rattle.ord_tree.specs.declared.tree_links.Side.{Side}
+use Rattle.ord_tree.specs.{declared.tree_links.Side.TheVariants.Lesser, declared.tree_links.Side.TheVariants.Greater, declared.tree_links.Side.Side}
 
 -- a binary tree: empty, or a node with its lesser side, its index, its rank and its greater side
 pub data Shape : Type 0 where

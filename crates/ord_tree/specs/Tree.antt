@@ -1,11 +1,9 @@
 -- A tree as its users see it: a list of entries, with a shape.
 use Rattle.std.specs.Prelude.{◌≡◌, ◌<◌, ℕ, Bool, Option, None, Some, IsSome, Result, IfOk, OnOk, List, [], ◌∷◌, length, refl}
 use Rattle.std.specs.Coded.{Coded, code_by, coded×, coded_ℕ, coded_list, coded_option}
-use Rattle.chain_base.specs.InvalidationOption.{InvalidationOption}
-use Rattle.chain_base.specs.ArenaCompression.{compressed_generation, compression_overflows}
+use Rattle.chain_base.specs.{InvalidationOption.InvalidationOption, ArenaCompression.compressed_generation, ArenaCompression.compression_overflows}
+use Rattle.chain_base.specs.{Insert.IsInsertion, Link.Link, PlainArena.Arena, Invalidation.is_overflow}
 use Rattle.chain_base.specs.Chain.{Entry, Chain, insert_after, insert_before, next_index, link_at, IsArenaOf, with_item as chain_with_item, IsOccupied, IsSound}
-use Rattle.chain_base.specs.{Insert.IsInsertion, Link.Link, PlainArena.Arena}
-use Rattle.chain_base.specs.Invalidation.{is_overflow}
 use Rattle.ord_tree.specs.{declared.node.SimpleOrdArenaNode.SimpleOrdArenaNode as Node, Shape.Shape, Shape.root_of, Shape.walk, Shape.missing, Slots.Holds}
 use Rattle.ord_tree.specs.{declared.tree_links.Side.Side, declared.tree_links.Side.TheVariants.Lesser, declared.tree_links.Side.TheVariants.Greater}
 use Rattle.ord_tree.specs.{Node.indexes, Node.bare, Node.slots_of, Half.IsRebuilt, Ranks.IsRanked, Ranks.IsTight, ShapeCode.shape_code, Parents.MovesAtMost, Potential.ChangesRanksWithin}

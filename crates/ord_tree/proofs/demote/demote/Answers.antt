@@ -9,7 +9,7 @@ returns-in_default g c =
     let number = g.N.Nodes.number in
     repairs (cc) (λ order fallen.
     let none = far-read number fallen _ c.other-other.ensures _ c.links-links.ensures _ (c.child-2.ensures _ c.links-links.ensures) ∙ ap (option_map number) c.in_default.is in
-    fallen_bare fallen (record { here = c.set_rank.ensures.here; elsewhere = c.set_rank.ensures.elsewhere }) none)
+    fallen_bare fallen c.set_rank.ensures none)
 
 pub returns-then-links-low-le2 : goal.returns-then-links-low-le2
 returns-then-links-low-le2 g c =
@@ -30,11 +30,10 @@ overflow_sub-links-2 g c =
 pub returns-then-links-sibling-eq2 : goal.returns-then-links-sibling-eq2
 returns-then-links-sibling-eq2 g c =
     let number = g.N.Nodes.number in
-    let written = c.set_rank-then-links-sibling-eq2.ensures in
     repairs (cc) (λ order fallen.
     let r = low-read number fallen _ c.other-other.ensures _ c.links-links.ensures _ (c.child.ensures _ c.links-links.ensures) _ c.rank_of-low.ensures in
     let s = sibling-read number fallen _ c.other-other.ensures _ c.links-links.ensures _ (c.child-2.ensures _ c.links-links.ensures) _ c.in-Some.is _ c.links-sibling.ensures in
-    fallen_slack fallen (omega (arith, r, fallen.over.lesser)) (record { here = written.here; elsewhere = written.elsewhere })
+    fallen_slack fallen (omega (arith, r, fallen.over.lesser)) c.set_rank-then-links-sibling-eq2.ensures
     (omega (arith, r, s, fallen.over.greater)) (omega (arith, r, fallen.over.lesser)))
 
 pub demote_or_rotate-requires : goal.demote_or_rotate-requires

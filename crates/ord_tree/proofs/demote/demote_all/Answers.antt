@@ -1,5 +1,5 @@
 use Rattle.std.proofs.Common.{◌∙◌, [], arith, refl, inr}
-use Rattle.ord_tree.proofs.{Promoting.IsRepaired-after, Steps.repairs, RankChanges.IsFallenWithin-before, RankChanges.IsSpelledWithin-before}
+use Rattle.ord_tree.proofs.{Promoting.IsRepaired-after, Steps.repairs, RankChanges.IsWithin-before}
 use Rattle.ord_tree.proofs.demote.demote_all.Goals as goal
 
 pub loop-next-smaller : goal.loop-next-smaller
@@ -16,7 +16,7 @@ loop-next-preserved g c = record {
       (next.fallen, λ j. now.1 j ∙ next.backs j);
   paid = λ order start.
       let on = c.loop-next.invariant.paid order start in
-      IsFallenWithin-before on.named on.names on.within (c.in-Some.ensures.account order on.fallen);
+      IsWithin-before on.named on.names on.within (c.in-Some.ensures.account order on.state);
   kept = cc;
 }
 
@@ -26,8 +26,8 @@ returns g c =
     let now = c.loop-next.invariant.fallen order fallen in
     let on = c.loop-next.invariant.paid order fallen in (
       IsRepaired-after now.1 (c.in_default.ensures.after order now.0),
-      IsSpelledWithin-before on.named on.names (omega (arith, on.within)) (c.in_default.ensures.account order on.fallen),
+      IsWithin-before on.named on.names (omega (arith, on.within)) (c.in_default.ensures.account order on.state),
     ))
 
 pub loop-next-init : goal.loop-next-init
-loop-next-init g c = record { fallen = λ order fallen. (fallen, λ j. refl); paid = λ order start. record { fallen = start; named = []; within = omega arith; names = λ j. inr (inr refl) }; kept = refl }
+loop-next-init g c = record { fallen = λ order fallen. (fallen, λ j. refl); paid = λ order start. record { state = start; named = []; within = omega arith; names = λ j. inr (inr refl) }; kept = refl }

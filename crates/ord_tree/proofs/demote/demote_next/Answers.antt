@@ -1,5 +1,4 @@
-use Rattle.ord_tree.proofs.Demoting.{demoted_occupied, parent_occupied, demoted_next}
-use Rattle.ord_tree.proofs.Steps.{repairs}
+use Rattle.ord_tree.proofs.{Demoting.demoted_occupied, Demoting.parent_occupied, Demoting.demoted_next, Steps.repairs}
 use Rattle.ord_tree.proofs.demote.demote_next.Goals as goal
 
 pub branch_of-requires-clause-occupied : goal.branch_of-requires-clause-occupied

@@ -22,9 +22,7 @@ returns-then-links-inner-eq2 g c =
     repairs (cc) (λ order lean.
     let r = site_read g.N.Nodes.number lean.site _ c.other-other.ensures _ c.links-links.ensures _ (c.child-2.ensures _ c.links-links.ensures) _ c.links-rank.ensures
     _ (c.child.ensures _ c.links-links.ensures) _ _ c.rank_of-outer.ensures c.rank_of-inner.ensures in
-    let first = rw r.low_is at c.set_rank.ensures in
-    let second = rw r.high_is at c.set_rank-then-links-inner-eq2.ensures in
-    both_demoted lean (record { here = first.here; elsewhere = first.elsewhere }) (record { here = second.here; elsewhere = second.elsewhere })
+    both_demoted lean (rw r.low_is at c.set_rank.ensures) (rw r.high_is at c.set_rank-then-links-inner-eq2.ensures)
     (omega (arith, r, lean.over)) (omega (arith, r)) (ap is_some c.links-links.ensures) (ap is_some c.links-rank.ensures))
 
 pub unwrap-a-requires : goal.unwrap-a-requires
@@ -38,18 +36,14 @@ unwrap-a-requires g c =
 
 pub rotate-requires-2 : goal.rotate-requires-2
 rotate-requires-2 g c =
-    let number = g.N.Nodes.number in
-    let site = c.requires.1.site in
-    let x_is = inner-read number site _ c.other-other.ensures _ c.links-links.ensures _ (c.child-3.ensures _ c.links-links.ensures) _ c.unwrap-a.ensures in
-    rw c.other-other.ensures (site_below site (number c.unwrap-a.result) x_is)
+    let x_is = inner-read g.N.Nodes.number c.requires.1.site _ c.other-other.ensures _ c.links-links.ensures _ (c.child-3.ensures _ c.links-links.ensures) _ c.unwrap-a.ensures in
+    rw c.other-other.ensures (site_below c.requires.1.site _ x_is)
 
 pub rotate-requires-3 : goal.rotate-requires-3
 rotate-requires-3 g c =
-    let number = g.N.Nodes.number in
     let site = c.requires.1.site in
-    let x = number c.unwrap-a.result in
-    let x_is = inner-read number site _ c.other-other.ensures _ c.links-links.ensures _ (c.child-3.ensures _ c.links-links.ensures) _ c.unwrap-a.ensures in
-    site_above site x x_is ((rw c.other-other.ensures at c.rotate-2.ensures).rotated (site_below site x x_is))
+    let x_is = inner-read g.N.Nodes.number site _ c.other-other.ensures _ c.links-links.ensures _ (c.child-3.ensures _ c.links-links.ensures) _ c.unwrap-a.ensures in
+    site_above site _ x_is ((rw c.other-other.ensures at c.rotate-2.ensures).rotated (site_below site _ x_is))
 
 pub returns : goal.returns
 returns g c =

@@ -1,8 +1,7 @@
-use Rattle.std.proofs.Common.{◌∙◌, ap, option_map, ◌+◌, arith, rules}
-use Rattle.ord_tree.specs.Potential.{potential}
-use Rattle.ord_tree.specs.TreeLinks.{as_numbers}
-use Rattle.ord_tree.proofs.Removing.{z_occupied, v_is, loose_v, can_stand, displaced, displaced_paid, loose_z, paid_more, mapped_none, mapped, unmapped}
-use Rattle.ord_tree.proofs.{Views.MovesBacks-then, Cutting.v_occupied, Steps.takes_out}
+use Rattle.std.proofs.Common.{sym, ◌∙◌, ap, is_some, option_map, ◌+◌, arith, rules}
+use Rattle.ord_tree.specs.{Potential.potential, TreeLinks.as_numbers}
+use Rattle.ord_tree.proofs.Removing.{z_occupied, v_is, loose_v, can_stand, displaced, displaced_paid, loose_z, paid_more, mapped}
+use Rattle.ord_tree.proofs.{Views.MovesBacks-then, Cutting.v_occupied, Steps.takes_out, LeafBranches.is_some-mapped, LeafBranches.none_of}
 use Rattle.ord_tree.proofs.detach.displace.Goals as goal
 
 pub links-requires : goal.links-requires
@@ -12,7 +11,7 @@ pub unwrap-v-requires : goal.unwrap-v-requires
 unwrap-v-requires g c =
     let number = g.N.Nodes.number in
     let some = mapped number c.links.result.lesser c.if-is_none.ensures in
-    unmapped number c.args.before _ (v_is c.requires.1 (as_numbers number c.links.result) c.links.ensures some.0 some.1)
+    sym (is_some-mapped number c.args.before) ∙ ap is_some (v_is c.requires.1 (as_numbers number c.links.result) c.links.ensures some.0 some.1)
 
 pub cut-branch-requires : goal.cut-branch-requires
 cut-branch-requires g c =
@@ -57,7 +56,7 @@ returns g c =
 pub returns-then-is_none : goal.returns-then-is_none
 returns-then-is_none g c =
     let number = g.N.Nodes.number in
-    let none = mapped_none number c.links.result.lesser (search rules) in
+    let none = ap (option_map number) (none_of c.links.result.lesser (search rules)) in
     takes_out (cc) (λ order can.
     let loose = loose_z can (as_numbers number c.links.result) c.links.ensures none in
     let moved = c.cut.ensures.taken.backs order loose in (

@@ -1,5 +1,5 @@
 use Rattle.std.proofs.Common.{◌≡◌, ◌≢◌, ◌+◌, sym, ◌∙◌, ap, option_map, arith}
-use Rattle.ord_tree.specs.{TreeLinks.as_numbers, Shape.rank_of}
+use Rattle.ord_tree.specs.Shape.{rank_of}
 use Rattle.ord_tree.proofs.Frames.{last_step}
 use Rattle.ord_tree.proofs.Promoting.{y_occupied, y_holds, risen_top, z_occupied, risen_below, low-small, promoted, IsSteep-rising, risen_steep, balanced_last}
 use Rattle.ord_tree.proofs.{Reading.ranks-read, Reading.beside-read, Reading.beside-occupied, Steps.repairs}
@@ -11,14 +11,11 @@ links-low-requires g c = y_occupied c.requires.2
 pub links-high-requires : goal.links-high-requires
 links-high-requires g c =
     let rising = c.requires.2 in
-    let number = g.N.Nodes.number in
-    let back = sym (y_holds rising (as_numbers number c.links-low.result) c.links-low.ensures).0 ∙ ap (option_map number) c.in-Some.is in
-    z_occupied rising (last_step rising.way (number c.in-Some.z) back).1
+    let back = sym (y_holds rising _ c.links-low.ensures).0 ∙ ap (option_map g.N.Nodes.number) c.in-Some.is in
+    z_occupied rising (last_step rising.way _ back).1
 
 pub returns-in_default : goal.returns-in_default
-returns-in_default g c =
-    let number = g.N.Nodes.number in
-    repairs (cc) (λ o rising. risen_top rising (sym (y_holds rising (as_numbers number c.links-low.result) c.links-low.ensures).0 ∙ ap (option_map number) c.in_default.is))
+returns-in_default g c = repairs (cc) (λ o rising. risen_top rising (sym (y_holds rising _ c.links-low.ensures).0 ∙ ap (option_map g.N.Nodes.number) c.in_default.is))
 
 pub returns-then-high-low : goal.returns-then-high-low
 returns-then-high-low g c =
@@ -49,8 +46,7 @@ returns-then-high-sibling-eq1 g c =
     let number = g.N.Nodes.number in
     repairs (cc) (λ o rising.
     let r = beside-read number rising _ _ c.links-low.ensures c.links-high.ensures (ap (option_map number) c.in-Some.is) _ c.side_of-side.ensures _ c.other.ensures _ (c.child.ensures _ c.links-high.ensures) _ c.rank_of-sibling.ensures in
-    let by = rw r.high_is at c.set_rank.ensures in
-    promoted rising r.last _ (record { here = by.here; elsewhere = by.elsewhere })
+    promoted rising r.last _ (rw r.high_is at c.set_rank.ensures)
     (omega (arith, r.high_is, r.low_is, (balanced_last rising r.last).0.lesser)) (omega (arith, r.high_is, r.sibling_is)))
 
 pub rotate_once_or_twice-requires : goal.rotate_once_or_twice-requires

@@ -1,5 +1,5 @@
 use Rattle.std.proofs.Common.{◌∙◌, [], arith, refl, inr}
-use Rattle.ord_tree.proofs.{Promoting.IsRepaired-after, Steps.repairs, RankChanges.IsRisingWithin-before, RankChanges.IsSpelledWithin-before}
+use Rattle.ord_tree.proofs.{Promoting.IsRepaired-after, Steps.repairs, RankChanges.IsWithin-before}
 use Rattle.ord_tree.proofs.promote.promote_all.Goals as goal
 
 pub loop-z-smaller : goal.loop-z-smaller
@@ -16,7 +16,7 @@ loop-z-preserved g c = record {
       (next.rising, λ j. now.1 j ∙ next.backs j);
   paid = λ order slack first.
       let on = c.loop-z.invariant.paid order slack first in
-      IsRisingWithin-before on.named on.names on.within (c.in-Some.ensures.account (order, slack) on.rising);
+      IsWithin-before on.named on.names on.within (c.in-Some.ensures.account (order, slack) on.state);
   kept = cc;
 }
 
@@ -26,8 +26,8 @@ returns g c =
     let now = c.loop-z.invariant.rising o.0 o.1 rising in
     let on = c.loop-z.invariant.paid o.0 o.1 rising in (
       IsRepaired-after now.1 (c.in_default.ensures.after o now.0),
-      IsSpelledWithin-before on.named on.names (omega (arith, on.within)) (c.in_default.ensures.account o on.rising),
+      IsWithin-before on.named on.names (omega (arith, on.within)) (c.in_default.ensures.account o on.state),
     ))
 
 pub loop-z-init : goal.loop-z-init
-loop-z-init g c = record { rising = λ order slack rising. (rising, λ j. refl); paid = λ order slack first. record { rising = first; named = []; within = omega arith; names = λ j. inr (inr refl) }; kept = refl }
+loop-z-init g c = record { rising = λ order slack rising. (rising, λ j. refl); paid = λ order slack first. record { state = first; named = []; within = omega arith; names = λ j. inr (inr refl) }; kept = refl }

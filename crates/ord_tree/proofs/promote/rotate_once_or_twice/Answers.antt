@@ -22,18 +22,14 @@ unwrap-x-requires g c =
 
 pub rotate-requires-2 : goal.rotate-requires-2
 rotate-requires-2 g c =
-    let number = g.N.Nodes.number in
-    let site = c.requires.2.site in
-    let x_is = inner-read number site _ c.other-other.ensures _ c.links-low.ensures _ (c.child-2.ensures _ c.links-low.ensures) _ c.unwrap-x.ensures in
-    rw c.other-other.ensures (site_below site (number c.unwrap-x.result) x_is)
+    let x_is = inner-read g.N.Nodes.number c.requires.2.site _ c.other-other.ensures _ c.links-low.ensures _ (c.child-2.ensures _ c.links-low.ensures) _ c.unwrap-x.ensures in
+    rw c.other-other.ensures (site_below c.requires.2.site _ x_is)
 
 pub rotate-requires-3 : goal.rotate-requires-3
 rotate-requires-3 g c =
-    let number = g.N.Nodes.number in
     let site = c.requires.2.site in
-    let x = number c.unwrap-x.result in
-    let x_is = inner-read number site _ c.other-other.ensures _ c.links-low.ensures _ (c.child-2.ensures _ c.links-low.ensures) _ c.unwrap-x.ensures in
-    site_above site x x_is ((rw c.other-other.ensures at c.rotate-2.ensures).rotated (site_below site x x_is))
+    let x_is = inner-read g.N.Nodes.number site _ c.other-other.ensures _ c.links-low.ensures _ (c.child-2.ensures _ c.links-low.ensures) _ c.unwrap-x.ensures in
+    site_above site _ x_is ((rw c.other-other.ensures at c.rotate-2.ensures).rotated (site_below site _ x_is))
 
 pub returns : goal.returns
 returns g c =

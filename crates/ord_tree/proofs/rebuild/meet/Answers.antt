@@ -1,18 +1,14 @@
 use Rattle.std.proofs.Common.{ℕ, ◌-◌, arith, ◌∙◌, ap, option_map, length, length-append, [], ◌∷◌}
-use Rattle.ord_tree.specs.Half.{half_rank}
-use Rattle.ord_tree.specs.declared.tree_links.TreeLinks.{TreeLinks}
+use Rattle.ord_tree.specs.{Half.half_rank, declared.tree_links.TreeLinks.TreeLinks}
 use Rattle.ord_tree.proofs.Rebuilding.{IsPlan-kept, next-run, next-room, next-some, next-there, next-link-there, bare-met, IsUnopened-met}
 use Rattle.ord_tree.proofs.rebuild.meet.Goals as goal
 
 pub set_links-requires : goal.set_links-requires
-set_links-requires g c =
-    let popped = rw c.unwrap-frame.ensures at c.pop.ensures.items in
-    next-there (next-run c.requires.2 c.requires.3 _ _ popped)
+set_links-requires g c = next-there (next-run c.requires.2 c.requires.3 _ _ (rw c.unwrap-frame.ensures at c.pop.ensures.items))
 
 pub hang-requires : goal.hang-requires
-hang-requires g c =
-    let popped = rw c.unwrap-frame.ensures at c.pop.ensures.items in
-    λ i e. c.set_links.ensures.occupied i ∙ next-link-there (next-run c.requires.2 c.requires.3 _ _ popped) i e
+hang-requires g c = λ i e.
+    c.set_links.ensures.occupied i ∙ next-link-there (next-run c.requires.2 c.requires.3 _ _ (rw c.unwrap-frame.ensures at c.pop.ensures.items)) i e
 
 pub number_of-requires : goal.number_of-requires
 number_of-requires g c =
@@ -36,9 +32,7 @@ returns-clause-bare g c =
     ap (option_map (λ (n : TreeLinks ℕ). n.greater)) (bare-met (next-run c.requires.2 c.requires.3 _ _ popped) rank_is c.set_links.ensures c.hang.ensures)
 
 pub returns-clause-some : goal.returns-clause-some
-returns-clause-some g c =
-    let popped = rw c.unwrap-frame.ensures at c.pop.ensures.items in
-    next-some (next-run c.requires.2 c.requires.3 _ _ popped)
+returns-clause-some g c = next-some (next-run c.requires.2 c.requires.3 _ _ (rw c.unwrap-frame.ensures at c.pop.ensures.items))
 
 pub returns-clause-fewer : goal.returns-clause-fewer
 returns-clause-fewer g c =
@@ -46,6 +40,4 @@ returns-clause-fewer g c =
     omega (arith, ap length popped, length-append c.pop.new.self.items (c.unwrap-frame.result ∷ []))
 
 pub returns-clause-room : goal.returns-clause-room
-returns-clause-room g c =
-    let popped = rw c.unwrap-frame.ensures at c.pop.ensures.items in
-    next-room (next-run c.requires.2 c.requires.3 _ _ popped)
+returns-clause-room g c = next-room (next-run c.requires.2 c.requires.3 _ _ (rw c.unwrap-frame.ensures at c.pop.ensures.items))

@@ -30,23 +30,20 @@ loop-init g c =
 
 pub unwrap-x-requires : goal.unwrap-x-requires
 unwrap-x-requires g c =
-    let order = indexes (g.N.Nodes.list c.args.nodes.now).entries in
-    let s = planned (g.N.Nodes.at c.args.nodes.now) order c.args.len c.top_rank-top.result c.requires.len c.ranges.len.fits c.requires.once c.requires.there c.top_rank-top.ensures in
+    let s = planned (g.N.Nodes.at c.args.nodes.now) _ c.args.len c.top_rank-top.result c.requires.len c.ranges.len.fits c.requires.once c.requires.there c.top_rank-top.ensures in
     sym (is_some-mapped g.N.Nodes.number c.loop.target) ∙ target-some (c.loop.invariant.passing s.0 s.1 s.3) (omega (arith, c.loop-test.true, c.requires.len))
 
 pub next-target-requires : goal.next-target-requires
 next-target-requires g c =
     let number = g.N.Nodes.number in
-    let order = indexes (g.N.Nodes.list c.args.nodes.now).entries in
-    let s = planned (g.N.Nodes.at c.args.nodes.now) order c.args.len c.top_rank-top.result c.requires.len c.ranges.len.fits c.requires.once c.requires.there c.top_rank-top.ensures in
+    let s = planned (g.N.Nodes.at c.args.nodes.now) _ c.args.len c.top_rank-top.result c.requires.len c.ranges.len.fits c.requires.once c.requires.there c.top_rank-top.ensures in
     let passing = c.loop.invariant.passing s.0 s.1 s.3 in
     target-there passing (c.loop.invariant.plan s.0 s.3) s.1 (target_of passing (number c.unwrap-x.result) (ap (option_map number) c.unwrap-x.ensures))
 
 pub pass-finished-requires : goal.pass-finished-requires
 pass-finished-requires g c =
     let number = g.N.Nodes.number in
-    let order = indexes (g.N.Nodes.list c.args.nodes.now).entries in
-    let s = planned (g.N.Nodes.at c.args.nodes.now) order c.args.len c.top_rank-top.result c.requires.len c.ranges.len.fits c.requires.once c.requires.there c.top_rank-top.ensures in
+    let s = planned (g.N.Nodes.at c.args.nodes.now) _ c.args.len c.top_rank-top.result c.requires.len c.ranges.len.fits c.requires.once c.requires.there c.top_rank-top.ensures in
     let is = target_of (c.loop.invariant.passing s.0 s.1 s.3) (number c.unwrap-x.result) (ap (option_map number) c.unwrap-x.ensures) in
     (s.0, is.rest, c.loop.invariant.plan s.0 s.3, is.ready)
 
@@ -64,6 +61,5 @@ loop-preserved g c =
 
 pub returns-clause-rebuilt : goal.returns-clause-rebuilt
 returns-clause-rebuilt g c =
-    let order = indexes (g.N.Nodes.list c.args.nodes.now).entries in
-    let s = planned (g.N.Nodes.at c.args.nodes.now) order c.args.len c.top_rank-top.result c.requires.len c.ranges.len.fits c.requires.once c.requires.there c.top_rank-top.ensures in
+    let s = planned (g.N.Nodes.at c.args.nodes.now) _ c.args.len c.top_rank-top.result c.requires.len c.ranges.len.fits c.requires.once c.requires.there c.top_rank-top.ensures in
     (s.0, s.1, s.2, Holds-passed (c.loop.invariant.passing s.0 s.1 s.3) (omega (arith, c.loop-test.false, c.requires.len)))

@@ -1,6 +1,5 @@
-use Rattle.std.proofs.Common.{◌≡◌, sym, ◌∙◌, ap, option_map}
+use Rattle.std.proofs.{Common.◌≡◌, Common.sym, Common.◌∙◌, Common.ap, Common.option_map, lemmas.Option.same_Some}
 use Rattle.ord_tree.specs.{TreeLinks.as_numbers, TreeLinks.child_at, Node.links_in}
-use Rattle.std.proofs.lemmas.Option.{same_Some}
 use Rattle.ord_tree.proofs.Reading.{same-link}
 use Rattle.ord_tree.proofs.store.ChainArenaSimpleOrdArenaNodeNodes.child.Goals.{in-Lesser, in-Greater}
 use Rattle.ord_tree.proofs.store.ChainArenaSimpleOrdArenaNodeNodes.child.Goals as goal

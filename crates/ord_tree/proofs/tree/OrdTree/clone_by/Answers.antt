@@ -1,8 +1,7 @@
 use Rattle.std.proofs.{Common.sym, Common.ap, Common.◌∙◌, Common.option_map, Common.rules, lemmas.Bool.false≢true}
 use Rattle.chain_base.specs.Chain.{Chain, chain_limit, greatest_index}
 use Rattle.ord_tree.specs.{Layout.tree_of, Tree.Tree}
-use Rattle.chain_base.proofs.CallerLemmas.{left-refused}
-use Rattle.chain_base.proofs.ArenaLemmas.{failed-clone, failed-clone-retold}
+use Rattle.chain_base.proofs.{CallerLemmas.left-refused, ArenaLemmas.failed-clone, ArenaLemmas.failed-clone-retold}
 use Rattle.ord_tree.proofs.{Cloning.name-cloned, Cloning.name-stopped, Cloning.laid-cloned, Cloning.clone-told, Cloning.refused-tree, Cloning.kept-tree, Trees.greatest_index-bare, Trees.IsSoundTree-laid_out}
 use Rattle.ord_tree.proofs.tree.OrdTree.clone_by.Goals as goal
 

@@ -8,9 +8,7 @@ pub invariant_of-self : goal.invariant_of-self
 invariant_of-self g c = IsLaidOut-entries c.self.inside.chain c.inc_generation.new.self _ (ap (λ (c : Chain _). c.entries) c.inc_generation.ensures.after) c.self.invariant
 
 pub returns : goal.returns
-returns g c =
-    let root = c.self.inside.root in
-    rw (← c.self.view_is) (record {
-      after = ap (λ (c : Chain _). tree_of c (option_map g.P.Inx.BasePtrInx.number root)) c.inc_generation.ensures.after;
-      overflow = c.inc_generation.ensures.overflow;
-    })
+returns g c = rw (← c.self.view_is) (record {
+  after = ap (λ (d : Chain _). tree_of d (option_map g.P.Inx.BasePtrInx.number c.self.inside.root)) c.inc_generation.ensures.after;
+  overflow = c.inc_generation.ensures.overflow;
+})

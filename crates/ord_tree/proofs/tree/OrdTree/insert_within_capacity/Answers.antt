@@ -1,6 +1,5 @@
 use Rattle.std.proofs.{Common.◌∙◌, Common.ap, Common.option_map, Common.arith, lemmas.Grind.common_steps}
-use Rattle.ord_tree.proofs.Grown.{CanPutAt-bare, CanPlace-put, call_allowed, call_grown, call_listed}
-use Rattle.ord_tree.proofs.Named.{inserted-named}
+use Rattle.ord_tree.proofs.{Grown.CanPutAt-bare, Grown.CanPlace-put, Grown.call_allowed, Grown.call_grown, Grown.call_listed, Named.inserted-named}
 use Rattle.ord_tree.proofs.tree.OrdTree.insert_within_capacity.Goals as goal
 
 pub branch_at-branch-requires : goal.branch_at-branch-requires

@@ -1,12 +1,9 @@
-use Rattle.std.proofs.Common.{◌≡◌, ◌∙◌, is_some, true, sym, option_map}
-use Rattle.chain_base.specs.Chain.{entry_at}
-use Rattle.ord_tree.specs.Node.{slots_of, indexes}
-use Rattle.ord_tree.specs.Detach.{without}
-use Rattle.ord_tree.specs.LeafBranch.{IsLeafBranch}
+use Rattle.std.proofs.Common.{◌∙◌, sym, option_map}
+use Rattle.ord_tree.specs.{Node.slots_of, Node.indexes, Detach.without, LeafBranch.IsLeafBranch}
 use Rattle.ord_tree.proofs.{Shrunk.IsTakenOut, Shrunk.taken_out, Shrunk.still_in, Shrunk.detachable, Trees.is_some-bare}
 use Rattle.ord_tree.proofs.Moving.{can_place, y_in, x_in, x_slot, aside, new_leaf, laid_again, list_moved, rearranged}
-use Rattle.ord_tree.proofs.tree.OrdTree.move_beside.Goals as goal
 use Rattle.ord_tree.proofs.tree.OrdTree.move_beside.Goals.{After-detach, After-branch_across-branch}
+use Rattle.ord_tree.proofs.tree.OrdTree.move_beside.Goals as goal
 
 pub node_at-z-requires : goal.node_at-z-requires
 node_at-z-requires g c = let held = rw (← c.self.view_is) at c.requires.entry in sym (is_some-bare c.self.inside.chain.entries _) ∙ held

@@ -1,6 +1,6 @@
 use Rattle.std.proofs.Common.{◌∙◌, sym, rules, option_map}
 use Rattle.chain_base.specs.Invalidation.{allowed_value}
-use Rattle.ord_tree.proofs.{Shrunk.detachable, Shrunk.still_there, Shrunk.removal, Shrunk.Removal, Trees.is_some-bare}
+use Rattle.ord_tree.proofs.{Shrunk.detachable, Shrunk.taken_out, Shrunk.still_in, Shrunk.removal, Shrunk.Removal, Trees.is_some-bare}
 use Rattle.ord_tree.proofs.tree.OrdTree.remove_entry.Goals as goal
 use Rattle.ord_tree.proofs.tree.OrdTree.remove_entry.Goals.{After-item_taken}
 
@@ -22,9 +22,9 @@ detach-requires g c =
 pub remove_entry-requires : goal.remove_entry-requires
 remove_entry-requires g c =
     let held = rw (← c.self.view_is) at c.requires in
-    still_there c.self.inside.chain (option_map g.P.Inx.BasePtrInx.number c.self.inside.root) _ c.self.invariant (sym (is_some-bare c.self.inside.chain.entries _) ∙ held)
+    still_in (taken_out c.self.inside.chain (option_map g.P.Inx.BasePtrInx.number c.self.inside.root) _ c.self.invariant (sym (is_some-bare c.self.inside.chain.entries _) ∙ held)
     g.P.Inx.BasePtrInx.most g.P.Gen.BasePtrGen.greatest c.len.ensures.sound g.met.P.Inx.BasePtrInx.fits _ (rw c.node_at-z.ensures at c.neighbour-before.ensures)
-    c.detach.new.nodes (option_map g.P.Inx.BasePtrInx.number c.detach.new.root) c.detach.ensures.kept (rw c.node_at-z.ensures at c.detach.ensures.after) (rw c.node_at-z.ensures at c.detach.ensures.backs) (rw c.node_at-z.ensures at c.detach.ensures.account)
+    c.detach.new.nodes (option_map g.P.Inx.BasePtrInx.number c.detach.new.root) c.detach.ensures.kept (rw c.node_at-z.ensures at c.detach.ensures.after) (rw c.node_at-z.ensures at c.detach.ensures.backs) (rw c.node_at-z.ensures at c.detach.ensures.account))
 
 -- the call
 removed : (g : _) (c : After-item_taken g) → Removal g.P.Gen.BasePtrGen.greatest c.self.inside.chain c.remove_entry.new.self (option_map g.P.Inx.BasePtrInx.number c.self.inside.root)

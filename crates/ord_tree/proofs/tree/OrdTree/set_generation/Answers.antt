@@ -8,6 +8,4 @@ pub invariant_of-self : goal.invariant_of-self
 invariant_of-self g c = IsLaidOut-entries c.self.inside.chain c.set_generation.new.self _ (ap (λ (c : Chain _). c.entries) c.set_generation.ensures) c.self.invariant
 
 pub returns : goal.returns
-returns g c =
-    let root = c.self.inside.root in
-    rw (← c.self.view_is) (ap (λ (c : Chain _). tree_of c (option_map g.P.Inx.BasePtrInx.number root)) c.set_generation.ensures)
+returns g c = rw (← c.self.view_is) (ap (λ (d : Chain _). tree_of d (option_map g.P.Inx.BasePtrInx.number c.self.inside.root)) c.set_generation.ensures)

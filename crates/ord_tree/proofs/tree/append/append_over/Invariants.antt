@@ -1,6 +1,5 @@
 use Rattle.std.proofs.Common.{◌≡◌, ◌+◌, ◌≤◌, ◌++◌, List, length}
-use Rattle.std.specs.List.{AllZip}
-use Rattle.std.specs.Vec.Iter.{into_iter_items, into_iter_len}
+use Rattle.std.specs.{List.AllZip, Vec.Iter.into_iter_items, Vec.Iter.into_iter_len}
 use Rattle.ord_tree.specs.{Append.Appends, Node.bare}
 use Rattle.ord_tree.proofs.tree.append.append_over.Given as goal
 

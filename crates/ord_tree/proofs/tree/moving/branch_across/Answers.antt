@@ -1,7 +1,6 @@
 use Rattle.std.proofs.{Common.◌∙◌, Common.sym, Common.ap, Common.is_some, Common.option_map, lemmas.Option.same_Some}
 use Rattle.ord_tree.specs.{TreeLinks.as_numbers, Node.slots_of}
-use Rattle.ord_tree.proofs.LeafBranches.{next_bud, IsLeafBranch-next, is_some-mapped, some_in}
-use Rattle.ord_tree.proofs.Reading.{child-read}
+use Rattle.ord_tree.proofs.{LeafBranches.next_bud, LeafBranches.IsLeafBranch-next, LeafBranches.is_some-mapped, LeafBranches.some_in, Reading.child-read}
 use Rattle.ord_tree.proofs.tree.moving.branch_across.Goals as goal
 
 pub unwrap-parent-requires : goal.unwrap-parent-requires
