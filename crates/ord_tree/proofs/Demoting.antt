@@ -140,7 +140,8 @@ module _ {at : Slots} {root : Option ℕ} {y : ℕ} {side : Side} {order : List 
       omega (arith, fallen.over.lesser, rank-small fallen.low (IsRanked-balanced 1 fallen.low fallen.balanced_low) few)
 
   -- y gets a rank lower by one
-  module _ {T : Type 0} {first second : Chain T} {new : Slots} {rank : ℕ} (by : Writes y (λ n. record n { rank = rank }) at new first second) (lower : rank + 1 ≡ fallen.rank) (over : IsOver 1 rank (rank_of fallen.low) (rank_of fallen.far))
+  module _ {T : Type 0} {first second : Chain T} {new : Slots} {rank : ℕ} (by : Writes y (λ n. record n { rank = rank }) at new first second)
+      (lower : rank + 1 ≡ fallen.rank) (over : IsOver 1 rank (rank_of fallen.low) (rank_of fallen.far))
       (paid : node_potential rank (rank_of fallen.low) (rank_of fallen.far) + 1 ≤ leaf_reserve (rank_of fallen.low) + node_potential fallen.rank (rank_of fallen.low + 1) (rank_of fallen.far)) where
     abbrev lowered : Shape
     lowered = fork side fallen.low y rank fallen.far
@@ -190,7 +191,8 @@ module _ {at : Slots} {root : Option ℕ} {y : ℕ} {side : Side} {order : List 
 
   module _ (low : rank_of fallen.low + 3 ≡ fallen.rank) where
     -- the sibling is two below, so y would be slack: its potential pays
-    pub fallen_slack : {T : Type 0} {first second : Chain T} {new : Slots} {rank : ℕ} → Writes y (λ n. record n { rank = rank }) at new first second → rank_of fallen.far + 2 ≡ fallen.rank → rank + 1 ≡ fallen.rank
+    pub fallen_slack : {T : Type 0} {first second : Chain T} {new : Slots} {rank : ℕ} → Writes y (λ n. record n { rank = rank }) at new first second
+        → rank_of fallen.far + 2 ≡ fallen.rank → rank + 1 ≡ fallen.rank
         → IsDemoted at new root y order × IsDemotedWithin (fallen_ranks fallen) new root y order (fallen_credit fallen)
     fallen_slack {rank = rank} by far lower =
         fallen_demoted by lower (omega (arith, fallen.over))

@@ -108,7 +108,8 @@ module _ {at : Slots} {root : Option ℕ} {y : ℕ} {order : List ℕ} {slack : 
         )
 
     -- a promotion: z, which was full, pays
-    module _ {T : Type 0} {first second : Chain T} (new : Slots) (by : Writes z (λ n. record n { rank = last.rank + 1 }) at new first second) (equal : last.rank ≡ rising.low + 1) (sibling : rank_of last.far + 1 ≡ last.rank) where
+    module _ {T : Type 0} {first second : Chain T} (new : Slots) (by : Writes z (λ n. record n { rank = last.rank + 1 }) at new first second)
+        (equal : last.rank ≡ rising.low + 1) (sibling : rank_of last.far + 1 ≡ last.rank) where
       abbrev raised : Shape
       raised = fork side rising.shape z (last.rank + 1) last.far
 

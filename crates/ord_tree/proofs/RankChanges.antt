@@ -58,7 +58,8 @@ pub NamesChanges-same : (named : List ℕ) (was f g : ℕ → ℕ) → ((j : ℕ
 NamesChanges-same named was f g same names j = subst (λ (k : ℕ). Among j named ⊎ (was j ≡ 0) ⊎ (was j ≡ k)) (same j) (names j)
 
 -- a change, and then a state with its account: the credit pays for both
-module _ {was is : ℕ → ℕ} (named : List ℕ) (names : NamesChanges named was is) {spent total : ℕ} (enough : length named + spent ≤ total) {S : Type 0} {ranks : S → ℕ → ℕ} {needs : S → ℕ} where
+module _ {was is : ℕ → ℕ} (named : List ℕ) (names : NamesChanges named was is) {spent total : ℕ} (enough : length named + spent ≤ total)
+    {S : Type 0} {ranks : S → ℕ → ℕ} {needs : S → ℕ} where
   pub IsWithin-before : IsWithin is ranks needs spent → IsWithin was ranks needs total
   IsWithin-before paid = record {
     state = paid.state;

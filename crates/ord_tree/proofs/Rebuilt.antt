@@ -22,12 +22,10 @@ module _ {P T I G : Type 0} (c : Chain (Node P T I G)) where
   pub entry-occupied : (i : ℕ) → is_some (slots_of c i) ≡ true → is_some (entry_at c.entries i) ≡ true
   entry-occupied i some = sym (is_some-mapped (λ (e : ℕ × Node P T I G). links_in e.1) (entry_at c.entries i)) ∙ some
 
-  pub slots-within : (i : ℕ) → 0 < times i (indexes c.entries) → is_some (slots_of c i) ≡ true
-  slots-within i some = is_some-mapped (λ (e : ℕ × Node P T I G). links_in e.1) (entry_at c.entries i) ∙ occurs-entry c.entries i (omega (arith, some, times-indexes c.entries i))
-
-  -- the same in the bare list
   pub slots-within_bare : (i : ℕ) → 0 < times i (indexes (map bare_entry c.entries)) → is_some (slots_of c i) ≡ true
-  slots-within_bare i some = slots-within i (rw (indexes-bare c.entries) at some)
+  slots-within_bare i some =
+      is_some-mapped (λ (e : ℕ × Node P T I G). links_in e.1) (entry_at c.entries i)
+      ∙ occurs-entry c.entries i (omega (arith, some, ap (times i) (indexes-bare c.entries), times-indexes c.entries i))
 
   pub IsOnce-bare : (most : ℕ) (greatest : Option ℕ) → IsSound most greatest c → IsOnce (indexes (map bare_entry c.entries))
   IsOnce-bare most greatest sound = rw (indexes-bare c.entries) (IsOnce-distinct c.entries sound.distinct)

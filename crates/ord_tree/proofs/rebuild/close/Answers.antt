@@ -1,11 +1,6 @@
 use Rattle.std.proofs.Common.{◌∙◌, arith}
 use Rattle.ord_tree.proofs.rebuild.close.Goals as goal
 
-pub close_one-requires : goal.close_one-requires
-close_one-requires g c =
-    let r = c.requires in
-    (r.0, r.1, r.2, c.loop-middle.invariant.plan r.0 r.1 r.3, c.loop-middle.invariant.finished r.0 r.1 r.2 r.3 r.4)
-
 pub loop-middle-preserved : goal.loop-middle-preserved
 loop-middle-preserved g c = record {
   plan = λ s top plan. (c.in-Some.ensures.step top).plan s (c.loop-middle.invariant.plan s top plan);

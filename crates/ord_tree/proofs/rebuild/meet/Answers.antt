@@ -1,4 +1,4 @@
-use Rattle.std.proofs.Common.{ℕ, ◌-◌, arith, ◌∙◌, ap, option_map, length, length-append, [], ◌∷◌}
+use Rattle.std.proofs.Common.{ℕ, ◌-◌, ◌∙◌, ap, option_map}
 use Rattle.ord_tree.specs.{Half.half_rank, declared.tree_links.TreeLinks.TreeLinks}
 use Rattle.ord_tree.proofs.Rebuilding.{IsPlan-kept, next-run, next-room, next-some, next-there, next-link-there, bare-met, IsUnopened-met}
 use Rattle.ord_tree.proofs.rebuild.meet.Goals as goal
@@ -33,11 +33,6 @@ returns-clause-bare g c =
 
 pub returns-clause-some : goal.returns-clause-some
 returns-clause-some g c = next-some (next-run c.requires.2 c.requires.3 _ _ (rw c.unwrap-frame.ensures at c.pop.ensures.items))
-
-pub returns-clause-fewer : goal.returns-clause-fewer
-returns-clause-fewer g c =
-    let popped = rw c.unwrap-frame.ensures at c.pop.ensures.items in
-    omega (arith, ap length popped, length-append c.pop.new.self.items (c.unwrap-frame.result ∷ []))
 
 pub returns-clause-room : goal.returns-clause-room
 returns-clause-room g c = next-room (next-run c.requires.2 c.requires.3 _ _ (rw c.unwrap-frame.ensures at c.pop.ensures.items))

@@ -4,6 +4,4 @@ use Rattle.ord_tree.proofs.store.ChainArenaSimpleOrdArenaNodeNodes.set_rank.Goal
 
 pub returns : goal.returns
 returns g c =
-    rw (← c.get.ensures.value) (Writes-entry c.args.self.now _ _ _ c.pair_mut-pair.ensures.value refl
-    (λ m. record m { rank = c.args.rank })
-    refl)
+    rw (← c.get.ensures.value) (Writes-entry c.args.self.now _ _ _ c.pair_mut-pair.ensures.value refl (λ m. record m { rank = c.args.rank }) refl)

@@ -7,7 +7,8 @@ use Rattle.ord_tree.proofs.tree.OrdTree.reallocate_min_capacity.Goals as goal
 pub invariant_of-self : goal.invariant_of-self
 invariant_of-self g c =
     let r = c.reallocate_min_capacity in
-    IsLaidOut-entries c.self.inside.chain r.new.self _ (either_result r.result r.ensures.ok r.ensures.err (ap (λ (c : Chain _). c.entries)) (ap (λ (c : Chain _). c.entries))) c.self.invariant
+    IsLaidOut-entries c.self.inside.chain r.new.self _
+    (either_result r.result r.ensures.ok r.ensures.err (ap (λ (c : Chain _). c.entries)) (ap (λ (c : Chain _). c.entries))) c.self.invariant
 
 pub returns : goal.returns
 returns g c =
