@@ -41,7 +41,7 @@ pub record IsSpelled (at : Slots) (root : Option ℕ) (order : List ℕ) : Type 
   pub held : Holds at None root shape
   pub listed : walk shape ≡ order
 
--- it needs its potential
+-- a tree over this list: it needs its potential
 abbrev pub IsSpelledWithin : (ℕ → ℕ) → Slots → Option ℕ → List ℕ → ℕ → Type 0
 IsSpelledWithin was at root order credit = IsWithin {S = IsSpelled at root order} was (λ s. rank_in s.shape) (λ s. potential s.shape) credit
 
@@ -70,7 +70,7 @@ module _ {at : Slots} {root : Option ℕ} {side : Side} {z y : ℕ} {order : Lis
   abbrev pub steep_credit : ℕ
   steep_credit = 1 + potential_way steep.site.way steep.site.high + potential steep.site.outer + potential steep.site.inner + potential steep.site.far
 
--- z has now risen
+-- z has now risen: this needs the credit of that state
 abbrev pub IsRisingWithin : (ℕ → ℕ) → Slots → Option ℕ → ℕ → List ℕ → ℕ → ℕ → Type 0
 IsRisingWithin was at root z order slack credit = IsWithin {S = IsRising at root z order slack} was (λ r. rising_ranks r) (λ r. rising_credit r) credit
 
@@ -110,8 +110,9 @@ module _ {at : Slots} {root : Option ℕ} {side : Side} {y s : ℕ} {order : Lis
 -- y was demoted: this needs the potential with y one higher as seen from its parent
 abbrev pub IsDemotedWithin : (ℕ → ℕ) → Slots → Option ℕ → ℕ → List ℕ → ℕ → Type 0
 IsDemotedWithin was at root y order credit =
-    IsWithin {S = IsLow at root (Some y) order} was (λ d j. rank_way d.way j + rank_in d.shape j) (λ d. potential_way d.way (rank_of d.shape + 1) + potential d.shape) credit
+    IsWithin {S = IsLow at root (Some y) order} was (λ d j. rank_way d.way j + rank_in d.shape j)
+    (λ d. potential_way d.way (rank_of d.shape + 1) + potential d.shape) credit
 
--- this side of y has now fallen
+-- this side of y has now fallen: this needs the credit of that state
 abbrev pub IsFallenWithin : (ℕ → ℕ) → Slots → Option ℕ → ℕ → Side → List ℕ → ℕ → Type 0
 IsFallenWithin was at root y side order credit = IsWithin {S = IsFallen at root y side order} was (λ f. fallen_ranks f) (λ f. fallen_credit f) credit
