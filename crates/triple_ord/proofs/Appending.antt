@@ -1,13 +1,12 @@
 -- An append of many items, one after another: what the list and the pointers are then.
-use Rattle.ord_tree.specs.Append.{AppendsOne, Appends}
+use Rattle.ord_tree.specs.{Append.AppendsOne, Append.Appends, Half.IsRebuilt}
 use Rattle.ord_tree.proofs.CallerLemmas.{numbers-one, numbers-appended}
 use Rattle.triple_ord.specs.Append.{Extends, AppendsAll}
-use Rattle.triple_ord.proofs.Words.{◌≡◌, ◌≢◌, ◌↔◌, ℕ, ◌+◌, ◌<◌, List, [], ◌∷◌, ◌++◌, Some, None, is_some, true, map, length, length-map, length-append, append-nil, append_assoc, refl, sym, ap, subst, ◌∙◌, arith, inl, inr, cases_eq, Result, Ok, Err}
+use Rattle.triple_ord.proofs.Words.{◌≡◌, ◌≢◌, ◌↔◌, ℕ, ◌+◌, ◌<◌, List, [], ◌∷◌, ◌++◌, Some, None, is_some, true, map, length, length-map, length-append, append-nil, append_assoc, refl, sym, ap, subst, ◌∙◌, arith, common_steps, inl, inr, cases_eq, Result, Ok, Err}
 use Rattle.triple_ord.proofs.Words.{Entry, Chain, Tree, missing, after-insertion, item_of, count, Updates}
 use Rattle.triple_ord.proofs.CallerLemmas.{inserted-new}
 use Rattle.std.proofs.lemmas.List.{map-append}
 use Rattle.std.specs.{List.AllZip, Prelude.OnOk, Prelude.OnErr, Prelude.IsErr, Prelude.IfErr, Prelude.Vec, Prelude.vec_len}
-use Rattle.ord_tree.specs.Half.{IsRebuilt}
 
 module _ {T : Type 0} where
   -- one item
@@ -68,10 +67,8 @@ module _ {T : Type 0} where
 
 -- items that are made of others alike are these
 pub same-zipped : {T : Type 0} (xs ys : List T) → AllZip (λ x y. y ≡ x) xs ys → ys ≡ xs
-same-zipped [] [] all = refl
-same-zipped [] (y ∷ ys) all = absurd all
-same-zipped (x ∷ xs) [] all = absurd all
 same-zipped (x ∷ xs) (y ∷ ys) all = let rest = same-zipped xs ys all.1 in let first = all.0 in cc
+same-zipped xs ys all = grind (arith, common_steps)
 
 -- what a call of the tree that may be refused means for pointers
 module _ {T B : Type 0} (old new : Tree T) (added : Vec T B) (len : vec_len added ≡ length added.items) where
@@ -98,13 +95,13 @@ module _ {T B : Type 0} (old new : Tree T) (added : Vec T B) (len : vec_len adde
       record {
         items = tt;
         found = tt;
-        capacity = ap (λ (t : Tree T). t.list.capacity) err;
-        generation = ap (λ (t : Tree T). t.list.generation) err;
         appends = tt;
         shape = tt;
+        count = tt;
+        capacity = ap (λ (t : Tree T). t.list.capacity) err;
+        generation = ap (λ (t : Tree T). t.list.generation) err;
         none = none;
         full = full;
         back = back;
         err = err;
-        count = tt;
       }

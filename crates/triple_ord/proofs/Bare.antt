@@ -67,15 +67,10 @@ module _ {P T I G : Type 0} where
     link_generation-under i = sym (generation_at-link c.entries i) ∙ generation_at-under i
 
     pub first_index-under : (i g : ℕ) → IsFirstIndex c.entries i g → IsFirstIndex t.list.entries i g
-    first_index-under i g h =
-        record { entry = sym (generation_at-under i) ∙ h.entry; least = λ k below. sym (times-under k) ∙ h.least k below }
+    first_index-under i g h = record { entry = sym (generation_at-under i) ∙ h.entry; least = λ k below. sym (times-under k) ∙ h.least k below }
 
     pub last_index-under : (i g : ℕ) → IsLastIndex c.entries i g → IsLastIndex t.list.entries i g
-    last_index-under i g h =
-        record { entry = sym (generation_at-under i) ∙ h.entry; greatest = λ k above. sym (times-under k) ∙ h.greatest k above }
-
-    pub none-under : (N : Type 0) → N ↔ (c.entries ≡ []) → N ↔ (length t.list.entries ≡ 0)
-    none-under N h = (λ n. sym length-under ∙ ap length (h.0 n), λ z. h.1 (nil_from_length c.entries (length-under ∙ z)))
+    last_index-under i g h = record { entry = sym (generation_at-under i) ∙ h.entry; greatest = λ k above. sym (times-under k) ∙ h.greatest k above }
 
     pub link_at-under : (i : ℕ) → option_map bare_link (link_at c.entries i) ≡ link_at t.list.entries i
     link_at-under i = sym (link_between-bare None None c.entries i) ∙ ap (λ (l : Chain T). link_at l.entries i) under.list

@@ -1,10 +1,8 @@
 -- For callers: what pointers find after each change of an ordered arena.
-use Rattle.std.specs.declared.alloc.AllocError.{AllocError}
+use Rattle.std.specs.{declared.alloc.AllocError.AllocError, Option.IsSomeAnd}
 use Rattle.ord_tree.specs.{ArenaClone.Grants, ArenaClone.IsShown, ReallocationError.ReallocationError, InvalidationOption.InvalidationOption}
-use Rattle.ord_tree.specs.ReallocationError.TheVariants.{BeyondMaxCapacity, AllocError as NoMemory}
-use Rattle.std.specs.Option.{IsSomeAnd}
-use Rattle.ord_tree.specs.{Chain.entry_at as entry_among, Chain.item_of as item_among, Chain.without, ChainClone.taken_over}
-use Rattle.ord_tree.specs.Clone.{ShowsItem, IsClone, IsRefusedClone}
+use Rattle.ord_tree.specs.{ReallocationError.TheVariants.BeyondMaxCapacity, ReallocationError.TheVariants.AllocError as NoMemory, Chain.entry_at as entry_among}
+use Rattle.ord_tree.specs.{Chain.item_of as item_among, Chain.without, ChainClone.taken_over, Clone.ShowsItem, Clone.IsClone, Clone.IsRefusedClone}
 use Rattle.triple_ord.proofs.Words.{OrdInsertionError, ◌≡◌, ◌≢◌, ℕ, ◌+◌, ◌≤◌, List, [], ◌∷◌, ◌++◌, length, Option, Some, None, IsSome, is_some, slice_get, map, length-append, IfSome, IfNone, OnSome, Ok, refl, sym, ap, subst, ◌∙◌, arith, inl}
 use Rattle.triple_ord.proofs.Words.{inr, beside, Place, into, over, IsPlace, aim_of, Growth, with_room_by, InsertsBy, with_kind, OrdEntryKind, New, Tree, IsGrown, with_item, Gap, with_between, Equal, pointer, FindsKey, FindsSimilar, Aim, at_key}
 use Rattle.triple_ord.proofs.Words.{Replacing, OrdInsertKind, item_of, items, count, Updates, Renews, FindsBy, IsOfGeneration, IsNumbered, eq-eqb, cases_eq, option_map, Ordering, next_generation, item_if, Entry, Chain, times, FindsNothing}
@@ -40,8 +38,7 @@ item_if-found g (Some e) there = (e.1, ap (λ k. Some (k, e.1)) (grind (arith, c
 module _ {T : Type 0} where
   -- if the entry at its index, if any, has the generation of p, another pointer finds nothing there
   item_of-other : (a : Tree T) (p q : ℕ × ℕ) → IfSome (entry_at a p.0) (λ e. e.0 ≡ p.1) → q.0 ≡ p.0 → q ≢ p → item_of a q ≡ None
-  item_of-other a p q has same apart =
-      rw same (item_if-other p.1 q.1 (entry_at a p.0) has (λ era. apart (ap (λ i. (i, q.1)) same ∙ ap (λ g. (p.0, g)) era)))
+  item_of-other a p q has same apart = rw same (item_if-other p.1 q.1 (entry_at a p.0) has (λ era. apart (ap (λ i. (i, q.1)) same ∙ ap (λ g. (p.0, g)) era)))
 
   -- a change at the index of the pointer that names the entry there, if any
   module _ (old new : Tree T) (p : ℕ × ℕ) (found : Option T) where
@@ -213,9 +210,8 @@ module _ {P T K : Type 0} (key : T → K) (cmp : K → K → Ordering) (most : �
   pub inserts-new : (answer : OrdEntryKind P × Option T) → InsertsBy key cmp most growth (behind_key k) numbers old item (Ok answer) new
       → IsNew (numbers (pointer_of_kind answer.0))
   inserts-new (New p, None) inserts = inserts
-  inserts-new (New p, Some before) inserts = absurd inserts
-  inserts-new (Replacing p, None) inserts = absurd inserts
   inserts-new (Replacing p, Some before) inserts = absurd inserts.place
+  inserts-new answer inserts = absurd inserts
 
 -- an insertion through a requested entry is one step over its place
 module _ {T K : Type 0} (key : T → K) (cmp : K → K → Ordering) where
@@ -262,13 +258,11 @@ module _ {T K : Type 0} (key : T → K) (cmp : K → K → Ordering) where
     -- the same by what the kind goes by; behind a key it is a new entry
     pub entry-inserts-by : (aim : Aim K) → aim_of number kind ≡ aim → InsertsThere numbers shown put arena item before new
         → InsertsBy key cmp most growth aim numbers old item (Ok (shown, before)) new
-    entry-inserts-by aim is there =
-        subst (λ (a : Aim K). InsertsBy key cmp most growth a numbers old item (Ok (shown, before)) new) is (entry-inserts there)
+    entry-inserts-by aim is there = subst (λ (a : Aim K). InsertsBy key cmp most growth a numbers old item (Ok (shown, before)) new) is (entry-inserts there)
 
     pub entry-inserts-new : (k : K) → aim_of number kind ≡ behind_key k → InsertsThere numbers shown put arena item before new
         → InsertsNew key cmp most growth (behind_key k) old item (numbers (pointer_of_kind shown)) new
-    entry-inserts-new k is there =
-        inserts-new key cmp most growth k numbers old item new (shown, before) (entry-inserts-by (behind_key k) is there)
+    entry-inserts-new k is there = inserts-new key cmp most growth k numbers old item new (shown, before) (entry-inserts-by (behind_key k) is there)
 
   -- the same by the item's key, as the pointer and the replaced item
   module _ {P I G : Type 0} (numbers : P → ℕ × ℕ) (number : I → ℕ) (growth : Growth) (most : ℕ) (old arena new : Tree T)
@@ -318,8 +312,7 @@ module _ {T K : Type 0} (key : T → K) (cmp : K → K → Ordering) (t : Tree T
 
     pub finds-key : (o : Option P) (c : ℕ) → FindsKey key cmp t.list.entries k (option_map numbers o) c → IfSome o (λ p. FindsBy key cmp t k (numbers p) Equal)
     finds-key None c found = tt
-    finds-key (Some p) c found =
-        finds_here found.0 (entry_at-after t.list.entries found.0 distinct found.2.gap found.2.here) p found.1 Equal found.2.equal
+    finds-key (Some p) c found = finds_here found.0 (entry_at-after t.list.entries found.0 distinct found.2.gap found.2.here) p found.1 Equal found.2.equal
 
 -- what pointers find after all entries were moved
 module _ {T : Type 0} (a : Tree T) (g : ℕ) where
@@ -348,8 +341,7 @@ module _ {P Q T U F : Type 0} (numbers_from : Q → ℕ × ℕ) (numbers_to : P 
     (step : F → Q → InvalidationOption U → P → T → F → Type 0) (g : ℕ) where
   items-counted : (es : List (Entry U)) (s t : Transferring F T) → FoldsTo (TransferStep numbers_from numbers_to greatest step g) s es t → length t.items ≡ length s.items + length es
   items-counted [] s t same = omega (arith, ap (λ (s : Transferring F T). length s.items) same)
-  items-counted (e ∷ es) s t calls =
-      omega (arith, items-counted es calls.0 t calls.2, ap length calls.1.behind, length-append s.items (calls.1.item ∷ []))
+  items-counted (e ∷ es) s t calls = omega (arith, items-counted es calls.0 t calls.2, ap length calls.1.behind, length-append s.items (calls.1.item ∷ []))
 
   module _ (f : F) (source left : Tree U) (old new : Tree T) (h : IsTransfer numbers_from numbers_to greatest step g f source.list left.list old.list new.list) where
     entries-transferred : new.list.entries ≡ numbered g 1 h.last.items
@@ -372,16 +364,12 @@ module _ {P Q T U F : Type 0} (numbers_from : Q → ℕ × ℕ) (numbers_to : P 
 -- A clone of an ordered arena whose calls each return the item that they are shown.
 module _ {P T F : Type 0} (numbers : P → ℕ × ℕ) (step : F → P → Bor T → Result T AllocError → F → Type 0)
     (answers : (f : F) (p : P) (u : Bor T) (x : T) (g : F) → step f p u (Ok x) g → x ≡ u.now) where
-  clone-cloned : (most : ℕ) (greatest : Option ℕ) (f : F) (source : Tree T) → IsSound most greatest source.list → (old new : Tree T) (last : F)
-      → IsClone numbers (IsShown step) f source old new last → new ≡ cloned source old
-  clone-cloned most greatest f source sound old new last h = ap (λ (l : Chain T). record { list = l; shape = new.shape })
+  pub clone-made : (most : ℕ) (greatest : Option ℕ) (f : F) (source : Tree T) → IsSound most greatest source.list → (old new : Tree T)
+      → (last : F) × IsClone numbers (IsShown step) f source old new last → new ≡ cloned source old
+  clone-made most greatest f source sound old new (last, h) = ap (λ (l : Chain T). record { list = l; shape = new.shape })
       (clone-same numbers (Grants numbers (ShowsItem step)) (λ f p u x g called. answers f p called.0 x g called.2 ∙ called.1) most greatest f
       source.list sound old.list new.list last h.list)
       ∙ ap (λ (s : Shape). record { list = taken_over source.list old.list source.list.entries; shape = s }) h.shape
-
-  pub clone-made : (most : ℕ) (greatest : Option ℕ) (f : F) (source : Tree T) → IsSound most greatest source.list → (old new : Tree T)
-      → (last : F) × IsClone numbers (IsShown step) f source old new last → new ≡ cloned source old
-  clone-made most greatest f source sound old new made = clone-cloned most greatest f source sound old new made.0 made.1
 
 -- if calls fail only for fallible items
 module _ {P T F : Type 0} (numbers : P → ℕ × ℕ) (step : F → P → Bor T → Result T AllocError → F → Type 0) (infallible : T → Type 0)

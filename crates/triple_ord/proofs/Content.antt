@@ -1,9 +1,8 @@
 -- The finite map of an ordered arena after changes of its capacity, compressions, removals and recasts; its first and last indexes.
 use Rattle.std.proofs.Common.{length-take}
 use Rattle.ord_tree.specs.{PlainArena.item_of, ArenaCompression.CompressionStep, ArenaCompression.IsCompression, ArenaCompression.compressed}
-use Rattle.ord_tree.specs.ArenaWalk.{entries_rising as arena_rising}
-use Rattle.ord_tree.specs.ChainCompression.{compressed as chain_compressed, IsCompression as IsChainCompression}
-use Rattle.ord_tree.specs.Chain.{with_capacity as chain_with_capacity}
+use Rattle.ord_tree.specs.{ArenaWalk.entries_rising as arena_rising, ChainCompression.compressed as chain_compressed}
+use Rattle.ord_tree.specs.{ChainCompression.IsCompression as IsChainCompression, Chain.with_capacity as chain_with_capacity}
 use Rattle.triple_ord.proofs.Words.{◌≡◌, ℕ, zero, suc, ◌+◌, ◌-◌, ◌<◌, ◌≤◌, ◌↔◌, Option, Some, None, Result, Ok, Err, List, [], ◌∷◌, ◌++◌, length, map, get_or, take, drop, reverse, replicate, slice_get, is_some, Bool, true, false, max}
 use Rattle.triple_ord.proofs.Words.{IsSome, walk_rest, WalkSteps, Entry, Chain, entry_at, times, IsSound, greatest_index, IsFirstIndex, IsLastIndex, drop-set-lt, pointers, walk_from, removed, FindsNothing, content_removed, cases_eq}
 use Rattle.triple_ord.proofs.Words.{drop_more, drop_all, refl, sym, ap, subst, ◌∙◌, add-one, arith, option_map, FoldsTo, same_lists, get_or_default, length-append, take-map, drop-map, slice_get_past, Arena, HoldsSame, slot, item_if}
@@ -39,8 +38,7 @@ module _ {T : Type 0} where
       let whole : suc n - zero ≡ suc n = omega arith in
       rw whole (ap (λ s. s ∷ slots_from es (from + 1) n) (none from (omega arith))
       ∙ ap (λ ss. None ∷ ss) (slots-resized es (from + 1) n zero (λ k h. none k (omega (arith, h))) ∙ (let all : n - zero ≡ n = omega arith in rw (all, take-none n) refl)))
-  slots-resized es from (suc n) (suc c) none =
-      grind (arith, common_steps, slots-resized es (from + 1) n c (λ k h. none k (omega (arith, h))))
+  slots-resized es from (suc n) (suc c) none = grind (arith, common_steps, slots-resized es (from + 1) n c (λ k h. none k (omega (arith, h))))
 
   resized-slots : (n : ℕ) (xs : List (Option (ℕ × T))) → resized (n + 1) (None ∷ xs) ≡ None ∷ (take n xs ++ replicate (n - length xs) None)
   resized-slots n xs = let less : suc n - suc (length xs) ≡ n - length xs = omega arith in rw (add-one, less) refl

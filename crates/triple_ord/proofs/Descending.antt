@@ -29,8 +29,7 @@ but_last-push (y ∷ (z ∷ zs)) x = ap (λ l. y ∷ l) (but_last-push (z ∷ zs
 but_last-push xs x = refl
 
 All-but_last : {X : Type 0} (P : X → Type 0) (xs : List X) → All P xs → All P (but_last xs)
-All-but_last P (x ∷ (y ∷ ys)) all =
-    All-cons P x (but_last (y ∷ ys)) (All-head P x (y ∷ ys) all) (All-but_last P (y ∷ ys) (All-tail P x (y ∷ ys) all))
+All-but_last P (x ∷ (y ∷ ys)) all = All-cons P x (but_last (y ∷ ys)) (All-head P x (y ∷ ys) all) (All-but_last P (y ∷ ys) (All-tail P x (y ∷ ys) all))
 All-but_last P xs all = All-nil P
 
 IfSome-from_match : {X : Type 0} (o : Option X) (P : Type 0) (Q : X → Type 0) → MatchOption o P Q → IfSome o Q
@@ -300,8 +299,7 @@ where_equal-map f found = grind (arith, common_steps)
 module _ {P T F : Type 0} (numbers : P → ℕ × ℕ) (asks : F → Shown T → F → Type 0) (es : List (Entry T)) (f g : F) (c : ℕ) where
   pub finds_with-similar : (o : Option (P × Ordering)) → FindsSimilarWith asks es f g (option_map (λ a. (numbers a.0, a.1)) o) c
       → FindsWith asks es f g (option_map numbers (where_equal o)) c
-  finds_with-similar o search =
-      (search.0, search.1, sym (where_equal-map numbers o) ∙ ap where_equal search.2 ∙ where_equal-map pointer search.0)
+  finds_with-similar o search = (search.0, search.1, sym (where_equal-map numbers o) ∙ ap where_equal search.2 ∙ where_equal-map pointer search.0)
 
 -- the order of a key to an entry, from the direction taken there
 greater_of : (o : Ordering) → Greater ≡ ordering_then o Less → o ≡ Greater
@@ -443,8 +441,7 @@ module _ {T : Type 0} (t : Tree T) (sound : IsSoundTree t) where
 
   -- the longest path down is shorter than a word can count
   pub height-fits : (most : ℕ) (greatest : Option ℕ) → IsSound most greatest t.list → most + 1 < 2 ^ 64 → height t.shape < 2 ^ 64
-  height-fits most greatest list fits =
-      omega (arith, height-le-size t.shape, size-listed, list.counted, list.within_limit, limit_of-below most t.list.maximum)
+  height-fits most greatest list fits = omega (arith, height-le-size t.shape, size-listed, list.counted, list.within_limit, limit_of-below most t.list.maximum)
 
   -- the law for the tree's list
   pub within_bounds : VisitsLaw → (c : ℕ) → c ≤ height t.shape → IsWithinBounds (length t.list.entries) t.shape c

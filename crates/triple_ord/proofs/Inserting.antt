@@ -44,23 +44,32 @@ module _ {T : Type 0} where
     pub back : List (Entry T)
     pub cut : es ≡ front ++ entry ∷ back
     pub here : entry.index ≡ i
+    pub first : times i front ≡ 0
     pub place : length front ≡ position_of es i
 
   pub stands : (es : List (Entry T)) (i : ℕ) → IsSome (entry_at es i) → StandsAt es i
   stands [] i some = absurd (cc)
   stands (e ∷ es) i some = elim (eqb_tells e.index i) [
-    | inl h ↦ record { front = []; entry = e; back = es; cut = refl; here = h.1; place = rw h.0 refl }
+    | inl h ↦ record { front = []; entry = e; back = es; cut = refl; here = h.1; first = refl; place = rw h.0 refl }
     | inr h ↦
         let rest = stands es i (rw h.0 at some) in
-        record { front = e ∷ rest.front; entry = rest.entry; back = rest.back; cut = ap (λ xs. e ∷ xs) rest.cut; here = rest.here; place = rw h.0 (omega (arith, rest.place)) }
+        record {
+          front = e ∷ rest.front;
+          entry = rest.entry;
+          back = rest.back;
+          cut = ap (λ xs. e ∷ xs) rest.cut;
+          here = rest.here;
+          first = rw h.0 (omega (arith, rest.first));
+          place = rw h.0 (omega (arith, rest.place));
+        }
   ]
 
-  put_before : (new : Entry T) (front : List (Entry T)) (e : Entry T) (back : List (Entry T)) → times e.index front ≡ 0
+  pub put_before : (new : Entry T) (front : List (Entry T)) (e : Entry T) (back : List (Entry T)) → times e.index front ≡ 0
       → insert_before e.index new (front ++ e ∷ back) ≡ front ++ new ∷ e ∷ back
   put_before new [] e back none = grind (arith, common_steps)
   put_before new (f ∷ front) e back none = grind (arith, common_steps, put_before new front e back)
 
-  put_after : (new : Entry T) (front : List (Entry T)) (e : Entry T) (back : List (Entry T)) → times e.index front ≡ 0
+  pub put_after : (new : Entry T) (front : List (Entry T)) (e : Entry T) (back : List (Entry T)) → times e.index front ≡ 0
       → insert_after e.index new (front ++ e ∷ back) ≡ front ++ e ∷ new ∷ back
   put_after new [] e back none = grind (arith, common_steps)
   put_after new (f ∷ front) e back none = grind (arith, common_steps, put_after new front e back)
@@ -75,14 +84,12 @@ module _ {T : Type 0} where
   from_here (f ∷ front) e back none = grind (arith, common_steps, from_here front e back)
 
   abbrev entry_link : Option (Entry T) → Entry T → Option (Entry T) → ℕ × Link T
-  entry_link low e high =
-      (e.generation, record { item = e.item; prev = option_map (λ e. e.index) low; next = option_map (λ e. e.index) high })
+  entry_link low e high = (e.generation, record { item = e.item; prev = option_map (λ e. e.index) low; next = option_map (λ e. e.index) high })
 
   -- the link of an entry has the indexes of its neighbours
   module _ (e : Entry T) (back : List (Entry T)) where
     abbrev IsLinkedBehind : Option (Entry T) → List (Entry T) → Type 0
-    IsLinkedBehind o front =
-        link_between (option_map (λ x. x.index) o) None (front ++ e ∷ back) e.index ≡ Some (entry_link (last_of o front) e (first_of back))
+    IsLinkedBehind o front = link_between (option_map (λ x. x.index) o) None (front ++ e ∷ back) e.index ≡ Some (entry_link (last_of o front) e (first_of back))
 
     link_here : (o : Option (Entry T)) (front : List (Entry T)) → times e.index front ≡ 0 → IsLinkedBehind o front
     link_here o [] none = grind (arith, common_steps)
@@ -98,8 +105,7 @@ module _ {T : Type 0} where
   -- an entry of a list in which each index occurs once
   module _ (es : List (Entry T)) (distinct : IsDistinct es) (front : List (Entry T)) (e : Entry T) (back : List (Entry T)) (cut : es ≡ front ++ e ∷ back) where
     pub nowhere_else : times e.index (front ++ back) ≡ 0
-    nowhere_else =
-        grind (arith, common_steps, rw cut at (distinct e.index), times-append e.index front (e ∷ back), times-append e.index front back)
+    nowhere_else = grind (arith, common_steps, rw cut at (distinct e.index), times-append e.index front (e ∷ back), times-append e.index front back)
 
     pub not_before : times e.index front ≡ 0
     not_before = omega (arith, nowhere_else, times-append e.index front back)
@@ -190,8 +196,7 @@ module _ {T : Type 0} (c d : Chain T) (place other : Entry T → List (Entry T))
   IsInsertion-same ins = rw (fun_ext same) at ins
 
 order_on-unequal : (side : Side) → order_on side ≢ Equal
-order_on-unequal Lesser same = cc
-order_on-unequal OnGreater same = cc
+order_on-unequal side same = grind (arith, common_steps)
 
 -- the place that a search found for a new entry is a gap that fits
 module _ {T K : Type 0} (key : T → K) (cmp : K → K → Ordering) (es : List (Entry T)) (k : K) where

@@ -1,10 +1,8 @@
 -- The steps from a near hint end at the far neighbour of the gap where the key belongs.
-use Rattle.std.proofs.Math.Seq.{drop-append_seam, take-append_seam}
-use Rattle.std.proofs.Common.{drop, take, false}
-use Rattle.std.proofs.lemmas.Bool.Decides.{nat_tests}
+use Rattle.std.proofs.{Math.Seq.drop-append_seam, Math.Seq.take-append_seam, Common.drop, Common.take, Common.false, lemmas.Bool.Decides.nat_tests}
 use Rattle.triple_ord.proofs.Words.{◌≡◌, ◌≢◌, ℕ, true, ◌+◌, ◌≤◌, List, [], ◌∷◌, ◌++◌, Option, Some, None, IfSome, length, refl, sym, ap, ◌∙◌, arith, append_assoc, length-append, option_map, ordering_reverse, Ordering, Less, Equal, Greater}
 use Rattle.triple_ord.proofs.Words.{IsTotalOrder, Gap, first_of, last_of, order_to, Fits, IsInOrder, Entry, common_steps, CameFrom}
-use Rattle.triple_ord.proofs.Inserting.{last_of-append, begins, ends, no_last}
+use Rattle.triple_ord.proofs.Inserting.{last_of-append, begins, ends, no_first, no_last}
 use Rattle.triple_ord.proofs.OrderLaws.{stands-before, stands-behind}
 use Rattle.triple_ord.proofs.Words.{IsDistinct, IsStepping, IsNear, Link, is_eq, is_some, pointer, link_at, entry_at, neighbour_towards}
 use Rattle.triple_ord.proofs.Stepping.{HasTurned, low-answered, high-answered, linked, named, stepping-order, stepping-unequal}
@@ -60,11 +58,7 @@ module _ {T K : Type 0} (key : T → K) (cmp real : K → K → Ordering) (total
     front-greater : (o : Option (Entry T)) → first_of back ≡ o → IfSome o (λ e. order_to key cmp k e ≡ Less) → length gap.front ≡ length (front ++ entry ∷ [])
     front-greater None none answered =
         let low = stands-before key real total k es ordered gap fits front back entry cut (greater _ here) in
-        omega (arith, low, whole, within, length-append front (entry ∷ []), ap length (none_first back none))
-      where
-        none_first : (xs : List (Entry T)) → first_of xs ≡ None → xs ≡ []
-        none_first [] is = refl
-        none_first (x ∷ xs) is = absurd cc
+        omega (arith, low, whole, within, length-append front (entry ∷ []), ap length (no_first back none))
     front-greater (Some f) is answered =
         let low = stands-before key real total k es ordered gap fits front back entry cut (greater _ here) in
         let begin = begins back f is in
@@ -104,9 +98,7 @@ module _ {T K : Type 0} (key : T → K) (cmp : K → K → Ordering) (es : List 
   found-there o order stops = rw (stops, named key cmp es k distinct start i visits came s generation l is, order) refl
 
   real-greater : (o : Ordering) → o ≢ Less → o ≢ Equal → o ≡ Greater
-  real-greater Less less equal = absurd (less refl)
-  real-greater Equal less equal = absurd (equal refl)
-  real-greater Greater less equal = refl
+  real-greater o less equal = grind (arith, common_steps)
 
   pub stepping-ends : (o : Ordering) → o ≡ cmp k (key l.item) → is_eq o ≡ false → HasTurned key cmp es k distinct came o (neighbour_towards l o)
       → option_map {U = (ℕ × ℕ) × Ordering} (λ e. (pointer e, order_to key real k e)) (way_end gap start) ≡ Some ((i, generation), o)

@@ -8,12 +8,10 @@ use Rattle.triple_ord.proofs.Inserting.{begins}
 
 module _ {K : Type 0} (cmp : K → K → Ordering) (k other : K) where
   pub taken-less : (ties : Ties) → taken ties cmp k other ≡ Less → cmp k other ≡ Less
-  taken-less Sought less = less
-  taken-less Passed less = grind (arith, common_steps)
+  taken-less ties less = grind (arith, common_steps)
 
   pub taken-greater : (ties : Ties) → taken ties cmp k other ≡ Greater → cmp k other ≢ Less
-  taken-greater Sought greater less = cc
-  taken-greater Passed greater less = let both = rw less at greater in cc
+  taken-greater ties greater less = grind (arith, common_steps)
 
   pub passed-unequal : taken Passed cmp k other ≢ Equal
   passed-unequal equal = grind (arith, common_steps)
@@ -41,18 +39,13 @@ module _ {X : Type 0} (P : X → Type 0) where
 -- in a total order, what isn't greater than something smaller is smaller, and what isn't less than something greater is greater
 module _ {K : Type 0} (cmp : K → K → Ordering) (total : IsTotalOrder cmp) where
   lesser_than : (a b k : K) (o : Ordering) → cmp a b ≡ o → o ≢ Greater → cmp b k ≡ Less → cmp a k ≡ Less
-  lesser_than a b k Less is most less = total.trans a b k is less
-  lesser_than a b k Equal is most less = total.congr a b k is ∙ less
-  lesser_than a b k Greater is most less = absurd (most refl)
+  lesser_than a b k o is most less = grind (arith, common_steps, total.trans a b k, total.congr a b k)
 
   lesser_before : (k a b : K) → cmp a b ≢ Greater → cmp k b ≡ Greater → cmp k a ≡ Greater
-  lesser_before k a b most more =
-      total.antisymm k a ∙ ap ordering_reverse (lesser_than a b k _ refl most (total.antisymm b k ∙ ap ordering_reverse more))
+  lesser_before k a b most more = total.antisymm k a ∙ ap ordering_reverse (lesser_than a b k _ refl most (total.antisymm b k ∙ ap ordering_reverse more))
 
   greater_after : (k a b : K) (o : Ordering) → cmp a b ≡ o → o ≢ Greater → cmp k a ≡ Less → cmp k b ≡ Less
-  greater_after k a b Less is not_greater less = total.trans k a b less is
-  greater_after k a b Equal is not_greater less = sym (alike_right total a b k is) ∙ less
-  greater_after k a b Greater is not_greater less = absurd (not_greater refl)
+  greater_after k a b o is not_greater less = grind (arith, common_steps, total.trans k a b, alike_right total a b k)
 
 module _ {T K : Type 0} (key : T → K) (cmp : K → K → Ordering) where
   pub IsInOrder-rest : (e : Entry T) (es : List (Entry T)) → IsInOrder key cmp (e ∷ es) → IsInOrder key cmp es
@@ -120,12 +113,10 @@ module _ {T K : Type 0} (key : T → K) (cmp : K → K → Ordering) where
     -- an entry to which k isn't `Less` is before the gap, and one to which k isn't `Greater` is after it
     module _ (front back : List (Entry T)) (e : Entry T) (cut : es ≡ front ++ e ∷ back) where
       pub stands-before : order_to key cmp k e ≢ Less → length front < length gap.front
-      stands-before more =
-          grind (arith, more, in_back (λ x. order_to key cmp k x ≡ Less) gap.front gap.back front back e (sym gap.cut ∙ cut) back_less)
+      stands-before more = grind (arith, more, in_back (λ x. order_to key cmp k x ≡ Less) gap.front gap.back front back e (sym gap.cut ∙ cut) back_less)
 
       pub stands-behind : order_to key cmp k e ≢ Greater → length gap.front ≤ length front
-      stands-behind less =
-          grind (arith, less, in_front (λ x. order_to key cmp k x ≡ Greater) gap.front gap.back front back e (sym gap.cut ∙ cut) front_greater)
+      stands-behind less = grind (arith, less, in_front (λ x. order_to key cmp k x ≡ Greater) gap.front gap.back front back e (sym gap.cut ∙ cut) front_greater)
 
   -- an entry found by a search exists
   not_absent : (k : K) (es : List (Entry T)) (e : Entry T) → IsFirstEqual key cmp es k e → IsAbsent key cmp es k → ⊥
@@ -139,10 +130,8 @@ recursion-map P Q follows [] all = tt
 recursion-map P Q follows (x ∷ xs) all = (follows x all.0, recursion-map P Q follows xs all.1)
 
 pub absent_key : {T K : Type 0} (key : T → K) (cmp : K → K → Ordering) → IsTotalOrder cmp → AbsentKeyLaw key cmp
-absent_key key cmp total entries k None c sorted finds =
-    (λ none. absent-fits key cmp total k entries sorted finds.0 finds.1.fits, λ absent. refl)
-absent_key key cmp total entries k (Some p) c sorted finds =
-    (λ none. absurd (cc), λ absent. absurd (not_absent key cmp k entries finds.0 finds.2 absent))
+absent_key key cmp total entries k None c sorted finds = (λ none. absent-fits key cmp total k entries sorted finds.0 finds.1.fits, λ absent. refl)
+absent_key key cmp total entries k (Some p) c sorted finds = (λ none. absurd (cc), λ absent. absurd (not_absent key cmp k entries finds.0 finds.2 absent))
 
 pub beside_place : {T K : Type 0} (key : T → K) (cmp : K → K → Ordering) → IsTotalOrder cmp → BesidePlaceLaw key cmp
 beside_place key cmp total entries k p order c sorted absent finds = (

@@ -24,11 +24,7 @@ module _ {T : Type 0} (es : List (Entry T)) (distinct : IsDistinct es) (i g : �
   prev_is = (link-read es distinct front e back cut g l (ap (link_at es) here ∙ shown)).prev
 
   pub none_before : l.prev ≡ None → None ≡ last_item front
-  none_before none = go (last_of None front) (prev_is ∙ none)
-    where
-      go : (o : Option (Entry T)) → option_map (λ e. e.index) o ≡ None → None ≡ option_map (λ e. e.item) o
-      go None is = refl
-      go (Some f) is = absurd (cc)
+  none_before none = grind (arith, common_steps, prev_is, none)
 
   -- the previous entry is at the index that the link names
   before_at : (j : ℕ) → l.prev ≡ Some j → (f : Entry T) × (last_of None front ≡ Some f) × (entry_at es j ≡ Some (f.generation, f.item))

@@ -1,9 +1,9 @@
 -- The place of an insertion, from the answer of a search or from an index.
 use Rattle.triple_ord.proofs.Words.{◌≡◌, ◌≢◌, ◌==◌, if◌then◌else◌, IfNone, is_some, ℕ, ◌+◌, ◌≤◌, false, true, length, List, [], ◌∷◌, ◌++◌, Option, Some, None, IsSome, Result, Ok, Err, IfErr, refl, sym, ap, ◌∙◌, arith, append_assoc, eq-eqb}
 use Rattle.triple_ord.proofs.Words.{after, with_between, FindsSimilar, taken, Ties, Sought, Passed, Aim, alone, at_key, behind_key, beside, Place, into, over, nowhere, IsPlace, aim_of, Growth, Within, Reallocating, Side, Lesser, OnGreater, slice_get_cases}
-use Rattle.triple_ord.proofs.Words.{with_room_by, Entry, Chain, entry_at, next_index, IsDistinct, IsSound, IsInsertion, Tree, IsGrown, put_on, put_at, nat_tests, nil_from_length, IfSome_then, option_map, Ordering, Less, Equal}
+use Rattle.triple_ord.proofs.Words.{insert_after, insert_before, with_room_by, Entry, Chain, entry_at, next_index, IsDistinct, IsSound, IsInsertion, Tree, IsGrown, put_on, put_at, nat_tests, nil_from_length, IfSome_then, option_map, Ordering, Less, Equal}
 use Rattle.triple_ord.proofs.Words.{Greater, IsErrAnd, with_item, item_of, count, Updates, IsNearHint, IsWithinBounds, IsWithinHintedBounds, Gap, before, LacksSlot, IsRefused, InsertsBeside, OrdInsertKind, OrdInsertionError}
-use Rattle.triple_ord.proofs.Inserting.{last_of-append, stands, HasPlace, place-alone, similar-placed, similar-occupied, similar-here, similar-first, similar-seen, IsInsertion-same, puts-before, puts-after}
+use Rattle.triple_ord.proofs.Inserting.{last_of-append, stands, HasPlace, place-alone, similar-placed, similar-occupied, similar-here, similar-first, similar-seen, IsInsertion-same, put_before, put_after}
 use Rattle.triple_ord.proofs.{CallerLemmas.entries-with_room_by, CallerLemmas.updates-written, CallerLemmas.count-written, CallerLemmas.inserted-new, OrderLaws.taken-less, OrderLaws.taken-greater, OrderLaws.passed-unequal}
 use Rattle.std.specs.Prelude.{ok_or}
 use Rattle.triple_ord.proofs.Words.{NotWithinCapacity, common_steps}
@@ -16,17 +16,13 @@ item_here t i x there = rw (there, eq-eqb x.0 x.0 refl) refl
 
 -- the order that a side is named by
 pub side-order : (o : Ordering) (side : Side) → side_by o ≡ Some side → o ≡ order_on side
-side-order Less side is = grind (arith, common_steps)
-side-order Equal side is = absurd cc
-side-order Greater side is = grind (arith, common_steps)
+side-order o side is = grind (arith, common_steps)
 
 pub side-none : (o : Ordering) → side_by o ≡ None → o ≡ Equal
-side-none Less is = absurd cc
-side-none Equal is = refl
-side-none Greater is = absurd cc
+side-none o is = grind (arith, common_steps)
 
 -- a side of the entry with an index is a gap
-module _ {T K : Type 0} (key : T → K) (cmp : K → K → Ordering) (es : List (Entry T)) (distinct : IsDistinct es) (i : ℕ) (there : IsSome (entry_at es i)) where
+module _ {T K : Type 0} (key : T → K) (cmp : K → K → Ordering) (es : List (Entry T)) (i : ℕ) (there : IsSome (entry_at es i)) where
   pub record OnSide (side : Side) : Type 0 where
     pub gap : Gap es
     pub at : IsPlace key cmp (beside i (order_on side)) (into gap)
@@ -36,12 +32,14 @@ module _ {T K : Type 0} (key : T → K) (cmp : K → K → Ordering) (es : List 
   on-side Lesser =
       let s = stands es i there in
       let gap : Gap es = record { front = s.front; back = s.entry ∷ s.back; cut = s.cut } in
-      record { gap = gap; at = s.here; puts = λ new. rw s.here at (puts-before es s.entry distinct gap refl new) }
+      let put = λ (new : Entry T). rw s.here at (put_before new s.front s.entry s.back (rw s.here s.first)) in
+      record { gap = gap; at = s.here; puts = λ new. ap (insert_before i new) s.cut ∙ put new }
   on-side OnGreater =
       let s = stands es i there in
       let gap : Gap es = record { front = s.front ++ s.entry ∷ []; back = s.back; cut = s.cut ∙ simp append_assoc } in
       let last = last_of-append None s.front s.entry [] in
-      record { gap = gap; at = rw last s.here; puts = λ new. rw s.here at (puts-after es s.entry distinct gap last new) }
+      let put = λ (new : Entry T). rw s.here at (put_after new s.front s.entry s.back (rw s.here s.first)) in
+      record { gap = gap; at = rw last s.here; puts = λ new. ap (insert_after i new) s.cut ∙ put new ∙ simp append_assoc }
 
 module _ {P T K : Type 0} (numbers : P → ℕ × ℕ) (key : T → K) (cmp : K → K → Ordering) (t : Tree T) where
   module _ (k : K) (c : ℕ) where
@@ -113,14 +111,14 @@ module _ {P T K : Type 0} (numbers : P → ℕ × ℕ) (key : T → K) (cmp : K 
           record { place = f.place; chosen = chosen; keeps = f.keeps; visits = record { seen = f.seen; bounded = bounded; unhinted = unhinted; near = near } }
 
   -- the entry with an index: beside it, or in place of its item
-  module _ (distinct : IsDistinct t.list.entries) (p : P) (i g : ℕ) (item : T) (named : numbers p ≡ (i, g)) (there : entry_at t.list.entries i ≡ Some (g, item)) where
+  module _ (p : P) (i g : ℕ) (item : T) (named : numbers p ≡ (i, g)) (there : entry_at t.list.entries i ≡ Some (g, item)) where
     beside-over : IsPlaceBeside numbers key cmp t (beside i Equal) (Some (Replacing p))
     beside-over = (over (record { index = i; generation = g; item = item }), (refl, there), (named, rw named (item_here t i (g, item) there)))
 
     beside-put : (side : Side) → IsPlaceBeside numbers key cmp t (beside i (order_on side)) (Some (New (Some (p, side))))
     beside-put side =
         let some : IsSome (entry_at t.list.entries i) = rw there refl in
-        let on = on-side key cmp t.list.entries distinct i some side in
+        let on = on-side key cmp t.list.entries i some side in
         let index : (numbers p).0 ≡ i = ap (λ n. n.0) named in
         (into on.gap, on.at, (rw index some, rw index on.puts))
 
@@ -139,14 +137,14 @@ module _ {P T K : Type 0} (numbers : P → ℕ × ℕ) (key : T → K) (cmp : K 
   alone-refused test empty = absurd (let n : length t.list.entries ≡ 0 = ap length empty in grind (arith, nat_tests))
 
 -- a place beside an entry, or for the only one, is a gap
-module _ {P T : Type 0} (numbers : P → ℕ × ℕ) (t : Tree T) (distinct : IsDistinct t.list.entries) where
+module _ {P T : Type 0} (numbers : P → ℕ × ℕ) (t : Tree T) where
   pub put-gap : (at : Option (P × Side)) → HasRoomAt numbers at t.list
       → (gap : Gap t.list.entries) × ((new : Entry T) → put_at (λ p. (numbers p).0) at t.list.entries new ≡ with_between gap new)
   put-gap None none =
       let empty = nil_from_length t.list.entries none in
       (record { front = []; back = []; cut = empty }, λ new. ap (λ xs. new ∷ xs) empty)
   put-gap (Some (p, side)) can =
-      let on = on-side (λ (item : T). tt {0}) (λ k l. Equal) t.list.entries distinct (numbers p).0 can side in
+      let on = on-side (λ (item : T). tt {0}) (λ k l. Equal) t.list.entries (numbers p).0 can side in
       (on.gap, on.puts)
 
 -- an insertion returns the pointer that was next
@@ -193,7 +191,7 @@ module _ {P T : Type 0} (most : ℕ) (c : Chain T) where
   lacks-within (Some p) r is none = rw is tt
 
 -- an insertion beside the entry with an index
-module _ {T : Type 0} (most : ℕ) (old new : Tree T) (distinct : IsDistinct old.list.entries) (item : T) (i : ℕ) where
+module _ {T : Type 0} (most : ℕ) (old new : Tree T) (item : T) (i : ℕ) where
   pub record IsBesideDone (o : Ordering) (before : Option T) : Type 0 where
     pub inserts : InsertsBeside most i o old item (Ok before) new
     pub updates : (q : ℕ × ℕ) × Updates old new q (Some item)
@@ -212,8 +210,8 @@ module _ {T : Type 0} (most : ℕ) (old new : Tree T) (distinct : IsDistinct old
       }
 
   module _ (side : Side) (occupied : IsSome (entry_at old.list.entries i)) where
-    on : OnSide (λ (item : T). tt {0}) (λ k l. Equal) old.list.entries distinct i occupied side
-    on = on-side (λ (item : T). tt {0}) (λ k l. Equal) old.list.entries distinct i occupied side
+    on : OnSide (λ (item : T). tt {0}) (λ k l. Equal) old.list.entries i occupied side
+    on = on-side (λ (item : T). tt {0}) (λ k l. Equal) old.list.entries i occupied side
 
     pub beside-inserted : (p : ℕ × ℕ) → IsInsertion (with_room_by Reallocating most old.list) new.list (put_on side i old.list.entries) item p.0 p.1
         → IsGrown old.shape new.shape → IsBesideDone (order_on side) None

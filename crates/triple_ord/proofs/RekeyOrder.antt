@@ -1,8 +1,7 @@
 -- Moving an entry to the place of its key leaves the keys in order if those of the others are.
-use Rattle.triple_ord.proofs.Words.{◌≡◌, ◌≢◌, ℕ, List, [], ◌∷◌, refl, sym, ap, subst, ◌∙◌, inl, inr, eqb_tells, IfSome_then, IsTotalOrder, alike_right, ordering_reverse, Ordering, Less, Equal, Greater}
-use Rattle.triple_ord.proofs.Words.{Entry, Tree, IsInOrder, before, after, with_item}
-use Rattle.triple_ord.proofs.Without.{without-written}
-use Rattle.triple_ord.proofs.{KeptOrder.in_order-between, OrderLaws.IsInOrder-rest, OrderLaws.in_order-one, OrderLaws.in_order-more}
+use Rattle.triple_ord.proofs.Words.{◌≡◌, ◌≢◌, ℕ, List, [], ◌∷◌, refl, sym, ap, subst, ◌∙◌, inl, inr, eqb_tells, IfSome_then, IsTotalOrder, alike_right}
+use Rattle.triple_ord.proofs.Words.{ordering_reverse, Ordering, Less, Equal, Greater, Entry, Tree, IsInOrder, before, after, with_item}
+use Rattle.triple_ord.proofs.{Without.without-written, KeptOrder.in_order-between, OrderLaws.IsInOrder-rest, OrderLaws.in_order-one, OrderLaws.in_order-more}
 use Rattle.triple_ord.specs.Rekey.{Rekeys, RekeyOrderLaw}
 use Rattle.ord_tree.specs.Chain.{without}
 

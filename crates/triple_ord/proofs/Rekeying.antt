@@ -4,24 +4,19 @@ use Rattle.triple_ord.proofs.Words.{Entry, Chain, times, IsDistinct, entry_at, t
 use Rattle.triple_ord.proofs.Words.{Link, link_at, entry_at-link, insert_before, insert_after}
 use Rattle.triple_ord.proofs.Words.{Gap, first_of, last_of, after, Ordering, Less, Equal, Greater, Side, Lesser, OnGreater, Tree, with_item, put_on, cases_eq, item_of, item_if, Updates}
 use Rattle.triple_ord.proofs.CallerLemmas.{item_if-found}
-use Rattle.triple_ord.specs.{Rekey.RekeysCounted, Arena.FindSame}
-use Rattle.ord_tree.specs.{Move.IsRearranged, Tree.CanPutAt}
+use Rattle.triple_ord.specs.{Rekey.RekeysCounted, Arena.FindSame, Around.EndsAround, Around.FindsAround, Prepared.order_on, Prepared.beside_by}
+use Rattle.ord_tree.specs.{Move.IsRearranged, Tree.CanPutAt, Chain.without, ChainMove.with_entry_moved, ChainMove.list_with, ChainMove.without_entry}
 use Rattle.triple_ord.proofs.Inserting.{begins, ends, with_item-here, puts-before, puts-after, entry_at-before, entry_at-after}
 use Rattle.triple_ord.proofs.Inserting.{StandsAt, stands, IsLinked, link-read, nowhere_else, entry_at-here, insert_before-here, insert_after-here}
 use Rattle.triple_ord.proofs.Stepping.{read_index}
 use Rattle.triple_ord.proofs.Without.{without-absent, without-append, without-last, without-first, first-kept, last-kept, without-written, times-without}
-use Rattle.triple_ord.specs.Around.{EndsAround, FindsAround}
-use Rattle.triple_ord.specs.Prepared.{order_on, beside_by}
-use Rattle.ord_tree.specs.{Chain.without, ChainMove.with_entry_moved, ChainMove.list_with, ChainMove.without_entry}
 
 -- a side, by the order that names it
 side-greater : (side : Side) → order_on side ≡ Greater → side ≡ OnGreater
-side-greater Lesser is = absurd cc
-side-greater OnGreater is = refl
+side-greater side is = grind (arith, common_steps)
 
 side-lesser : (side : Side) → order_on side ≡ Less → side ≡ Lesser
-side-lesser Lesser is = refl
-side-lesser OnGreater is = absurd cc
+side-lesser side is = grind (arith, common_steps)
 
 module _ {T K : Type 0} (key : T → K) (cmp : K → K → Ordering) (es : List (Entry T)) (k : K) (c : ℕ) where
   -- a search that ends on a side of an entry, named by an order or as a side

@@ -1,10 +1,8 @@
 -- What a change of the capacity leaves.
 use Rattle.std.proofs.lemmas.Bool.{lt-ltb, le-ltb}
 use Rattle.std.proofs.Common.{refl, ◌≡◌, ℕ, ◌<◌, ◌≤◌, ap, subst, ◌∙◌, arith, Result, Ok, Err, OnOk, OnErr, Option, max}
-use Rattle.ord_tree.specs.PlainArena.{doubled_capacity}
-use Rattle.ord_tree.specs.Chain.{chain_limit, with_capacity, greatest_index, IsSound}
+use Rattle.ord_tree.specs.{PlainArena.doubled_capacity, Chain.chain_limit, Chain.with_capacity, Chain.greatest_index, Chain.IsSound, Tree.Tree}
 use Rattle.ord_tree.proofs.ChainLemmas.{greatest-within}
-use Rattle.ord_tree.specs.Tree.{Tree}
 use Rattle.triple_ord.specs.Arena.{with_room_for}
 
 module _ {T : Type 0} where
@@ -13,10 +11,10 @@ module _ {T : Type 0} where
   resized a n = record a { list = with_capacity a.list (max n (greatest_index a.list.entries)) }
 
   -- what doesn't depend on the capacity stays
-  pub resizing-keeps : {E X : Type 0} (old new : Tree T) (n : ℕ) (f : Tree T → X) → ((m : ℕ) → f (record old { list = with_capacity old.list m }) ≡ f old)
-      → (r : Result (Unit {0}) E) → OnOk r (new ≡ resized old n) → OnErr r (new ≡ old) → f new ≡ f old
-  resizing-keeps old new n f same (Ok u) ok err = ap f ok ∙ same (max n (greatest_index old.list.entries))
-  resizing-keeps old new n f same (Err e) ok err = ap f err
+  pub resizing-keeps : {E X : Type 0} (old : Tree T) (f : Tree T → X) → ((m : ℕ) → f (record old { list = with_capacity old.list m }) ≡ f old)
+      → (new : Tree T) (n : ℕ) (r : Result (Unit {0}) E) → OnOk r (new ≡ resized old n) → OnErr r (new ≡ old) → f new ≡ f old
+  resizing-keeps old f same new n (Ok u) ok err = ap f ok ∙ same (max n (greatest_index old.list.entries))
+  resizing-keeps old f same new n (Err e) ok err = ap f err
 
   -- a capacity greater than the present one is made as asked for
   pub resizing-makes : {E : Type 0} (most : ℕ) (greatest : Option ℕ) (old new : Tree T) (n : ℕ) → IsSound most greatest old.list → old.list.capacity < n

@@ -23,8 +23,7 @@ module _ {T : Type 0} where
       (distinct : IsDistinct es) (cut : es ≡ front ++ e ∷ back) (index : e.index ≡ i) (era : e.generation ≡ g) (same : e.item ≡ item) where
     at_entry : option_map (λ e. e.index) (first_of back) ≡ next
         → entries_left es (Some i) ≡ record { index = i; generation = g; item = item } ∷ entries_left es next
-    at_entry after =
-        rw (← index, ← era, ← same, ← after, follows es front e back distinct cut) (from_index-here es distinct front e back cut)
+    at_entry after = rw (← index, ← era, ← same, ← after, follows es front e back distinct cut) (from_index-here es distinct front e back cut)
 
   -- the entry shown at an index, and the entries from its neighbour on
   module _ (es : List (Entry T)) (i g : ℕ) (l : Link T) (distinct : IsDistinct es) where

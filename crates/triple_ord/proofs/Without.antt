@@ -1,7 +1,6 @@
 -- A list without the entry at an index: its ends, its parts, and how often an index occurs in it.
-use Rattle.triple_ord.proofs.Words.{◌≡◌, ◌≢◌, ℕ, ◌+◌, ◌≤◌, List, [], ◌∷◌, ◌++◌, Some, None, refl, sym, ap, ◌∙◌, arith, common_steps, eqb_tells, inl, inr}
-use Rattle.triple_ord.proofs.Words.{Entry, times, times-append, with_item_among, first_of, last_of}
-use Rattle.triple_ord.proofs.Inserting.{ends, last_of-append}
+use Rattle.triple_ord.proofs.Words.{◌≡◌, ◌≢◌, ℕ, ◌+◌, ◌≤◌, List, [], ◌∷◌, ◌++◌, Some, None, refl, sym, ap, ◌∙◌, arith, common_steps, eqb_tells, inl, inr, Entry}
+use Rattle.triple_ord.proofs.{Words.times, Words.times-append, Words.with_item_among, Words.first_of, Words.last_of, Inserting.ends, Inserting.last_of-append}
 use Rattle.ord_tree.specs.Chain.{without}
 
 module _ {T : Type 0} (i : ℕ) where
@@ -30,8 +29,7 @@ module _ {T : Type 0} (i : ℕ) where
   without-first e back same = grind (arith, common_steps)
 
   pub first-kept : (es : List (Entry T)) (e : Entry T) → e.index ≢ i → first_of es ≡ Some e → first_of (without i es) ≡ Some e
-  first-kept [] e other is = absurd cc
-  first-kept (x ∷ es) e other is = grind (arith, common_steps)
+  first-kept es e other is = grind (arith, common_steps)
 
   pub last-kept : (es : List (Entry T)) (e : Entry T) → e.index ≢ i → last_of None es ≡ Some e → last_of None (without i es) ≡ Some e
   last-kept es e other is =

@@ -1,9 +1,8 @@
 -- An ordered arena as its callers see it: what pointers find in it, and its entries in order. A pointer is the pair of its index and its
 -- generation.
 use Rattle.std.specs.{Prelude.◌≡◌, Prelude.◌≢◌, Prelude.ℕ, Prelude.◌+◌, Prelude.List, Prelude.max, Prelude.nat_lt, Prelude.if◌then◌else◌, Prelude.Option, Prelude.None, Prelude.IfSome, Prelude.IsSomeAnd, Prelude.length, Prelude.map, Prelude.slice_get, declared.cmp.Ordering.Ordering, declared.cmp.Ordering.TheVariants.Equal, Option.option_map}
-use Rattle.ord_tree.specs.PlainArena.{doubled_capacity}
-use Rattle.ord_tree.specs.Chain.{Chain, chain_limit, with_capacity, entry_at as entry_among, item_of as item_among}
-use Rattle.ord_tree.specs.Tree.{Tree}
+use Rattle.ord_tree.specs.{PlainArena.doubled_capacity, Chain.Chain, Chain.chain_limit, Chain.with_capacity, Chain.entry_at as entry_among}
+use Rattle.ord_tree.specs.{Chain.item_of as item_among, Tree.Tree}
 use Rattle.triple_ord.specs.Search.{pointer, FindsKey, FindsSimilar}
 
 module _ {T : Type 0} where

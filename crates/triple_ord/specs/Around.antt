@@ -1,8 +1,7 @@
 -- A search for the place of a key among all entries of a list but one, which is still in the tree. No public clause cites this file.
 use Rattle.std.specs.{Option.option_map, Ordering.is_eq, declared.cmp.Ordering.Ordering, declared.cmp.Ordering.TheVariants.Less, declared.cmp.Ordering.TheVariants.Greater}
 use Rattle.std.specs.Prelude.{◌≡◌, ◌≢◌, ℕ, ◌+◌, ◌≤◌, ◌⊎◌, false, List, [], ◌∷◌, ◌++◌, Option, Some, None, IfSome}
-use Rattle.ord_tree.specs.Chain.{Entry, without}
-use Rattle.ord_tree.specs.Tree.{Tree}
+use Rattle.ord_tree.specs.{Chain.Entry, Chain.without, Tree.Tree}
 use Rattle.triple_ord.specs.{ClosureSearch.Shown, Search.order_to, Search.pointer, Gap.Gap, Gap.before, Gap.after, Gap.first_of, Gap.last_of, Gap.present, Ties.taken, Descent.IsNodeAt, Descent.side_of}
 use Rattle.triple_ord.specs.declared.ties.Ties.TheVariants.{Passed}
 

@@ -1,7 +1,6 @@
 -- The clone of an ordered arena: it has the source's entries in the same order, its shape and its generation.
 use Rattle.std.specs.Prelude.{ℕ, [], IsSomeAnd}
-use Rattle.ord_tree.specs.ChainClone.{taken_over}
-use Rattle.ord_tree.specs.{Shape.missing, Tree.Tree}
+use Rattle.ord_tree.specs.{ChainClone.taken_over, Shape.missing, Tree.Tree}
 use Rattle.triple_ord.specs.Arena.{item_of}
 
 module _ {T : Type 0} where

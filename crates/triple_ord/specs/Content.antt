@@ -1,8 +1,6 @@
 -- An ordered arena as an arena: a finite map from pointers to items, with slots by index.
 use Rattle.std.specs.Prelude.{ℕ, zero, suc, ◌+◌, Option, None, List, [], ◌∷◌}
-use Rattle.ord_tree.specs.PlainArena.{Arena}
-use Rattle.ord_tree.specs.Chain.{Entry, entry_at}
-use Rattle.ord_tree.specs.Tree.{Tree}
+use Rattle.ord_tree.specs.{PlainArena.Arena, Chain.Entry, Chain.entry_at, Tree.Tree}
 
 module _ {T : Type 0} where
   -- the entries, if any, at n consecutive indexes from `from` on

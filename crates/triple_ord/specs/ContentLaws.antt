@@ -3,14 +3,12 @@ use Rattle.std.proofs.Common.{◌≡◌, ◌≢◌, ℕ, zero, suc, ◌+◌, ◌
 use Rattle.std.proofs.{lemmas.Bool.Decides.eqb_tells, lemmas.Bool.Decides.leb_tells, lemmas.List.Sums.sum_by-cons}
 use Rattle.std.specs.Option.{option_map}
 use Rattle.arena_base.proofs.CallerLemmas.{limit_of-below}
-use Rattle.ord_tree.specs.Generation.{next_generation}
-use Rattle.ord_tree.specs.PlainArena.{cleared as arena_cleared, with_item as arena_with_item, slot, item_of, item_if, IsLawful}
-use Rattle.ord_tree.specs.PlainArena.{HoldsSame, arena_len, arena_capacity, removed as arena_removed, renewed as arena_renewed}
-use Rattle.ord_tree.specs.Chain.{Entry, entry_at, times, IsSound, IsDistinct, without, with_generation, removed, renewed, cleared}
-use Rattle.ord_tree.specs.{Chain.item_of as item_among, Chain.with_item_among, ChainCompression.lesser}
+use Rattle.ord_tree.specs.{Generation.next_generation, PlainArena.cleared as arena_cleared, PlainArena.with_item as arena_with_item, PlainArena.slot}
+use Rattle.ord_tree.specs.PlainArena.{item_of, item_if, IsLawful, HoldsSame, arena_len, arena_capacity, removed as arena_removed, renewed as arena_renewed}
+use Rattle.ord_tree.specs.Chain.{Entry, entry_at, times, IsSound, IsDistinct, without, with_generation, removed, renewed, cleared, item_of as item_among}
+use Rattle.ord_tree.specs.{Chain.with_item_among, ChainCompression.lesser, Tree.Tree, Tree.with_item}
 use Rattle.chain_base.proofs.CallerLemmas.{entry_at-absent, entry_at-with_item_among, entry_at-with_item_among_other, entry_at-without, entry_at-without_other}
 use Rattle.chain_base.proofs.CallerLemmas.{entry_at-with_generation, entry_at-with_generation_other, lesser-zero, lesser-next, lesser-all}
-use Rattle.ord_tree.specs.Tree.{Tree, with_item}
 use Rattle.triple_ord.specs.Content.{slots_from, content_of}
 
 module _ {T : Type 0} where

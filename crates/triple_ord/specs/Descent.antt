@@ -2,8 +2,7 @@
 use Rattle.std.specs.{List.All, List.FoldsTo, Option.option_map, Ordering.ordering_then}
 use Rattle.std.specs.Prelude.{◌≡◌, ◌≢◌, ℕ, ◌+◌, ◌-◌, ◌^◌, ◌<◌, ◌≤◌, ◌⊎◌, List, ◌++◌, Option, Some, None, IsSome, IfSome, MatchOption, Contains, length, map}
 use Rattle.std.specs.declared.cmp.Ordering.{Ordering, TheVariants.Less, TheVariants.Equal, TheVariants.Greater}
-use Rattle.ord_tree.specs.Chain.{Entry, times, entry_at, link_at}
-use Rattle.ord_tree.specs.{Shape.Shape, Shape.node, Shape.root_of, Shape.walk, Shape.height, Tree.Tree}
+use Rattle.ord_tree.specs.{Chain.Entry, Chain.times, Chain.entry_at, Chain.link_at, Shape.Shape, Shape.node, Shape.root_of, Shape.walk, Shape.height, Tree.Tree}
 use Rattle.triple_ord.specs.{ClosureSearch.Shown, ClosureSearch.entries_of, ClosureSearch.where_equal, ClosureSearch.similar_of, Search.order_to, Search.pointer, Search.FindsSimilar, Gap.first_of, Gap.last_of, Node.IsPart}
 
 -- the entry at index i, with the roots of its sides

@@ -1,7 +1,6 @@
 -- What an entry of an insertion shows and inserts.
 use Rattle.std.specs.{Prelude.◌≡◌, Prelude.ℕ, Prelude.List, Prelude.Option, Prelude.Some, Prelude.None, declared.cmp.Ordering.Ordering}
-use Rattle.ord_tree.specs.{Chain.Entry, Chain.next_index, Insert.IsInsertion}
-use Rattle.ord_tree.specs.Tree.{Tree, IsGrown, with_item}
+use Rattle.ord_tree.specs.{Chain.Entry, Chain.next_index, Insert.IsInsertion, Tree.Tree, Tree.IsGrown, Tree.with_item}
 use Rattle.triple_ord.specs.{declared.entry_kind.OrdEntryKind.OrdEntryKind, declared.entry_kind.OrdEntryKind.TheVariants.New, declared.entry_kind.OrdEntryKind.TheVariants.Replacing, declared.insert_kind.OrdInsertKind.OrdInsertKind}
 use Rattle.triple_ord.specs.{Place.Place, Place.into, Place.over, Place.IsPlace, Place.aim_of, declared.growth.Growth.Growth, Insertion.with_room_by, Gap.Gap, Gap.with_between, EntryVisits.VisitsFor, Search.pointer, Arena.item_of}
 

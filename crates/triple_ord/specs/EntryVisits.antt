@@ -1,7 +1,6 @@
 -- Bounds on the entries that an insertion's search for its place visits.
 use Rattle.std.specs.{Prelude.◌≡◌, Prelude.◌≢◌, Prelude.ℕ, Prelude.◌≤◌, Prelude.⊤, Prelude.List, Prelude.[], Prelude.IfNone, Prelude.length, declared.cmp.Ordering.Ordering}
-use Rattle.ord_tree.specs.Chain.{Entry, entry_at}
-use Rattle.ord_tree.specs.Tree.{Tree}
+use Rattle.ord_tree.specs.{Chain.Entry, Chain.entry_at, Tree.Tree}
 use Rattle.triple_ord.specs.declared.insert_kind.OrdInsertKind.TheVariants.{Empty, Normal, Nonhereditary, Linear, NonhereditaryLinear, Manual}
 use Rattle.triple_ord.specs.{VisitBounds.IsWithinBounds, VisitBounds.IsWithinHintedBounds, declared.insert_kind.OrdInsertKind.OrdInsertKind, Place.Place, Place.into, Gap.neighbour_count, Hint.IsNearHint}
 

@@ -1,7 +1,6 @@
 -- The distance of a hint: the number of entries from the hint to the gap where a key belongs.
 use Rattle.std.specs.{Prelude.◌≡◌, Prelude.Option, Option.option_map, Option.option_or, Prelude.ℕ, Prelude.◌+◌, Prelude.◌-◌, Prelude.◌≤◌, Prelude.◌==◌, Prelude.nat_lt, Prelude.if◌then◌else◌, Prelude.List, Prelude.[], Prelude.◌∷◌, Prelude.length, Prelude.IsSome, Prelude.IfNone, declared.cmp.Ordering.Ordering}
-use Rattle.ord_tree.specs.Chain.{Entry, entry_at}
-use Rattle.ord_tree.specs.Tree.{Tree}
+use Rattle.ord_tree.specs.{Chain.Entry, Chain.IsDistinct, Chain.entry_at, Tree.Tree}
 use Rattle.triple_ord.specs.{VisitBounds.IsWithinBounds, VisitBounds.IsWithinHintedBounds, Search.FindsSimilar, Gap.Gap, Gap.before, Gap.after, Gap.present, Order.IsInOrder, Search.Fits, Search.pointer, Search.order_to}
 
 module _ {T : Type 0} where
@@ -34,7 +33,7 @@ AnswersNear key cmp entries k i num found = IsInOrder key cmp entries → IsSome
     → found ≡ option_map (λ e. (pointer e, order_to key cmp k e)) (way_end gap (position_of entries i))
 
 -- A search for a similar key that first makes at most num steps from the entry at index i, with c visits. `taking` orders keys as the
--- search takes equal ones.
+-- search takes equal ones. No two entries have the same index.
 pub record SearchesNear {T K : Type 0} (key : T → K) (cmp taking : K → K → Ordering) (t : Tree T) (k : K) (i num : ℕ)
     (answer : Option ((ℕ × ℕ) × Ordering)) (c : ℕ) : Type 0 where
   pub found : FindsSimilar key taking t.list.entries k answer c
@@ -42,3 +41,4 @@ pub record SearchesNear {T K : Type 0} (key : T → K) (cmp taking : K → K →
   pub unhinted : IfNone (entry_at t.list.entries i) (IsWithinBounds (length t.list.entries) t.shape c)
   pub near : IsNearHint key cmp t.list.entries k i num c
   pub answers : AnswersNear key cmp t.list.entries k i num answer
+  pub distinct : IsDistinct t.list.entries

@@ -1,9 +1,8 @@
 -- What contracts see of an entry of an insertion.
 use Rattle.std.specs.declared.{alloc.Allocator.Ghosts as AllocatorGhosts, cmp.PartialEq.Ghosts as PartialEqGhosts}
 use Rattle.std.specs.{Borrow.GName, Borrow.Fml, Borrow.RattleType, Borrow.MutBor, Borrow.RestsIfErr, Prelude.◌≡◌, Prelude.ℕ, Prelude.List, Prelude.Result, Prelude.IfOk, Prelude.IfErr, declared.cmp.Ordering.Ordering}
-use Rattle.ord_tree.specs.{BasePtr.Ghosts as PtrGhosts, BasePtrGen.Ghosts as PtrGenGhosts, BasePtrInx.Ghosts as PtrInxGhosts}
-use Rattle.ord_tree.specs.Chain.{Entry}
-use Rattle.ord_tree.specs.Tree.{Tree, put_at}
+use Rattle.ord_tree.specs.{BasePtr.Ghosts as PtrGhosts, BasePtrGen.Ghosts as PtrGenGhosts, BasePtrInx.Ghosts as PtrInxGhosts, Chain.Entry, Tree.Tree}
+use Rattle.ord_tree.specs.Tree.{put_at}
 use Rattle.triple_ord.specs.{Arena.count, Arena.FindSame, Entry.IsEntryFor, Insertion.IsRefused, Place.aim_of}
 use Rattle.triple_ord.specs.{declared.error.OrdInsertionError.OrdInsertionError, declared.growth.Growth.Growth, declared.insert_kind.OrdInsertKind.OrdInsertKind}
 use Rattle.triple_ord.specs.{declared.arena.insert_entry.SimpleOrdArenaInsertEntry.SimpleOrdArenaInsertEntry, declared.entry_kind.OrdEntryKind.OrdEntryKind, contracts.arena.SimpleOrdArena.the_row}

@@ -1,7 +1,6 @@
 -- What an insertion does: a single step once its place is known.
-use Rattle.std.specs.{Prelude.◌≡◌, Prelude.◌≢◌, Prelude.◌+◌, Prelude.ℕ, Prelude.Option, Prelude.Some, Prelude.None, Prelude.is_some, Prelude.if◌then◌else◌, Prelude.Result, Prelude.Ok, Prelude.Err, Prelude.IfOk, Prelude.IfErr, Prelude.OnOk, Prelude.OnErr, Prelude.length, declared.cmp.Ordering.Ordering, declared.cmp.Ordering.TheVariants.Equal}
-use Rattle.ord_tree.specs.{Chain.Entry, Chain.Chain, Chain.chain_limit, Chain.with_room, Insert.IsInsertion}
-use Rattle.ord_tree.specs.Tree.{Tree, IsGrown, with_item}
+use Rattle.std.specs.{Prelude.◌≡◌, Prelude.◌≢◌, Prelude.◌+◌, Prelude.◌<◌, Prelude.ℕ, Prelude.Option, Prelude.Some, Prelude.None, Prelude.is_some, Prelude.if◌then◌else◌, Prelude.Result, Prelude.Ok, Prelude.Err, Prelude.IfOk, Prelude.IfErr, Prelude.OnOk, Prelude.OnErr, Prelude.length, declared.cmp.Ordering.Ordering, declared.cmp.Ordering.TheVariants.Equal}
+use Rattle.ord_tree.specs.{Chain.Entry, Chain.Chain, Chain.chain_limit, Chain.with_room, Insert.IsInsertion, Tree.Tree, Tree.IsGrown, Tree.with_item}
 use Rattle.triple_ord.specs.declared.error.OrdInsertionError.TheVariants.{FailedOrdRequirement, NotWithinCapacity, BeyondMaxCapacity, AllocError}
 use Rattle.triple_ord.specs.{declared.growth.Growth.Growth, declared.growth.Growth.TheVariants.Within, declared.growth.Growth.TheVariants.Reallocating}
 use Rattle.triple_ord.specs.{declared.entry_kind.OrdEntryKind.OrdEntryKind, declared.entry_kind.OrdEntryKind.TheVariants.New, declared.entry_kind.OrdEntryKind.TheVariants.Replacing, declared.error.OrdInsertionError.OrdInsertionError}
@@ -25,6 +24,7 @@ module _ {T : Type 0} where
 -- What a call does that makes sure that a slot is vacant: at most, the arena grows. A failed call changes nothing.
 pub record MakesRoom {T X : Type 0} (growth : Growth) (most : ℕ) (old : Tree T) (result : Result X OrdInsertionError) (new : Tree T) : Type 0 where
   pub room : OnOk result (new ≡ record old { list = with_room_by growth most old.list })
+  pub vacant : OnOk result (length new.list.entries < new.list.capacity)
   pub entries : new.list.entries ≡ old.list.entries
   pub refused : IfErr result (LacksSlot growth most old.list)
   pub err : OnErr result (new ≡ old)

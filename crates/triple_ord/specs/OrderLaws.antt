@@ -1,8 +1,7 @@
 -- Laws of searches and insertions on a list in order, and of rebuilt shapes.
 use Rattle.std.specs.{Prelude.◌≡◌, Prelude.◌≢◌, Prelude.◌↔◌, Prelude.ℕ, Prelude.◌⊎◌, Prelude.List, Prelude.[], Prelude.◌∷◌, Prelude.◌++◌, Prelude.Option, Prelude.Some, Prelude.None, Prelude.Result, Prelude.Contains, List.All}
 use Rattle.std.specs.declared.cmp.Ordering.{Ordering, TheVariants.Less, TheVariants.Equal, TheVariants.Greater}
-use Rattle.ord_tree.specs.Chain.{Entry, IsDistinct}
-use Rattle.ord_tree.specs.{Half.IsRebuilt, Shape.Shape, Shape.missing, Shape.node, Shape.size_of, Tree.Tree}
+use Rattle.ord_tree.specs.{Chain.Entry, Chain.IsDistinct, Half.IsRebuilt, Shape.Shape, Shape.missing, Shape.node, Shape.size_of, Tree.Tree}
 use Rattle.triple_ord.specs.{declared.entry_kind.OrdEntryKind.OrdEntryKind, declared.error.OrdInsertionError.OrdInsertionError, Search.pointer, Search.order_to, Search.FindsKey, Search.FindsSimilar, declared.growth.Growth.Growth, Insertion.InsertsBy}
 use Rattle.triple_ord.specs.{ClosureSearch.Shown, ClosureSearch.FindsWith, Place.Aim, Place.at_key, Place.behind_key, Gap.Gap, Gap.before, Gap.after, Order.IsInOrder}
 

@@ -1,8 +1,7 @@
 -- A walk along the list of an arena that borrows nothing. It holds the index of the entry that it returns next, or none.
 use Rattle.std.specs.Prelude.{◌≡◌, ℕ, Bool, Option, Some, None, List, [], ◌∷◌, if◌then◌else◌, map, reverse, MatchOption, IsSome}
 use Rattle.std.specs.Option.{option_and_then}
-use Rattle.ord_tree.specs.Chain.{link_at}
-use Rattle.ord_tree.specs.Tree.{Tree}
+use Rattle.ord_tree.specs.{Chain.link_at, Tree.Tree}
 use Rattle.triple_ord.specs.{Arena.item_of, Search.pointer, Walk.entries_left}
 
 -- the position of a walk, and whether it goes back along the list

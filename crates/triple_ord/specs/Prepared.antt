@@ -1,9 +1,8 @@
 -- The place of an insertion as the arena stores it: beside an entry, or the pointer of an entry. No public clause cites this file.
-use Rattle.std.specs.Prelude.{◌≡◌, ℕ, Option, Some, None, IsSome, length, option_map}
+use Rattle.std.specs.Prelude.{◌≡◌, ◌<◌, ℕ, Option, Some, None, IsSome, length, option_map}
 use Rattle.std.{proofs.Props.props, specs.declared.cmp.Ordering.Ordering, specs.declared.cmp.Ordering.TheVariants.Less, specs.declared.cmp.Ordering.TheVariants.Equal, specs.declared.cmp.Ordering.TheVariants.Greater}
-use Rattle.ord_tree.specs.{declared.tree_links.Side.Side, declared.tree_links.Side.TheVariants.Lesser as OnLesser, declared.tree_links.Side.TheVariants.Greater as OnGreater}
-use Rattle.ord_tree.specs.Chain.{Entry, Chain, entry_at, next_index}
-use Rattle.ord_tree.specs.Tree.{Tree, put_at}
+use Rattle.ord_tree.specs.declared.tree_links.Side.{Side, TheVariants.Lesser as OnLesser, TheVariants.Greater as OnGreater}
+use Rattle.ord_tree.specs.{Chain.Entry, Chain.Chain, Chain.entry_at, Chain.next_index, Tree.Tree, Tree.put_at}
 use Rattle.triple_ord.specs.declared.insert_kind.OrdInsertKind.TheVariants.{Normal, Nonhereditary, Linear, NonhereditaryLinear}
 use Rattle.triple_ord.specs.{declared.prepared.InsertPlace.InsertPlace, declared.prepared.InsertPlace.TheVariants.New, declared.prepared.InsertPlace.TheVariants.Replacing, EntryVisits.HasSeen, EntryVisits.VisitsFor, Gap.with_between}
 use Rattle.triple_ord.specs.{declared.ties.Ties.Ties, declared.ties.Ties.TheVariants.Sought, declared.ties.Ties.TheVariants.Passed, declared.entry_kind.OrdEntryKind.OrdEntryKind, declared.insert_kind.OrdInsertKind.OrdInsertKind}
@@ -82,9 +81,11 @@ module _ {P T : Type 0} (numbers : P → ℕ × ℕ) where
       pub keeps : Keeps t kept place
       pub visits : VisitsFor key cmp number kind t place c
 
-  -- an item can go there without memory: beside an entry, under the next pointer, or in place of the item that the pointer finds
+  -- An item can go there without memory: beside an entry, under the next pointer and into a vacant slot, or in place of the item that the
+  -- pointer finds.
   abbrev pub IsReady : OrdEntryKind P → Option (P × Side) → Tree T → Type 0
   IsReady (shown.New p) at t = HasRoomAt at t.list × (next_index t.list ≡ Some (numbers p).0) × ((numbers p).1 ≡ t.list.generation)
+      × (length t.list.entries < t.list.capacity)
   IsReady (shown.Replacing p) at t = IsSome (item_of t (numbers p))
 
   -- each of these is a proposition

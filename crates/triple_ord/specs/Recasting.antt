@@ -1,7 +1,6 @@
 -- Recasting an arena's items, one after another by rising index, up to the first error.
 use Rattle.std.specs.{Prelude.◌≡◌, Prelude.ℕ, Prelude.Some, Prelude.Result, Prelude.Ok, Prelude.Err, Prelude.List, Prelude.[], Prelude.◌∷◌, Prelude.◌++◌, Prelude.MatchResult, List.FoldsTo}
-use Rattle.ord_tree.specs.ArenaWalk.{pointers}
-use Rattle.ord_tree.specs.Tree.{Tree, with_item}
+use Rattle.ord_tree.specs.{ArenaWalk.pointers, Tree.Tree, Tree.with_item}
 use Rattle.triple_ord.specs.{Arena.entry_at, Content.content_of}
 
 -- `gives` describes an item after its recast, and what the recast returned

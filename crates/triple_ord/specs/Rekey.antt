@@ -1,7 +1,6 @@
 -- An entry that moves to the place of its key, with a new item or its own.
 use Rattle.std.specs.{Prelude.◌≡◌, Prelude.ℕ, Prelude.◌≤◌, Prelude.◌⊎◌, Prelude.None, Prelude.Result, Prelude.IfErr, Prelude.OnErr, declared.cmp.Ordering.Ordering}
-use Rattle.ord_tree.specs.Chain.{without}
-use Rattle.ord_tree.specs.{Tree.Tree, Tree.with_item, Move.IsRearranged}
+use Rattle.ord_tree.specs.{Chain.without, Tree.Tree, Tree.with_item, Move.IsRearranged}
 use Rattle.triple_ord.specs.{Arena.item_of, Arena.count, Gap.Gap, Gap.with_between, Gap.neighbour_count, Place.LiesBehind, Order.IsInOrder}
 
 -- The entry of p has the item, and is in a gap of the other entries that lies behind the item's key. Nothing else changes.

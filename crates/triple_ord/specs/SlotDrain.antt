@@ -1,9 +1,7 @@
 -- What contracts see of a drain of an ordered arena in index order.
 use Rattle.std.specs.{Prelude.◌≡◌, Prelude.ℕ, Prelude.Option, Prelude.Some, Prelude.None, Prelude.List, Prelude.[], Prelude.◌∷◌, Prelude.MatchOption, Borrow.GName}
-use Rattle.ord_tree.specs.{Generation.overflows_after, Invalidation.allowed_value, Invalidation.is_overflow}
-use Rattle.ord_tree.specs.{ArenaWalk.pointers, ArenaWalk.walk_rest, InvalidationOption.InvalidationOption}
-use Rattle.ord_tree.specs.Chain.{removed}
-use Rattle.ord_tree.specs.Tree.{Tree, IsShrunk}
+use Rattle.ord_tree.specs.{Generation.overflows_after, Invalidation.allowed_value, Invalidation.is_overflow, ArenaWalk.pointers, ArenaWalk.walk_rest}
+use Rattle.ord_tree.specs.{InvalidationOption.InvalidationOption, Chain.removed, Tree.Tree, Tree.IsShrunk}
 use Rattle.triple_ord.specs.{Arena.item_of, Arena.Updates, Arena.FindsNothing, Content.content_of, declared.arena.slot_drain.Drain.Drain}
 
 module _ {P T A Inx Gen : Type 0} where

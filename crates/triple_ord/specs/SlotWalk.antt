@@ -1,7 +1,6 @@
 -- A walk over an ordered arena in index order, whatever its list order.
 use Rattle.std.specs.Prelude.{ℕ, Option, IfSome, IsSome}
-use Rattle.ord_tree.specs.ArenaWalk.{Walk, WalkSteps}
-use Rattle.ord_tree.specs.Tree.{Tree}
+use Rattle.ord_tree.specs.{ArenaWalk.Walk, ArenaWalk.WalkSteps, Tree.Tree}
 use Rattle.triple_ord.specs.{Arena.item_of, Content.content_of}
 
 -- A step over the arena took the walk from `old` to `new` and returned this pointer or nothing. It is a step over the arena's finite map,

@@ -1,6 +1,6 @@
 -- Bounds on the entries that a search visits.
 use Rattle.std.specs.Prelude.{◌≡◌, ℕ, ◌+◌, ◌-◌, ◌^◌, ◌<◌, ◌≤◌, length}
-use Rattle.ord_tree.specs.{Half.IsRebuilt, Numbers.fib, Numbers.HasDigits, Ranks.IsRanked, Ranks.IsTight}
+use Rattle.ord_tree.specs.{Chain.IsDistinct, Half.IsRebuilt, Numbers.fib, Numbers.HasDigits, Ranks.IsRanked, Ranks.IsTight}
 use Rattle.ord_tree.specs.{Shape.Shape, Shape.size_of, Shape.height, Tree.Tree}
 
 -- the bounds on the visits c of a search among n entries in this shape
@@ -14,10 +14,11 @@ pub record IsWithinBounds (n : ℕ) (shape : Shape) (c : ℕ) : Type 0 where
   -- in an empty list
   pub empty : n ≡ 0 → c ≡ 0
 
--- a search of an arena that finds this with c visits, within the bounds
+-- a search of an arena that finds this with c visits, within the bounds; no two entries have the same index
 pub record IsBoundedSearch {T : Type 0} (t : Tree T) (c : ℕ) (finds : Type 0) : Type 0 where
   pub found : finds
   pub visits : IsWithinBounds (length t.list.entries) t.shape c
+  pub distinct : IsDistinct t.list.entries
 
 -- A descent of a probe that had counted `before` visits and then has counted `after`: what it finds with the visits since, and the bounds
 -- on them.

@@ -1,7 +1,6 @@
 -- Walking through a list of entries.
 use Rattle.std.specs.Prelude.{◌≡◌, ℕ, List, [], Option, Some, None, IfSome, length}
-use Rattle.std.specs.Iterator.{UpTo, item_count}
-use Rattle.std.specs.Iterator.SizeHint.{IsWithinCount}
+use Rattle.std.specs.Iterator.{UpTo, item_count, SizeHint.IsWithinCount}
 use Rattle.ord_tree.specs.Chain.{Entry, IsDistinct, from_index}
 
 -- the entries from the one with this index on; none without an index

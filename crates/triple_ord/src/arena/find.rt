@@ -28,8 +28,6 @@ impl<P: BasePtr, T: SimpleOrdItem, A: Allocator> SimpleOrdArena<P, T, A> {
     pub fn find_key(&self, k: &T::Key) -> Option<P>
         ensures { FindsEqual T.key_of T.Key.cmp P.numbers self.now k.now result }
     {
-        // For the prover: the list is sound.
-        prove!(self.len() <= usize::MAX);
         self.find_key_counted(k).0
     }
 
@@ -52,8 +50,6 @@ impl<P: BasePtr, T: SimpleOrdItem, A: Allocator> SimpleOrdArena<P, T, A> {
     pub fn find_similar_key(&self, k: &T::Key) -> Option<(P, Ordering)>
         ensures { FindsNearest T.key_of T.Key.cmp P.numbers self.now k.now result }
     {
-        // For the prover: the list is sound.
-        prove!(self.len() <= usize::MAX);
         self.find_similar_key_counted(k).0
     }
 
@@ -77,8 +73,6 @@ impl<P: BasePtr, T: SimpleOrdItem, A: Allocator> SimpleOrdArena<P, T, A> {
         ensures { FindsNearest T.key_of (order_past_equals T.Key.cmp) P.numbers
             self.now k.now result }
     {
-        // For the prover: the list is sound.
-        prove!(self.len() <= usize::MAX);
         self.find_behind_key_counted(k).0
     }
 

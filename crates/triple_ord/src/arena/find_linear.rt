@@ -72,8 +72,6 @@ impl<P: BasePtr, T: SimpleOrdItem, A: Allocator> SimpleOrdArena<P, T, A> {
         ensures answers { AnswersNear T.key_of T.Key.cmp self.now.list.entries k.now
             (P.Inx.number p_init) num (option_map (λ a. (P.numbers a.0, a.1)) result) }
     {
-        // For the prover: the list is sound.
-        prove!(self.len() <= usize::MAX);
         self.find_similar_key_linear_counted(p_init, num, k).0
     }
 

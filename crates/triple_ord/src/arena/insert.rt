@@ -33,8 +33,6 @@ impl<P: BasePtr, T: SimpleOrdItem + Drop, A: Allocator> SimpleOrdArena<P, T, A> 
         ensures { InsertsByKey T.key_of T.Key.cmp P.Inx.most Within P.numbers
             self.old t result self.new }
     {
-        // For the prover: the list is sound.
-        let _ = self.len();
         let prepared = self.prepare(Growth::Within, OrdInsertKind::Normal(t.key()))?;
         let p = prepared.shown.any();
         Ok((p, self.insert_prepared(prepared, t)))
@@ -61,8 +59,6 @@ impl<P: BasePtr, T: SimpleOrdItem + Drop, A: Allocator> SimpleOrdArena<P, T, A> 
         ensures { InsertsByKey T.key_of T.Key.cmp P.Inx.most Reallocating P.numbers
             self.old t result self.new }
     {
-        // For the prover: the list is sound.
-        let _ = self.len();
         let prepared = self.prepare(Growth::Reallocating, OrdInsertKind::Normal(t.key()))?;
         let p = prepared.shown.any();
         Ok((p, self.insert_prepared(prepared, t)))
@@ -105,8 +101,6 @@ impl<P: BasePtr, T: Drop, A: Allocator> SimpleOrdArena<P, T, A> {
             ≡ (if is_some before then count self.old else count self.old + 1)) }
         ensures refused { OnErr result (self.new ≡ self.old) }
     {
-        // For the prover: the list is sound.
-        let _ = self.len();
         let Some(side) = side_by(direction) else {
             return Ok(Some(self.replace(p, t)));
         };

@@ -1,6 +1,7 @@
 //! The search for the place of an insertion.
 ghost use Rattle.std.specs.Prelude.{◌≡◌, ℕ, IfOk, IfErr};
 ghost use Rattle.std.specs.Option.{option_map};
+ghost use Rattle.ord_tree.specs.Chain.{IsDistinct};
 ghost use Rattle.triple_ord.specs.Place.{alone, at_key, beside, nowhere, IsPlace, aim_of, kind_now};
 ghost use Rattle.triple_ord.specs.Prepared.{IsFoundPlace, IsPlaceBeside, IsPlaceFor, kind_by, kind_near};
 ghost use Rattle.triple_ord.specs.Search.{FindsSimilar};
@@ -85,13 +86,12 @@ impl<P: BasePtr, T: SimpleOrdItem, A: Allocator> SimpleOrdArena<P, T, A> {
     // The place where a search by a key ended: an equal entry, whose item is replaced, or a gap.
     #[inline(always)]
     fn place_found(&self, found: Option<(P, Ordering)>) -> InsertPlace<P>
-        ensures { (cmp : T.Key → T.Key → Ordering) (k : T.Key) (c : ℕ)
+        ensures { IsDistinct self.now.list.entries
+            → (cmp : T.Key → T.Key → Ordering) (k : T.Key) (c : ℕ)
             → FindsSimilar T.key_of cmp self.now.list.entries k
             (option_map (λ a. ((P.numbers a.0), a.1)) found) c
             → IsFoundPlace P.numbers T.key_of cmp self.now (at_key k) c result }
     {
-        // For the prover: the list is sound.
-        let _ = self.len();
         match found {
             None => InsertPlace::New(None),
             Some(at) => place_at(at),
@@ -114,8 +114,6 @@ impl<P: BasePtr, T: SimpleOrdItem, A: Allocator> SimpleOrdArena<P, T, A> {
         ensures { IsPlaceBeside P.numbers T.key_of T.Key.cmp self.now
             (beside (P.Inx.number i) direction) result }
     {
-        // For the prover: the list is sound.
-        let _ = self.len();
         let (generation, _item) = self.get_inx(i)?;
         let p = P::_from_raw(i, generation);
         Some(place_at((p, direction)))

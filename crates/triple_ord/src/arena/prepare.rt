@@ -1,7 +1,7 @@
 //! What an entry of an insertion needs: the place with its pointer and its slot, and the insertion there.
-ghost use Rattle.std.specs.Prelude.{◌≡◌, ◌+◌, Some, IsSome, IfOk, OnOk, IfErr, IfSome, OnErr, is_some, if◌then◌else◌};
+ghost use Rattle.std.specs.Prelude.{◌≡◌, ◌+◌, ◌<◌, Some, IsSome, IfOk, OnOk, IfErr, IfSome, OnErr, is_some, length, if◌then◌else◌};
 ghost use Rattle.std.specs.Option.{option_map};
-ghost use Rattle.ord_tree.specs.Chain.{next_index, IsOccupied};
+ghost use Rattle.ord_tree.specs.Chain.{next_index, IsDistinct, IsOccupied, IsSound};
 ghost use Rattle.ord_tree.specs.Insert.{IsInsertion};
 ghost use Rattle.ord_tree.specs.Tree.{IsGrown, put_at, with_item};
 ghost use Rattle.triple_ord.specs.Arena.{item_of, entry_at, count, Updates, FindSame};
@@ -42,6 +42,7 @@ impl<P: BasePtr, T: SimpleOrdItem + Drop, A: Allocator> SimpleOrdArena<P, T, A> 
         ensures refused { IfErr result (IsRefused T.key_of T.Key.cmp P.Inx.most growth
             (aim_of P.Inx.number (kind_now kind.entry)) self.old) }
         ensures err { OnErr result (self.new ≡ self.old) }
+        ensures distinct { IsDistinct self.old.list.entries }
     {
         // For the prover: the list is sound.
         let _ = self.len();
@@ -79,8 +80,6 @@ impl<P: BasePtr, T: Drop, A: Allocator> SimpleOrdArena<P, T, A> {
         ensures count { count self.new
             ≡ (if is_some result then count self.old else count self.old + 1) }
     {
-        // For the prover: the list is sound.
-        let _ = self.len();
         match prepared.shown {
             OrdEntryKind::Replacing(p) => Some(self.replace(p.inx(), t)),
             OrdEntryKind::New(_shown) => {
@@ -94,14 +93,12 @@ impl<P: BasePtr, T: Drop, A: Allocator> SimpleOrdArena<P, T, A> {
     #[inline(always)]
     fn put(&mut self, at: Option<(P, Side)>, t: T) -> P
         requires can { HasRoomAt P.numbers at self.old.list }
-        requires vacant { IsSome (next_index self.old.list) }
+        requires vacant { length self.old.list.entries < self.old.list.capacity }
         ensures inserted { IsInsertion self.old.list self.new.list
             (put_at (λ p. (P.numbers p).0) at self.old.list.entries)
             t (P.numbers result).0 (P.numbers result).1 }
         ensures grown { IsGrown self.old.shape self.new.shape }
     {
-        // For the prover: the list is sound.
-        let _ = self.len();
         let at = index_beside(at);
         self.tree.insert_within_capacity(at, t).unwrap()
     }
@@ -109,12 +106,11 @@ impl<P: BasePtr, T: Drop, A: Allocator> SimpleOrdArena<P, T, A> {
     // The pointer of the next new entry, which has a vacant slot.
     #[inline(always)]
     fn next_slot(&mut self, growth: Growth) -> Result<P, OrdInsertionError>
+        requires { IsSound P.Inx.most P.Gen.greatest self.old.list }
         ensures makes { MakesRoom growth P.Inx.most self.old result self.new }
         ensures index { IfOk result (λ p. next_index self.new.list ≡ Some (P.numbers p).0) }
         ensures generation { IfOk result (λ p. (P.numbers p).1 ≡ self.new.list.generation) }
     {
-        // For the prover: the list is sound.
-        let _ = self.len();
         match growth {
             Growth::Within => self
                 .tree

@@ -65,8 +65,6 @@ impl<P: BasePtr, T: SimpleOrdItem, A: Allocator> SimpleOrdArena<P, T, A> {
         ensures updates { OnOk result (Updates self.old self.new (P.numbers p) (Some t)) }
         ensures otherwise { MovesOrReturns self.old (P.numbers p) t result self.new }
     {
-        // For the prover: the list is sound.
-        let _ = self.len();
         if !self.contains(p) {
             return Err(t);
         }
@@ -88,8 +86,6 @@ impl<P: BasePtr, T: SimpleOrdItem, A: Allocator> SimpleOrdArena<P, T, A> {
         ensures count { count self.new ≡ count self.old }
         ensures stale { OnFalse result (self.new ≡ self.old) }
     {
-        // For the prover: the list is sound.
-        let _ = self.len();
         let Some(item) = self.get(p) else {
             return false;
         };
@@ -127,8 +123,6 @@ impl<P: BasePtr, K: Ord, V, A: Allocator> SimpleOrdArena<P, OrdPair<K, V>, A> {
             (option_map (λ pair. (k, pair.1)) (item_of self.old (P.numbers p))) }
         ensures otherwise { MovesOrReturns self.old (P.numbers p) k result self.new }
     {
-        // For the prover: the list is sound.
-        let _ = self.len();
         let Some(_pair) = self.get(p) else {
             return Err(k);
         };

@@ -41,8 +41,7 @@ impl<P: BasePtr, T, A: Allocator + Copy> ArenaTrait<P, T> for SimpleOrdArena<P, 
     }
 
     fn is_empty(&self) -> bool {
-        let _ = self.len();
-        self.is_empty()
+        self.len() == 0
     }
 
     fn reallocate_min_capacity(&mut self, n: usize) -> Result<(), ReallocationError> {
@@ -103,7 +102,6 @@ impl<P: BasePtr, T, A: Allocator + Copy> ArenaTrait<P, T> for SimpleOrdArena<P, 
     where
         T: Drop,
     {
-        let _ = self.len();
         self.clear()
     }
 

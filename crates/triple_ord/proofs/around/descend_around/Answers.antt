@@ -1,6 +1,5 @@
 use Rattle.triple_ord.proofs.Descending.{descent-begins, step-occupied, step-few, step-on, within_bounds}
-use Rattle.triple_ord.proofs.OtherEntries.{descent-around}
-use Rattle.triple_ord.proofs.Words.{arith, refl, sym, ◌∙◌}
+use Rattle.triple_ord.proofs.{OtherEntries.descent-around, Words.arith, Words.refl, Words.sym, Words.◌∙◌}
 use Rattle.triple_ord.proofs.around.descend_around.Goals as goal
 
 pub loop-at-init : goal.loop-at-init
@@ -33,4 +32,5 @@ returns g c =
     record {
       found = descent-around _ _ _ c.args.probe.now.distinct _ _ _ _ _ _ (rw c.in_default.is at d);
       visits = within_bounds _ c.root-at.ensures.sound c.visits_law.ensures _ (omega (arith, d.descending.few, d.count));
+      distinct = c.args.probe.now.distinct;
     }

@@ -2,8 +2,7 @@ use Rattle.triple_ord.proofs.{Words.ap, Words.length, Words.map, Words.◌∙◌
 use Rattle.triple_ord.proofs.arena.SimpleOrdArena.compress_canonical.Goals as goal
 
 pub returns-clause-items : goal.returns-clause-items
-returns-clause-items g c =
-    rw (← c.self.view_is) (ap (λ (c : Chain _). map (λ e. e.item) c.entries) c.compress_canonical.ensures.after ∙ items-numbered _ 1 _)
+returns-clause-items g c = rw (← c.self.view_is) (ap (λ (c : Chain _). map (λ e. e.item) c.entries) c.compress_canonical.ensures.after ∙ items-numbered _ 1 _)
 
 pub returns-clause-found : goal.returns-clause-found
 returns-clause-found g c =

@@ -6,6 +6,6 @@ pub returns : goal.returns
 returns g c =
     let found = c.find_behind_key_counted.ensures.found in
     record {
-      finds = finds-similar g.T.SimpleOrdItem.key_of (order_past_equals g.T.Key.Ord.cmp) c.args.self.now c.args.k.now c.len.ensures.sound.distinct g.P.BasePtr.numbers _ _ found;
+      finds = finds-similar g.T.SimpleOrdItem.key_of (order_past_equals g.T.Key.Ord.cmp) c.args.self.now c.args.k.now c.find_behind_key_counted.ensures.distinct g.P.BasePtr.numbers _ _ found;
       found = (_, found);
     }

@@ -1,9 +1,8 @@
-use Rattle.triple_ord.proofs.{Bare.last_index-under, Bare.none-under, Words.IfSome_then}
+use Rattle.triple_ord.proofs.{Bare.last_index-under, Bare.none_under, Words.IfSome_then}
 use Rattle.triple_ord.proofs.arena.SimpleOrdArena.find_last_inx_ptr.Goals as goal
 
 pub returns-clause-last : goal.returns-clause-last
-returns-clause-last g c =
-    rw (← c.self.view_is) (IfSome_then _ c.find_last_inx_ptr.ensures.last (λ p. last_index-under _ _ c.chain.ensures.chain _ _))
+returns-clause-last g c = rw (← c.self.view_is) (IfSome_then _ c.find_last_inx_ptr.ensures.last (λ p. last_index-under _ _ c.chain.ensures.chain _ _))
 
 pub returns-clause-empty : goal.returns-clause-empty
-returns-clause-empty g c = rw (← c.self.view_is) (none-under _ _ c.chain.ensures.chain _ c.find_last_inx_ptr.ensures.empty)
+returns-clause-empty g c = rw (← c.self.view_is) (none_under _ _ c.chain.ensures.chain c.find_last_inx_ptr.result c.find_last_inx_ptr.ensures.empty)

@@ -11,7 +11,7 @@ returns-in-Replacing-clause-count g c = rw c.replace.ensures.after (count-writte
 pub returns-in-New : goal.returns-in-New
 returns-in-New g c =
     let ready = rw c.in-New.is at c.requires in
-    let place = put-gap g.P.BasePtr.numbers c.args.self.now c.len.ensures.sound.distinct c.args.prepared.at ready.0 in
+    let place = put-gap g.P.BasePtr.numbers c.args.self.now c.args.prepared.at ready.0 in
     let named = insertion-named _ _ _ _ _ _ _ _ ready.1 ready.2 c.put-inserted.ensures.inserted in
     let done = inserted-new c.args.self.now c.put-inserted.new.self c.args.self.now.list refl place.0 c.args.t
     (g.P.BasePtr.numbers c.in-New._shown)

@@ -3,7 +3,7 @@ use Rattle.triple_ord.proofs.arena.SimpleOrdArena.insert_within_capacity.Goals a
 
 pub returns : goal.returns
 returns g c = record {
-  inserts = entry-with_kind _ _ _ _ Within _ c.args.self.now c.prepare.new.self c.insert_prepared.new.self c.len.ensures.sound.distinct _ _ _ _
+  inserts = entry-with_kind _ _ _ _ Within _ c.args.self.now c.prepare.new.self c.insert_prepared.new.self c.prepare.ensures.distinct _ _ _ _
       c.args.t c.insert_prepared.result _ c.key.ensures c.any-p.ensures c.in_ok-prepared.ensures.place c.insert_prepared.ensures.inserts;
   updates = search rules;
   before = search rules;

@@ -8,4 +8,5 @@ returns g c =
     (record {
       found = around-sided _ _ _ _ _ g.P.BasePtr.numbers _ _ (rw all at c.descend_around.ensures.found);
       visits = rw all at c.descend_around.ensures.visits;
+      distinct = c.new-probe.result.distinct;
     })

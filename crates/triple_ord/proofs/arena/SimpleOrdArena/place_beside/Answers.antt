@@ -5,4 +5,4 @@ pub returns : goal.returns
 returns g c =
     let there = sym c.get_inx.ensures ∙ ap (option_map (λ e. (g.P.Gen.BasePtrGen.number e.0, e.1.now))) c.in_ok-generation.was in
     rw c.place_at.ensures
-    (beside-at g.P.BasePtr.numbers g.T.SimpleOrdItem.key_of g.T.Key.Ord.cmp c.args.self.now c.len.ensures.sound.distinct c._from_raw-p.result _ _ _ c._from_raw-p.ensures there c.args.direction)
+    (beside-at g.P.BasePtr.numbers g.T.SimpleOrdItem.key_of g.T.Key.Ord.cmp c.args.self.now c._from_raw-p.result _ _ _ c._from_raw-p.ensures there c.args.direction)

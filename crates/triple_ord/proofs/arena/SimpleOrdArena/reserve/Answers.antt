@@ -1,29 +1,24 @@
 use Rattle.std.proofs.Common.{◌≡◌, ◌+◌, ◌≤◌, ℕ, length, refl, arith, rules}
 use Rattle.std.proofs.lemmas.{Bool.Decides.nat_tests, Grind.common_steps}
-use Rattle.ord_tree.specs.PlainArena.{capacity_for}
-use Rattle.ord_tree.specs.Chain.{chain_limit}
+use Rattle.ord_tree.specs.{PlainArena.capacity_for, Chain.chain_limit}
 use Rattle.triple_ord.proofs.Room.{resizing-keeps, resizing-makes, reserved-room, reserved-grown}
 use Rattle.triple_ord.proofs.arena.SimpleOrdArena.reserve.Goals as goal
 
 pub returns-clause-entries : goal.returns-clause-entries
-returns-clause-entries g c =
-    resizing-keeps c.args.self.now c.reallocate_min_capacity.new.self c.max.result (λ a. a.list.entries) (λ m. refl)
-    c.reallocate_min_capacity.result c.reallocate_min_capacity.ensures.reallocates.ok c.reallocate_min_capacity.ensures.reallocates.err
+returns-clause-entries g c = let call = c.reallocate_min_capacity in
+    resizing-keeps c.args.self.now (λ a. a.list.entries) (λ m. refl) call.new.self c.max.result call.result call.ensures.reallocates.ok call.ensures.reallocates.err
 
 pub returns-clause-generation : goal.returns-clause-generation
-returns-clause-generation g c =
-    resizing-keeps c.args.self.now c.reallocate_min_capacity.new.self c.max.result (λ a. a.list.generation) (λ m. refl)
-    c.reallocate_min_capacity.result c.reallocate_min_capacity.ensures.reallocates.ok c.reallocate_min_capacity.ensures.reallocates.err
+returns-clause-generation g c = let call = c.reallocate_min_capacity in
+    resizing-keeps c.args.self.now (λ a. a.list.generation) (λ m. refl) call.new.self c.max.result call.result call.ensures.reallocates.ok call.ensures.reallocates.err
 
 pub returns-clause-maximum : goal.returns-clause-maximum
-returns-clause-maximum g c =
-    resizing-keeps c.args.self.now c.reallocate_min_capacity.new.self c.max.result (λ a. a.list.maximum) (λ m. refl)
-    c.reallocate_min_capacity.result c.reallocate_min_capacity.ensures.reallocates.ok c.reallocate_min_capacity.ensures.reallocates.err
+returns-clause-maximum g c = let call = c.reallocate_min_capacity in
+    resizing-keeps c.args.self.now (λ a. a.list.maximum) (λ m. refl) call.new.self c.max.result call.result call.ensures.reallocates.ok call.ensures.reallocates.err
 
 pub returns-clause-shape : goal.returns-clause-shape
-returns-clause-shape g c =
-    resizing-keeps c.args.self.now c.reallocate_min_capacity.new.self c.max.result (λ a. a.shape) (λ m. refl)
-    c.reallocate_min_capacity.result c.reallocate_min_capacity.ensures.reallocates.ok c.reallocate_min_capacity.ensures.reallocates.err
+returns-clause-shape g c = let call = c.reallocate_min_capacity in
+    resizing-keeps c.args.self.now (λ a. a.shape) (λ m. refl) call.new.self c.max.result call.result call.ensures.reallocates.ok call.ensures.reallocates.err
 
 pub returns-clause-room : goal.returns-clause-room
 returns-clause-room g c =

@@ -1,5 +1,4 @@
-use Rattle.triple_ord.proofs.Words.{sym, ◌∙◌}
-use Rattle.triple_ord.proofs.Rekeying.{stays_before, stays_after}
+use Rattle.triple_ord.proofs.{Words.sym, Words.◌∙◌, Rekeying.stays_before, Rekeying.stays_after}
 use Rattle.triple_ord.proofs.arena.SimpleOrdArena.stands_beside.Goals as goal
 
 pub returns-in-Lesser : goal.returns-in-Lesser

@@ -1,6 +1,4 @@
-use Rattle.triple_ord.proofs.Words.{sym}
-use Rattle.triple_ord.proofs.OtherEntries.{none_before, item_before, occupied_before}
-use Rattle.triple_ord.proofs.Inserting.{stands}
+use Rattle.triple_ord.proofs.{Words.sym, OtherEntries.none_before, OtherEntries.item_before, OtherEntries.occupied_before, Inserting.stands}
 use Rattle.triple_ord.proofs.probe.Probe.show_previous.Goals.{in-Some, in-None}
 use Rattle.triple_ord.proofs.probe.Probe.show_previous.Goals as goal
 

@@ -41,5 +41,4 @@ returns-clause-steps g c =
     )
 
 pub returns-clause-goes : goal.returns-clause-goes
-returns-clause-goes g c =
-    record { on = λ _. (tt, tt, omega (arith, ap length (returns-clause-steps g c).1.first)); keeps = tt; rests = λ _. tt }
+returns-clause-goes g c = record { on = λ _. (tt, tt, omega (arith, ap length (returns-clause-steps g c).1.first)); keeps = tt; rests = λ _. tt }
