@@ -1,15 +1,13 @@
 -- For callers: what pointers find after a write through a reference that went out.
 use Rattle.std.proofs.Common.{◌≡◌, ◌≢◌, ℕ, [], Option, Some, None, IsSome, refl}
 use Rattle.std.specs.Option.{option_map}
-use Rattle.triple_ord.proofs.ChainLemmas.{length-with_item_among}
-use Rattle.triple_ord.specs.{Tree.Tree, Shape.missing}
-use Rattle.triple_ord.specs.Arena.{item_of}
-use Rattle.triple_ord.proofs.CallerLemmas.{found-written as found-there, others-written as others-there}
+use Rattle.triple_ord.proofs.{ChainLemmas.length-with_item_among, CallerLemmas.found-written as found-there, CallerLemmas.others-written as others-there}
+use Rattle.triple_ord.specs.{Tree.Tree, Shape.missing, Arena.item_of}
 use Rattle.sorted_arena.specs.Sorted.{Sorted, count, pair_of, with_value}
 -- the pointers of the first entry, of the last, and of an entry's neighbours; what a pointer finds; what is left without it; pairs behind
 -- all entries
 pub use Rattle.sorted_arena.proofs.Cutting.{first-named, last-named, last-none, next-here, prev-here, found-here, without-here}
-pub use Rattle.sorted_arena.proofs.Extending.{appended}
+pub use Rattle.sorted_arena.proofs.{Extending.appended, Extending.last-item, Merging.sorted-back, Retaining.first-pointer}
 -- what is true of each element, and of all entries but one
 pub use Rattle.sorted_arena.proofs.Elements.{all-append, all-front, all-back, all-between, all-both, filter-all, filter-none}
 pub use Rattle.sorted_arena.proofs.Cutting.{distinct-rest, recursion-without}

@@ -1,24 +1,17 @@
 -- What insertions and removals make of a sorted arena.
 use Rattle.std.proofs.Common.{◌≡◌, ℕ, ◌+◌, ◌<◌, ◌≤◌, max, ◌++◌, List, [], ◌∷◌, length, Option, Some, None, Result, Ok, Err, IfSome, OnOk, OnErr, IfOk, subst, refl, sym, ap, ◌∙◌, inr, arith, append-nil}
 use Rattle.std.proofs.lemmas.{List.Elements.All-from_recursion}
-use Rattle.std.specs.Cmp.{IsTotalOrder}
+use Rattle.std.specs.{Cmp.IsTotalOrder, Ordering.ordering_reverse, Option.option_map}
 use Rattle.std.specs.Prelude.{IsErr, ◌↔◌}
 use Rattle.std.proofs.Common.{Bool, true, false, nat_lt, if◌then◌else◌}
-use Rattle.std.specs.{Ordering.ordering_reverse, Option.option_map}
 use Rattle.std.specs.declared.cmp.Ordering.{Ordering, TheVariants.Less, TheVariants.Equal, TheVariants.Greater}
-use Rattle.triple_ord.specs.PlainArena.{limit_of, doubled_capacity}
+use Rattle.triple_ord.specs.{PlainArena.limit_of, PlainArena.doubled_capacity, Tree.Tree, Shape.missing, Clone.cloned, Rekey.Rekeys as RekeysArena}
 use Rattle.triple_ord.specs.Chain.{Entry, Chain, times, last_pointer, IsSound as IsSoundChain, chain_limit, removed, with_capacity, greatest_index, new_chain}
 use Rattle.triple_ord.proofs.ChainLemmas.{after-insertion, times-append}
-use Rattle.triple_ord.specs.Tree.{Tree}
-use Rattle.triple_ord.specs.Shape.{missing}
-use Rattle.triple_ord.specs.Clone.{cloned}
 use Rattle.triple_ord.specs.Arena.{item_of as item_of_arena, count as count_arena, with_room_for, Updates as UpdatesArena}
-use Rattle.triple_ord.specs.Insertion.{with_room_by, InsertsNew}
-use Rattle.triple_ord.specs.declared.growth.Growth.TheVariants.{Reallocating}
-use Rattle.triple_ord.specs.{Gap.with_between, Place.behind_key, Order.IsInOrder}
-use Rattle.triple_ord.specs.declared.entry_kind.OrdEntryKind.TheVariants.{New}
+use Rattle.triple_ord.specs.{Insertion.with_room_by, Insertion.InsertsNew, declared.growth.Growth.TheVariants.Reallocating}
+use Rattle.triple_ord.specs.{Gap.with_between, Place.behind_key, Order.IsInOrder, declared.entry_kind.OrdEntryKind.TheVariants.New}
 use Rattle.triple_ord.proofs.CallerLemmas.{entries-with_room_by, numbers-inserted, numbers-with_room_by, capacity-inserted, inserted-new}
-use Rattle.triple_ord.specs.Rekey.{Rekeys as RekeysArena}
 use Rattle.triple_ord.proofs.CallerLemmas.{kept_order, rekeyed_order, in_order-without, all_less, IsInOrder-back}
 use Rattle.sorted_arena.specs.Layout.{item_key, sorted_of, IsSortedArena, IsHeld, IsCompact}
 use Rattle.sorted_arena.proofs.Numbering.{none-behind, compact-inserted, compact-roomy, compact-resized, vacant-numbered}

@@ -1,7 +1,6 @@
 -- Lists of entries that are cut at a place: what the words of a sorted arena say there.
 use Rattle.std.proofs.Common.{◌≡◌, ◌≤◌, ◌≢◌, ℕ, ◌==◌, true, false, Bool, List, [], ◌∷◌, ◌++◌, map, length, length-append, append_assoc, Option, Some, None, IsSome, IfSome, IfNone, IsSomeAnd, is_some, refl, sym, ap, subst, ◌∙◌, arith, inl, inr, if◌then◌else◌}
-use Rattle.std.proofs.{lemmas.Grind.common_steps, lemmas.List.append-nil, lemmas.List.Elements.All-from_recursion, lemmas.List.Elements.recursion_from_All}
-use Rattle.std.proofs.lemmas.Bool.Decides.{eqb_tells}
+use Rattle.std.proofs.lemmas.{Grind.common_steps, List.append-nil, List.Elements.All-from_recursion, List.Elements.recursion_from_All, Bool.Decides.eqb_tells}
 use Rattle.std.specs.{List.AllByRecursion, List.All, Option.option_map, Ordering.is_eq, Ordering.is_le, Ordering.is_lt, Ordering.is_gt, Ordering.ordering_reverse, Ordering.ordering_then, Cmp.IsTotalOrder}
 use Rattle.std.specs.declared.cmp.Ordering.{Ordering, TheVariants.Less, TheVariants.Equal, TheVariants.Greater}
 use Rattle.triple_ord.specs.Chain.{Entry, times, entry_at, item_of, IsDistinct, link_at, first_pointer, last_pointer, without, with_item_among, pointed}
@@ -10,9 +9,9 @@ use Rattle.triple_ord.specs.{Gap.Gap, Gap.before, Gap.after, Gap.first_of, Gap.l
 use Rattle.triple_ord.proofs.CallerLemmas.{IsInOrder-rest, IsInOrder-back, in_order-one, in_order-more, all_greater, all_less, recursion-map}
 use Rattle.triple_ord.proofs.CallerLemmas.{ends, stands, not_before, entry_at-here, link-read, no_last}
 use Rattle.triple_ord.proofs.ChainLemmas.{entry_at-link}
-use Rattle.sorted_arena.specs.Find.{FindsFirst}
+use Rattle.sorted_arena.specs.{Find.FindsFirst, Layout.item_key, Layout.pointer_among}
 use Rattle.sorted_arena.specs.Sorted.{Sorted, IsSound, key_of, first_item, pointer_of, first_where, next_of, prev_from, prev_of, last_item, before_last, AreSorted}
-use Rattle.sorted_arena.specs.Layout.{item_key, pointer_among}
+use Rattle.sorted_arena.proofs.Elements.{all-at}
 
 -- what a test tells of an option
 pub absent : {X : Type 0} (b : Bool) (o : Option X) → b ≡ is_some o → b ≡ false → o ≡ None
@@ -75,6 +74,10 @@ pub not_eq : (o : Ordering) → is_eq o ≡ false → o ≢ Equal
 not_eq o is equal = absurd (let both : is_eq o ≡ true = ap is_eq equal in cc)
 
 module _ {K V : Type 0} where
+  pub index-pointer : (o : Option (Entry (K × V))) → option_map (λ e. e.index) o ≡ option_map (λ p. p.0) (option_map pointer_of o)
+  index-pointer None = refl
+  index-pointer (Some e) = refl
+
   -- the first entry that passes a test, behind entries that don't
   module _ (test : Entry (K × V) → Bool) where
     pub first_where-skip : (front back : List (Entry (K × V))) → AllByRecursion (λ e. test e ≡ false) front → first_where test (front ++ back) ≡ first_where test back
@@ -432,14 +435,10 @@ module _ {K V : Type 0} (cmp : K → K → Ordering) where
         let found : item_of (e ∷ es) (numbers p) ≡ Some e.item = ap (item_of (e ∷ es)) (some-same is) ∙ there in
         rw found (All-from_recursion _ (e ∷ es) (not_greater-itself cmp total (key_of e), recursion_from_All (λ x. cmp (key_of e) (key_of x) ≢ Greater) es sorted.0))
 
-    recursion-end : (P : Entry (K × V) → Type 0) (front : List (Entry (K × V))) (e : Entry (K × V)) → AllByRecursion P (front ++ e ∷ []) → P e
-    recursion-end P [] e all = all.0
-    recursion-end P (x ∷ front) e all = recursion-end P front e all.1
-
     below-last : (e : Entry (K × V)) (front : List (Entry (K × V))) → AreSorted cmp (front ++ e ∷ []) → AllByRecursion (λ x. cmp (key_of x) (key_of e) ≢ Greater) (front ++ e ∷ [])
     below-last e [] sorted = (not_greater-itself cmp total (key_of e), tt)
     below-last e (x ∷ front) sorted =
-        (recursion-end (λ f. cmp (key_of x) (key_of f) ≢ Greater) front e (recursion_from_All _ (front ++ e ∷ []) sorted.0), below-last e front sorted.1)
+        (all-at (λ f. cmp (key_of x) (key_of f) ≢ Greater) front e [] (recursion_from_All _ (front ++ e ∷ []) sorted.0), below-last e front sorted.1)
 
     -- the last key is the greatest
     pub last-greatest : {P : Type 0} (numbers : P → ℕ × ℕ) (o : Option P) (es : List (Entry (K × V))) → IsDistinct es → AreSorted cmp es → option_map numbers o ≡ last_pointer es

@@ -15,6 +15,10 @@ module _ {X : Type 0} (P : X → Type 0) where
   all-back [] ys all = all
   all-back (x ∷ xs) ys all = all-back xs ys all.1
 
+  pub all-at : (xs : List X) (x : X) (ys : List X) → AllByRecursion P (xs ++ x ∷ ys) → P x
+  all-at [] x ys all = all.0
+  all-at (y ∷ xs) x ys all = all-at xs x ys all.1
+
   pub all-between : (xs : List X) (x : X) (ys : List X) → AllByRecursion P (xs ++ ys) → P x → AllByRecursion P (xs ++ x ∷ ys)
   all-between [] x ys all one = (one, all)
   all-between (y ∷ xs) x ys all one = (all.0, all-between xs x ys all.1 one)

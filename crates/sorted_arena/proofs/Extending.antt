@@ -3,13 +3,10 @@ use Rattle.std.proofs.Common.{◌≡◌, ◌≢◌, ℕ, suc, slice_index_or, sl
 use Rattle.std.proofs.{lemmas.List.map-append, lemmas.List.length-map, lemmas.List.Elements.recursion_from_All}
 use Rattle.std.specs.{Option.option_map_or, List.AllByRecursion, List.AllAdjacentBelow, Ordering.is_gt, Ordering.ordering_reverse, Cmp.IsTotalOrder}
 use Rattle.std.specs.declared.cmp.Ordering.{Ordering, TheVariants.Less, TheVariants.Greater}
-use Rattle.triple_ord.specs.Chain.{Entry}
-use Rattle.triple_ord.specs.Gap.{last_of}
-use Rattle.sorted_arena.specs.Change.{ExtendsSorted}
+use Rattle.triple_ord.specs.{Chain.Entry, Gap.last_of, Order.IsInOrder}
+use Rattle.sorted_arena.specs.{Change.ExtendsSorted, Layout.item_key}
 use Rattle.sorted_arena.specs.declared.error.SortedError.{SortedError, TheVariants.OutOfOrder, TheVariants.BeyondMaxCapacity, TheVariants.AllocError}
 use Rattle.sorted_arena.specs.Sorted.{Sorted, count, key_of, item_of, last_item, Inserts, Keeps, AreSorted, AreInOrder, IsOutOfOrder}
-use Rattle.sorted_arena.specs.Layout.{item_key}
-use Rattle.triple_ord.specs.Order.{IsInOrder}
 use Rattle.triple_ord.proofs.CallerLemmas.{IsInOrder-rest, in_order-one, in_order-more}
 use Rattle.sorted_arena.proofs.Cutting.{gt_is, sorted-in_order, in_order-sorted, sorted-items}
 
@@ -27,7 +24,7 @@ module _ {K V : Type 0} where
   counted n before es old more len was held =
       omega (arith, len, was, ap length held, length-map es (item_of {K = K} {V = V}), length-map old (item_of {K = K} {V = V}), length-append (map item_of old) more)
 
-  last-item : (es : List (Entry (K × V))) → last_of None (map item_of es) ≡ last_item es
+  pub last-item : (es : List (Entry (K × V))) → last_of None (map item_of es) ≡ last_item es
   last-item [] = refl
   last-item (e ∷ []) = refl
   last-item (e ∷ f ∷ es) = last-item (f ∷ es)
@@ -93,12 +90,10 @@ module _ {K V : Type 0} (cmp : K → K → Ordering) where
   ascends-answered (x ∷ []) answers = tt
   ascends-answered (x ∷ y ∷ xs) answers = (answers 0 x (omega arith), ascends-answered (y ∷ xs) rest)
     where
-      next : (k : ℕ) → suc k + 1 ≡ suc (k + 1)
-      next k = omega arith
-
       rest : Answers (y ∷ xs)
       rest k d within =
-          subst (λ (n : ℕ). cmp (slice_index_or (y ∷ xs) k d).0 (slice_index_or (x ∷ y ∷ xs) n d).0 ≢ Greater) (next k) (answers (suc k) d (omega arith))
+          let next : suc k + 1 ≡ suc (k + 1) = omega arith in
+          subst (λ (n : ℕ). cmp (slice_index_or (y ∷ xs) k d).0 (slice_index_or (x ∷ y ∷ xs) n d).0 ≢ Greater) next (answers (suc k) d (omega arith))
 
   -- the first of the pairs, if any, has no smaller key than the last entry
   abbrev pub GoesOn : List (Entry (K × V)) → List (K × V) → Type 0
@@ -117,14 +112,8 @@ module _ {K V : Type 0} (cmp : K → K → Ordering) where
     made-items [] = refl
     made-items (x ∷ xs) = ap (λ ys. x ∷ ys) (made-items xs)
 
-    abbrev no_entries : List (Entry (K × V))
-    no_entries = []
-
-    in_order-none : IsInOrder item_key cmp no_entries
-    in_order-none front back e f cut = absurd (omega (arith, ap length cut, length-append front (e ∷ f ∷ back)))
-
     made-order : (xs : List (K × V)) → Ascends xs → IsInOrder item_key cmp (made xs)
-    made-order [] up = in_order-none
+    made-order [] up = sorted-in_order cmp [] tt
     made-order (x ∷ []) up = in_order-one item_key cmp _
     made-order (x ∷ y ∷ xs) up = in_order-more item_key cmp _ _ (made xs) up.0 (made-order (y ∷ xs) up.1)
 

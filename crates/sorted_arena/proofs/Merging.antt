@@ -4,7 +4,7 @@ use Rattle.std.proofs.{lemmas.List.map-append, lemmas.List.Elements.recursion_fr
 use Rattle.std.specs.{List.AllByRecursion, Ordering.is_lt, Ordering.ordering_reverse, Cmp.IsTotalOrder}
 use Rattle.std.specs.declared.cmp.Ordering.{Ordering, TheVariants.Less, TheVariants.Equal, TheVariants.Greater}
 use Rattle.triple_ord.specs.Chain.{Entry}
-use Rattle.sorted_arena.proofs.Cutting.{not_less}
+use Rattle.sorted_arena.proofs.{Cutting.not_less, Elements.all-front, Elements.all-at}
 use Rattle.sorted_arena.specs.Merge.{with_item, merged}
 use Rattle.sorted_arena.specs.Sorted.{Sorted, key_of, item_of, pair_of, first_item, behind_first, AreSorted, Inserts, Keeps, Updates}
 
@@ -60,20 +60,12 @@ module _ {K V : Type 0} where
     sorted-back [] back sorted = sorted
     sorted-back (e ∷ front) back sorted = sorted-back front back sorted.1
 
-    recursion-front : (P : Entry (K × V) → Type 0) (front back : List (Entry (K × V))) → AllByRecursion P (front ++ back) → AllByRecursion P front
-    recursion-front P [] back all = tt
-    recursion-front P (e ∷ front) back all = (all.0, recursion-front P front back all.1)
-
     pub sorted-front : (front back : List (Entry (K × V))) → AreSorted cmp (front ++ back) → AreSorted cmp front
     sorted-front [] back sorted = tt
     sorted-front (e ∷ front) back sorted =
-        (All-from_recursion _ front (recursion-front (λ f. cmp (key_of e) (key_of f) ≢ Greater) front back (recursion_from_All _ (front ++ back) sorted.0)), sorted-front front back sorted.1)
+        (All-from_recursion _ front (all-front (λ f. cmp (key_of e) (key_of f) ≢ Greater) front back (recursion_from_All _ (front ++ back) sorted.0)), sorted-front front back sorted.1)
 
     module _ (total : IsTotalOrder cmp) where
-      recursion-at : (P : Entry (K × V) → Type 0) (front : List (Entry (K × V))) (e : Entry (K × V)) (back : List (Entry (K × V))) → AllByRecursion P (front ++ e ∷ back) → P e
-      recursion-at P [] e back all = all.0
-      recursion-at P (x ∷ front) e back all = recursion-at P front e back all.1
-
       not_less-behind : (e x : Entry (K × V)) → cmp (key_of x) (key_of e) ≢ Greater → is_lt (cmp (key_of e) (key_of x)) ≡ false
       not_less-behind e x most = go (cmp (key_of e) (key_of x)) refl
         where
@@ -86,7 +78,7 @@ module _ {K V : Type 0} where
           → AllByRecursion (λ x. is_lt (cmp (key_of e) (key_of x)) ≡ false) taken
       none-after [] e later sorted = tt
       none-after (x ∷ taken) e later sorted =
-          (not_less-behind e x (recursion-at (λ f. cmp (key_of x) (key_of f) ≢ Greater) taken e later (recursion_from_All _ (taken ++ e ∷ later) sorted.0)), none-after taken e later sorted.1)
+          (not_less-behind e x (all-at (λ f. cmp (key_of x) (key_of f) ≢ Greater) taken e later (recursion_from_All _ (taken ++ e ∷ later) sorted.0)), none-after taken e later sorted.1)
 
       -- entries of a sorted list that come in one after another come in order
       pub moves-more : (most : ℕ) (old new : Sorted K V) (p : ℕ × ℕ) (k : K) (v : V) (taken : List (Entry (K × V))) (e : Entry (K × V)) (later : List (Entry (K × V)))

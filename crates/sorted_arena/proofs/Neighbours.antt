@@ -1,10 +1,8 @@
 -- The neighbours of an entry: their pointers name entries, and their keys are in order.
 use Rattle.std.proofs.Common.{◌≡◌, ◌≢◌, ℕ, List, [], ◌∷◌, ◌++◌, append_assoc, Option, Some, None, IsSome, IsSomeAnd, is_some, refl, sym, ap, subst, ◌∙◌}
 use Rattle.std.proofs.lemmas.List.Elements.{recursion_from_All}
-use Rattle.std.specs.Option.{option_map}
-use Rattle.std.specs.declared.cmp.Ordering.{Ordering, TheVariants.Greater}
-use Rattle.triple_ord.specs.Chain.{Entry, IsDistinct, item_of}
-use Rattle.triple_ord.specs.Gap.{first_of, last_of}
+use Rattle.std.specs.{Option.option_map, declared.cmp.Ordering.Ordering, declared.cmp.Ordering.TheVariants.Greater}
+use Rattle.triple_ord.specs.{Chain.Entry, Chain.IsDistinct, Chain.item_of, Gap.first_of, Gap.last_of}
 use Rattle.triple_ord.proofs.CallerLemmas.{ends}
 use Rattle.sorted_arena.specs.Find.{FindsNeighbour}
 use Rattle.sorted_arena.specs.Sorted.{Sorted, key_of, pointer_of, next_of, prev_of, AreSorted, IsSound}

@@ -3,11 +3,8 @@ use Rattle.std.proofs.Common.{◌≡◌, ◌≢◌, ℕ, zero, suc, ◌+◌, ◌
 use Rattle.std.proofs.{lemmas.Bool.cases_eq, lemmas.Bool.cases_lt, lemmas.Bool.eq-eqb, lemmas.Bool.ne_eqb, Math.Seq.take-append_seam, Math.Seq.drop-append_seam}
 use Rattle.std.specs.{List.range_with_len, Option.option_map}
 use Rattle.triple_ord.specs.Chain.{Entry, Chain, times, entry_at, without, with_item_among, vacant_among, vacant_indexes, with_capacity, last_pointer, inserted_at, next_index, grown_capacity}
-use Rattle.triple_ord.specs.{ChainCompression.numbered, ChainCompression.canonical, Insert.IsInsertion}
-use Rattle.triple_ord.specs.TreeAppend.{Appends}
-use Rattle.triple_ord.specs.Insertion.{with_room_by}
-use Rattle.triple_ord.specs.declared.growth.Growth.{Growth}
-use Rattle.triple_ord.specs.declared.growth.Growth.TheVariants.{Within, Reallocating}
+use Rattle.triple_ord.specs.{ChainCompression.numbered, ChainCompression.canonical, Insert.IsInsertion, TreeAppend.Appends, Insertion.with_room_by}
+use Rattle.triple_ord.specs.declared.growth.Growth.{Growth, TheVariants.Within, TheVariants.Reallocating}
 use Rattle.sorted_arena.specs.{Layout.AreNumbered, Layout.IsCompact, Place.position_of, Stretch.first_index}
 
 module _ {T : Type 0} where
@@ -47,15 +44,12 @@ module _ {T : Type 0} where
     vacant-behind (suc count) a behind = rw (times-above 1 es a h behind) (ap (λ xs. a ∷ xs) (vacant-behind count (a + 1) (omega arith)))
 
     vacant-from : (skip count a : ℕ) → 1 ≤ a → a + skip ≡ 1 + length es → vacant_among es a (skip + count) ≡ range_with_len (length es + 1) count
-    vacant-from zero count a above is = rw (zero_add count) (vacant-behind count a (omega (arith, is)) ∙ ap (λ n. range_with_len n count) (omega (arith, is)))
-      where
-        zero_add : (n : ℕ) → zero + n ≡ n
-        zero_add n = omega arith
+    vacant-from zero count a above is =
+        let none : zero + count ≡ count = omega arith in
+        rw none (vacant-behind count a (omega (arith, is)) ∙ ap (λ n. range_with_len n count) (omega (arith, is)))
     vacant-from (suc skip) count a above is =
-        rw (suc_add skip count, times-in 1 es a h above (omega (arith, is))) (vacant-from skip count (a + 1) (omega arith) (omega (arith, is)))
-      where
-        suc_add : (m n : ℕ) → suc m + n ≡ suc (m + n)
-        suc_add m n = omega arith
+        let more : suc skip + count ≡ suc (skip + count) = omega arith in
+        rw (more, times-in 1 es a h above (omega (arith, is))) (vacant-from skip count (a + 1) (omega arith) (omega (arith, is)))
 
     vacant-none : (count a : ℕ) → 1 ≤ a → a + count ≤ 1 + length es → vacant_among es a count ≡ []
     vacant-none zero a above within = refl
@@ -97,10 +91,9 @@ module _ {T : Type 0} where
   pub run-first : (es : List (Entry T)) (from m : ℕ) (e : Entry T) → slice_get es from ≡ Some e → take (suc m) (drop from es) ≡ e ∷ take m (drop (from + 1) es)
   run-first [] from m e at = absurd cc
   run-first (x ∷ es) zero m e at = let same : x ≡ e = cc in ap (λ y. y ∷ take m es) same
-  run-first (x ∷ es) (suc k) m e at = run-first es k m e at ∙ ap (λ n. e ∷ take m (drop n (x ∷ es))) (suc_more k)
-    where
-      suc_more : (n : ℕ) → suc (n + 1) ≡ suc n + 1
-      suc_more n = omega arith
+  run-first (x ∷ es) (suc k) m e at =
+      let more : suc (k + 1) ≡ suc k + 1 = omega arith in
+      run-first es k m e at ∙ ap (λ n. e ∷ take m (drop n (x ∷ es))) more
 
   take-last : (es : List (Entry T)) (m : ℕ) (e : Entry T) → slice_get es m ≡ Some e → take (suc m) es ≡ take m es ++ e ∷ []
   take-last [] m e at = absurd cc
@@ -110,10 +103,9 @@ module _ {T : Type 0} where
   get-behind : (es : List (Entry T)) (from m : ℕ) → slice_get (drop from es) m ≡ slice_get es (from + m)
   get-behind es zero m = ap (slice_get es) (omega arith)
   get-behind [] (suc k) m = refl
-  get-behind (x ∷ es) (suc k) m = get-behind es k m ∙ ap (slice_get (x ∷ es)) (suc_add k m)
-    where
-      suc_add : (a b : ℕ) → suc (a + b) ≡ suc a + b
-      suc_add a b = omega arith
+  get-behind (x ∷ es) (suc k) m =
+      let more : suc (k + m) ≡ suc k + m = omega arith in
+      get-behind es k m ∙ ap (slice_get (x ∷ es)) more
 
   pub run-last : (es : List (Entry T)) (from m : ℕ) (e : Entry T) → slice_get es (from + m) ≡ Some e → take (suc m) (drop from es) ≡ take m (drop from es) ++ e ∷ []
   run-last es from m e at = take-last (drop from es) m e (get-behind es from m ∙ at)

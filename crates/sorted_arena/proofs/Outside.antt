@@ -6,8 +6,7 @@ use Rattle.std.specs.declared.cmp.Ordering.{Ordering, TheVariants.Less, TheVaria
 use Rattle.std.specs.declared.ops.Bound.{Bound, TheVariants.Included, TheVariants.Excluded, TheVariants.Unbounded}
 use Rattle.std.specs.BTreeMap.Range.{is_from_start, is_past_end}
 use Rattle.triple_ord.specs.Chain.{Entry}
-use Rattle.sorted_arena.specs.Range.{entries_between, entries_outside}
-use Rattle.sorted_arena.specs.Sorted.{key_of, entries_until, entries_above, AreSorted}
+use Rattle.sorted_arena.specs.{Range.entries_between, Range.entries_outside, Sorted.key_of, Sorted.entries_until, Sorted.entries_above, Sorted.AreSorted}
 use Rattle.triple_ord.proofs.CallerLemmas.{recursion-map}
 use Rattle.sorted_arena.proofs.Cutting.{lt_is}
 use Rattle.sorted_arena.proofs.Ranging.{Stays, inside, inside-in, inside-past, none-inside, from-stays, past-stays}

@@ -45,10 +45,10 @@ module _ {T : Type 0} where
 
   -- an iterator over what is between two indexes, whether entries are counted or linked
   module _ (es : List (Entry T)) (first end : Option ℕ) where
-    pub place-stretch : (is_numbered : Bool) → (is_numbered ≡ true → AreNumbered 1 es) → IsStretch es first end → length es < 2 ^ 64
-        → (from to : ℕ) → from ≡ position_of (length es) first → to ≡ position_of (length es) end → IsPlace es is_numbered first end from (to - from)
-    place-stretch true numbered s few from to from_is to_is = (numbered refl, (run-stretch es first end (numbered refl) s from to from_is to_is).within, few)
-    place-stretch false numbered s few from to from_is to_is = s
+    pub place-stretch : (most : ℕ) (is_numbered : Bool) → (is_numbered ≡ true → AreNumbered 1 es) → IsStretch es first end → (length es < 2 ^ 64) × (length es ≤ most)
+        → (from to : ℕ) → from ≡ position_of (length es) first → to ≡ position_of (length es) end → IsPlace most es is_numbered first end from (to - from)
+    place-stretch most true numbered s few from to from_is to_is = (numbered refl, (run-stretch es first end (numbered refl) s from to from_is to_is).within, few.0, few.1)
+    place-stretch most false numbered s few from to from_is to_is = s
 
     pub gives-stretch : (is_numbered : Bool) → (is_numbered ≡ true → AreNumbered 1 es) → IsStretch es first end
         → (from to : ℕ) → from ≡ position_of (length es) first → to ≡ position_of (length es) end → left_at es is_numbered first end from (to - from) ≡ stretch es first end
@@ -60,17 +60,17 @@ module _ {T : Type 0} where
     pub left-linked : is_numbered ≡ false → left_at es is_numbered first end from left ≡ stretch es first end
     left-linked is = ap (λ (b : Bool). left_at es b first end from left) is
 
-    pub place-linked : is_numbered ≡ false → IsPlace es is_numbered first end from left → IsStretch es first end
-    place-linked is place = subst (λ (b : Bool). IsPlace es b first end from left) is place
+    pub place-linked : (most : ℕ) → is_numbered ≡ false → IsPlace most es is_numbered first end from left → IsStretch es first end
+    place-linked most is place = subst (λ (b : Bool). IsPlace most es b first end from left) is place
 
-    pub linked-place : is_numbered ≡ false → IsStretch es first end → IsPlace es is_numbered first end from left
-    linked-place is stands = subst (λ (b : Bool). IsPlace es b first end from left) (sym is) stands
+    pub linked-place : (most : ℕ) → is_numbered ≡ false → IsStretch es first end → IsPlace most es is_numbered first end from left
+    linked-place most is stands = subst (λ (b : Bool). IsPlace most es b first end from left) (sym is) stands
 
     pub left-numbered : is_numbered ≡ true → left_at es is_numbered first end from left ≡ take left (drop from es)
     left-numbered is = ap (λ (b : Bool). left_at es b first end from left) is
 
-    pub place-numbered : is_numbered ≡ true → IsPlace es is_numbered first end from left → AreNumbered 1 es × (from + left ≤ length es) × (length es < 2 ^ 64)
-    place-numbered is place = subst (λ (b : Bool). IsPlace es b first end from left) is place
+    pub place-numbered : (most : ℕ) → is_numbered ≡ true → IsPlace most es is_numbered first end from left → from + left ≤ length es
+    place-numbered most is place = (subst (λ (b : Bool). IsPlace most es b first end from left) is place).1
 
   -- each position has an entry
   pub got : (es : List (Entry T)) (k : ℕ) → k < length es → (e : Entry T) × (slice_get es k ≡ Some e)

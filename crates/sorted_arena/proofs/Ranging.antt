@@ -1,22 +1,17 @@
 -- The entries whose keys are in a range stand between two cuts of a sorted list.
-use Rattle.std.proofs.iter.runs.Sources.{from_front, from_back}
-use Rattle.std.proofs.lemmas.{Grind.common_steps, List.Sums.length-filter}
-use Rattle.std.specs.Iterator.{YieldsFirstBy, YieldsLastBy}
-use Rattle.sorted_arena.specs.Range.{GivesInOrder, GivesInReverse}
+use Rattle.std.proofs.{iter.runs.Sources.from_front, iter.runs.Sources.from_back, lemmas.Grind.common_steps, lemmas.List.Sums.length-filter}
+use Rattle.std.specs.{Iterator.YieldsFirstBy, Iterator.YieldsLastBy, declared.cmp.Ordering.Ordering, declared.cmp.Ordering.TheVariants.Greater}
+use Rattle.sorted_arena.specs.{Range.GivesInOrder, Range.GivesInReverse, Layout.item_key}
 use Rattle.std.proofs.Common.{◌≡◌, ◌≢◌, length, arith, Less, Equal, Greater, ℕ, ◌&&◌, not, true, false, Bool, filter, count_by, List, [], ◌∷◌, ◌++◌, Option, Some, None, IfSome, refl, sym, ap, ◌∙◌, if◌then◌else◌}
 use Rattle.std.proofs.lemmas.List.Elements.{recursion_from_All}
 use Rattle.std.specs.{List.AllByRecursion, Option.option_map, Option.option_and_then, Ordering.is_eq, Ordering.is_le, Ordering.is_lt, Cmp.IsTotalOrder}
-use Rattle.std.specs.declared.cmp.Ordering.{Ordering, TheVariants.Greater}
 use Rattle.std.specs.declared.ops.Bound.{Bound, TheVariants.Included, TheVariants.Excluded, TheVariants.Unbounded}
 use Rattle.std.specs.BTreeMap.Range.{is_from_start, is_past_end}
-use Rattle.triple_ord.specs.Chain.{Entry, IsDistinct, item_of}
-use Rattle.triple_ord.specs.Gap.{first_of}
+use Rattle.triple_ord.specs.{Chain.Entry, Chain.IsDistinct, Chain.item_of, Gap.first_of}
 use Rattle.triple_ord.proofs.CallerLemmas.{in_order-one, in_order-more, all_greater, all_less, recursion-map}
-use Rattle.sorted_arena.specs.Layout.{item_key}
 use Rattle.sorted_arena.specs.{Range.entries_between, Stretch.stretch, Stretch.IsStretch, Stretch.is_forward}
 use Rattle.sorted_arena.specs.Sorted.{key_of, pointer_of, first_where, AreSorted}
-use Rattle.sorted_arena.proofs.Cutting.{some-same, found-here, lt_is, not_le}
-use Rattle.sorted_arena.proofs.Stretching.{stretch-middle}
+use Rattle.sorted_arena.proofs.{Cutting.some-same, Cutting.index-pointer, Cutting.found-here, Cutting.lt_is, Cutting.not_le, Stretching.stretch-middle}
 
 -- what runs of an iterator give
 module _ {A X : Type 0} (shows : A → X) where
@@ -44,10 +39,6 @@ module _ {K V : Type 0} where
   pub first_where-never : (es : List (Entry (K × V))) → first_where (λ e. false) es ≡ None
   first_where-never [] = refl
   first_where-never (e ∷ es) = first_where-never es
-
-  index-pointer : (o : Option (Entry (K × V))) → option_map (λ e. e.index) o ≡ option_map (λ p. p.0) (option_map pointer_of o)
-  index-pointer None = refl
-  index-pointer (Some e) = refl
 
   module _ (test : Entry (K × V) → Bool) where
     -- the first entry that passes a test

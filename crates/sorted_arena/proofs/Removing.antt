@@ -1,7 +1,6 @@
 -- What many removals make of a sorted arena.
 use Rattle.std.proofs.Common.{◌≡◌, ℕ, suc, ◌+◌, ◌-◌, ◌++◌, length, length-append, List, ◌∷◌, Option, refl, ap, ◌∙◌, arith}
-use Rattle.triple_ord.specs.Chain.{Entry}
-use Rattle.triple_ord.specs.Generation.{next_generation}
+use Rattle.triple_ord.specs.{Chain.Entry, Generation.next_generation}
 use Rattle.sorted_arena.specs.Sorted.{Sorted, count, generation_after, with_left, with_rest}
 
 module _ {K V : Type 0} (greatest : Option ℕ) where

@@ -2,17 +2,10 @@
 use Rattle.std.proofs.Common.{◌≡◌, ℕ, ◌+◌, ◌≤◌, ◌<◌, Bool, true, false, if◌then◌else◌, cond, length, append_assoc, List, [], ◌∷◌, ◌++◌, Option, Some, None, refl, sym, ap, subst, ◌∙◌, arith}
 use Rattle.std.proofs.lemmas.List.{append-nil}
 use Rattle.std.specs.{List.Retain.IsFiltered, Option.option_map}
-use Rattle.triple_ord.specs.Chain.{Entry, IsDistinct, first_pointer}
-use Rattle.triple_ord.specs.Gap.{first_of}
-use Rattle.sorted_arena.specs.{Stretch.stretch, Stretch.first_index}
-use Rattle.sorted_arena.specs.Sorted.{Sorted, count, pointer_of, with_left, with_rest}
+use Rattle.triple_ord.specs.{Chain.Entry, Chain.IsDistinct, Chain.first_pointer, Gap.first_of}
+use Rattle.sorted_arena.specs.{Stretch.stretch, Stretch.first_index, Sorted.Sorted, Sorted.count, Sorted.pointer_of, Sorted.with_left, Sorted.with_rest}
 use Rattle.sorted_arena.specs.Taking.{IsCutAt, AsksFor}
-use Rattle.sorted_arena.proofs.Removing.{RemovesMany, removes-none, removes-more, removes-rest}
-use Rattle.sorted_arena.proofs.Stretching.{between-cuts}
-
-pointer-index : {K V : Type 0} (es : List (Entry (K × V))) → option_map (λ p. p.0) (option_map pointer_of (first_of es)) ≡ first_index es
-pointer-index [] = refl
-pointer-index (e ∷ es) = refl
+use Rattle.sorted_arena.proofs.{Cutting.index-pointer, Removing.RemovesMany, Removing.removes-none, Removing.removes-more, Removing.removes-rest, Stretching.between-cuts}
 
 -- a test of one more element in front
 module _ {X F : Type 0} (R : F → X → Bool → F → Type 0) where
@@ -49,7 +42,7 @@ module _ {K V F : Type 0} (R : F → Entry (K × V) → Bool → F → Type 0) (
     left-rest : left-from now.entries next ≡ length r.rest
     left-rest =
         let at : option_map (λ (p : ℕ × ℕ). p.0) next ≡ first_index (r.rest ++ []) =
-        ap (option_map (λ (p : ℕ × ℕ). p.0)) r.next_is ∙ pointer-index r.rest ∙ ap first_index (sym (append-nil r.rest)) in
+        ap (option_map (λ (p : ℕ × ℕ). p.0)) r.next_is ∙ sym (index-pointer (first_of r.rest)) ∙ ap first_index (sym (append-nil r.rest)) in
         ap (λ (i : Option ℕ). length (stretch now.entries i None)) at
         ∙ ap length (between-cuts now.entries distinct r.kept r.rest [] (r.cut ∙ ap (λ (xs : List (Entry (K × V))). r.kept ++ xs) (sym (append-nil r.rest))))
 

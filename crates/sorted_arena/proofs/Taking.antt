@@ -2,12 +2,10 @@
 use Rattle.std.proofs.Common.{◌≡◌, ℕ, Bool, true, false, ◌+◌, ◌<◌, ◌++◌, length, length-append, append_assoc, List, [], ◌∷◌, Option, Some, refl, sym, ap, subst, ◌∙◌, arith}
 use Rattle.std.proofs.lemmas.List.{append-nil}
 use Rattle.std.specs.Option.{option_map}
-use Rattle.triple_ord.specs.Chain.{Entry, IsDistinct, without as without_index}
-use Rattle.triple_ord.specs.Gap.{first_of}
+use Rattle.triple_ord.specs.{Chain.Entry, Chain.IsDistinct, Chain.without as without_index, Gap.first_of}
 use Rattle.sorted_arena.specs.Sorted.{Sorted, count, pointer_of, pair_of, next_of, with_left, with_rest, without}
 use Rattle.sorted_arena.specs.Taking.{IsCutAt, TakesOut, AsksFor}
-use Rattle.sorted_arena.proofs.Cutting.{next-here, found-here, without-here}
-use Rattle.sorted_arena.proofs.Outside.{IsPart}
+use Rattle.sorted_arena.proofs.{Cutting.next-here, Cutting.found-here, Cutting.without-here, Outside.IsPart}
 use Rattle.sorted_arena.proofs.Removing.{RemovesMany, removes-none, removes-more, removes-rest}
 
 module _ {K V : Type 0} (greatest : Option ℕ) (old : Sorted K V) (middle others : List (Entry (K × V))) where

@@ -3,8 +3,7 @@ use Rattle.std.specs.Prelude.{◌≡◌, ◌+◌, ◌≤◌, ℕ, List, ◌++◌
 use Rattle.std.specs.Prelude.{IsOk, IfOk, IfErr, IfNone, OnOk, OnErr, OnSome}
 use Rattle.std.specs.{Option.option_map, Vec.vec_capacity, declared.cmp.Ordering.Ordering}
 use Rattle.triple_ord.specs.Chain.{Entry}
-use Rattle.sorted_arena.specs.declared.error.SortedError.{SortedError, TheVariants.OutOfOrder, TheVariants.BeyondMaxCapacity}
-use Rattle.sorted_arena.specs.declared.error.SortedError.TheVariants.{AllocError}
+use Rattle.sorted_arena.specs.declared.error.SortedError.{SortedError, TheVariants.OutOfOrder, TheVariants.BeyondMaxCapacity, TheVariants.AllocError}
 use Rattle.sorted_arena.specs.Sorted.{Sorted, pair_of, item_of, count, with_rest, Inserts, IsOutOfOrder, IsSound, Keeps, Rekeys, Updates}
 
 -- A call that inserts a pair. `Ok` has the pointer of the new entry. `Err` has the pair and why it failed; the arena is unchanged then.

@@ -14,7 +14,8 @@ module _ {T : Type 0} where
   left_at es true first end from left = take left (drop from es)
   left_at es false first end from left = stretch es first end
 
-  -- There are so many entries, fewer than 2 ^ 64, and they have the indexes from 1 on; or the list is cut at these indexes.
-  abbrev pub IsPlace : List (Entry T) → Bool → Option ℕ → Option ℕ → ℕ → ℕ → Type 0
-  IsPlace es true first end from left = AreNumbered 1 es × (from + left ≤ length es) × (length es < 2 ^ 64)
-  IsPlace es false first end from left = IsStretch es first end
+  -- There are so many entries, fewer than 2 ^ 64 and at most as many as pointers have indexes, and they have the indexes from 1 on; or
+  -- the list is cut at these indexes.
+  abbrev pub IsPlace : ℕ → List (Entry T) → Bool → Option ℕ → Option ℕ → ℕ → ℕ → Type 0
+  IsPlace most es true first end from left = AreNumbered 1 es × (from + left ≤ length es) × (length es < 2 ^ 64) × (length es ≤ most)
+  IsPlace most es false first end from left = IsStretch es first end

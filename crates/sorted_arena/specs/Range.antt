@@ -1,9 +1,7 @@
 -- The entries whose keys are in a range, and what iterators over entries give.
 use Rattle.std.specs.Prelude.{◌≡◌, ℕ, ◌<◌, ◌^◌, List, filter, not, length}
-use Rattle.std.specs.Borrow.{Bor}
+use Rattle.std.specs.{Borrow.Bor, declared.cmp.Ordering.Ordering, declared.ops.Bound.Bound, BTreeMap.Range.range_contains}
 use Rattle.std.specs.Iterator.{YieldsFirstBy, YieldsLastBy, Runs.EveryRun, Runs.ItemsMapTo, Runs.ItemsMapToReversed}
-use Rattle.std.specs.declared.{cmp.Ordering.Ordering, ops.Bound.Bound}
-use Rattle.std.specs.BTreeMap.Range.{range_contains}
 use Rattle.triple_ord.specs.Chain.{Entry}
 use Rattle.sorted_arena.specs.Sorted.{Sorted, key_of, IsSound}
 

@@ -3,8 +3,7 @@ use Rattle.std.specs.Prelude.{◌≡◌, ◌≢◌, ℕ, zero, suc, ◌+◌, ◌
 use Rattle.std.specs.Prelude.{Option, Some, None, IsSome, IsSomeAnd}
 use Rattle.std.specs.{List.All, Ordering.is_le, Ordering.is_eq, Option.option_map, declared.cmp.Ordering.Ordering}
 use Rattle.std.specs.declared.cmp.Ordering.TheVariants.{Less, Equal, Greater}
-use Rattle.triple_ord.specs.{PlainArena.doubled_capacity, Generation.next_generation}
-use Rattle.triple_ord.specs.Gap.{last_of}
+use Rattle.triple_ord.specs.{PlainArena.doubled_capacity, Generation.next_generation, Gap.last_of}
 use Rattle.triple_ord.specs.Chain.{Entry, IsDistinct, item_of as item_at, without as without_index, with_item_among, first_pointer}
 
 -- A sorted arena: its entries in order, each with an index and a generation, which make its pointer, and an item, which is its key and

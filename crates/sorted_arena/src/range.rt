@@ -1,5 +1,5 @@
 //! `Range`: entries in order, from both ends.
-ghost use Rattle.std.specs.Prelude.{◌≡◌, ◌<◌, true, false, Some, length, slice_get};
+ghost use Rattle.std.specs.Prelude.{◌≡◌, ◌<◌, ◌≤◌, ◌^◌, true, false, Some, length, slice_get};
 ghost use Rattle.std.specs.Iterator.{YieldsFirstBy, YieldsLastBy, item_count};
 ghost use Rattle.std.specs.{Option.option_map, Option.option_and_then, Range.Bound.bound_map};
 ghost use Rattle.std.specs.BTreeMap.Range.{is_from_start, is_past_end};
@@ -43,7 +43,7 @@ impl<'a, K: Ord, V, P: BasePtr, A: Allocator> Model for Range<'a, K, V, P, A> {
     ghost view = { λ r. left_at r.pairs.now.list.entries r.is_numbered
         (option_map P.Inx.number r.first) (option_map P.Inx.number r.end) r.from r.left };
 
-    ghost invariant = { λ r. IsPlace r.pairs.now.list.entries r.is_numbered
+    ghost invariant = { λ r. IsPlace P.Inx.most r.pairs.now.list.entries r.is_numbered
         (option_map P.Inx.number r.first) (option_map P.Inx.number r.end) r.from r.left };
 }
 
@@ -106,10 +106,10 @@ fn entry_at<'a, K: Ord, V, P: BasePtr, A: Allocator>(
 ) -> (P, &'a K, &'a V)
     requires numbered { AreNumbered 1 pairs.now.list.entries }
     requires within { position < length pairs.now.list.entries }
+    requires few { length pairs.now.list.entries < 2 ^ 64 }
+    requires limited { length pairs.now.list.entries ≤ P.Inx.most }
     ensures { slice_get pairs.now.list.entries position ≡ Some (shown_entry P.numbers result) }
 {
-    // For the prover: the list is sound.
-    let _ = pairs.len();
     // Both are there, as is proved, so that a caller's loop over entries has one end.
     let i = P::Inx::try_from_usize(position + 1).unwrap();
     let entry = pairs.get_inx(i).unwrap();

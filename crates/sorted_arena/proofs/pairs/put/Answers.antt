@@ -1,6 +1,5 @@
 use Rattle.std.proofs.Common.{ap, subst, ◌∙◌, ◌≡◌, rules}
-use Rattle.triple_ord.specs.{Insertion.InsertsNew, EntryKind.pointer_of_kind, Place.behind_key}
-use Rattle.triple_ord.specs.declared.growth.Growth.TheVariants.{Reallocating}
+use Rattle.triple_ord.specs.{Insertion.InsertsNew, EntryKind.pointer_of_kind, Place.behind_key, declared.growth.Growth.TheVariants.Reallocating}
 use Rattle.triple_ord.proofs.CallerLemmas.{entry-inserts-new}
 use Rattle.sorted_arena.specs.Layout.{item_key}
 use Rattle.sorted_arena.proofs.Changing.{not_full}

@@ -1,6 +1,5 @@
 use Rattle.std.proofs.Common.{◌∙◌, sym, ap}
-use Rattle.std.specs.Option.{option_map}
-use Rattle.std.specs.Ordering.{is_lt}
+use Rattle.std.specs.{Option.option_map, Ordering.is_lt}
 use Rattle.sorted_arena.specs.Sorted.{key_of, first_where}
 use Rattle.sorted_arena.proofs.Cutting.{sorted-in_order, behind-met, behind-next}
 use Rattle.sorted_arena.proofs.pairs.upper_bound_by.Goals as goal

@@ -1,9 +1,7 @@
 use Rattle.std.proofs.Common.{◌≡◌, ◌∙◌, ◌+◌, [], List, map, ap, arith}
 use Rattle.triple_ord.specs.Chain.{Entry}
-use Rattle.sorted_arena.specs.Merge.{merged}
-use Rattle.sorted_arena.specs.Sorted.{Sorted, item_of, behind_first}
-use Rattle.sorted_arena.proofs.Merging.{keeps-more, first-taken, merges-more}
-use Rattle.sorted_arena.proofs.Removing.{removes-more}
+use Rattle.sorted_arena.specs.{Merge.merged, Sorted.Sorted, Sorted.item_of, Sorted.behind_first}
+use Rattle.sorted_arena.proofs.{Merging.keeps-more, Merging.first-taken, Merging.merges-more, Removing.removes-more}
 use Rattle.sorted_arena.proofs.arena.SortedArena.append.Goals as goal
 
 pub loop-k-preserved : goal.loop-k-preserved

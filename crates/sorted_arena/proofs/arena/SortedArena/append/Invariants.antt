@@ -1,6 +1,5 @@
 use Rattle.std.proofs.Common.{◌≡◌, ℕ, ◌+◌, ◌≤◌, map}
-use Rattle.sorted_arena.specs.Merge.{merged}
-use Rattle.sorted_arena.specs.Sorted.{count, item_of, Keeps}
+use Rattle.sorted_arena.specs.{Merge.merged, Sorted.count, Sorted.item_of, Sorted.Keeps}
 use Rattle.sorted_arena.proofs.Removing.{RemovesMany}
 use Rattle.sorted_arena.proofs.arena.SortedArena.append.Given as goal
 

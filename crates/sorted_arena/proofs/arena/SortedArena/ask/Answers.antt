@@ -3,8 +3,7 @@ use Rattle.std.specs.{Fn.Called, Option.option_map}
 use denote.Param.Members.{Mut}
 use Rattle.triple_ord.specs.Chain.{Entry}
 use Rattle.sorted_arena.specs.Answer.{AnswersFor}
-use Rattle.sorted_arena.proofs.{Cutting.some-same, Placing.some-unless}
-use Rattle.sorted_arena.proofs.Taking.{cut-found, takes-out, asks-kept, asks-gone}
+use Rattle.sorted_arena.proofs.{Cutting.some-same, Placing.some-unless, Taking.cut-found, Taking.takes-out, Taking.asks-kept, Taking.asks-gone}
 use Rattle.sorted_arena.proofs.arena.SortedArena.ask.Goals as goal
 
 -- what the test answers for references to the key and the value of an entry, it answers for the entry

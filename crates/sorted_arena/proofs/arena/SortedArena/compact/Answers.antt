@@ -1,5 +1,4 @@
-use Rattle.sorted_arena.proofs.Cutting.{sorted-items}
-use Rattle.sorted_arena.proofs.Numbering.{compact-canonical}
+use Rattle.sorted_arena.proofs.{Cutting.sorted-items, Numbering.compact-canonical}
 use Rattle.sorted_arena.proofs.arena.SortedArena.compact.Goals as goal
 
 pub invariant_of-self : goal.invariant_of-self

@@ -2,8 +2,7 @@ use Rattle.std.proofs.Common.{◌≡◌, ◌∙◌, ◌++◌, List, [], ◌∷�
 use Rattle.std.proofs.{lemmas.List.append-nil, lemmas.List.map-append}
 use Rattle.std.specs.Range.Bound.{bound_map}
 use Rattle.sorted_arena.specs.Sorted.{item_of}
-use Rattle.sorted_arena.proofs.Outside.{range-part}
-use Rattle.sorted_arena.proofs.Taking.{taking-none, cut-next, taking-more, taking-done}
+use Rattle.sorted_arena.proofs.{Outside.range-part, Taking.taking-none, Taking.cut-next, Taking.taking-more, Taking.taking-done}
 use Rattle.sorted_arena.proofs.arena.SortedArena.drain_between.Goals as goal
 
 -- a vector with room takes one more

@@ -1,9 +1,6 @@
 use Rattle.std.proofs.Common.{◌≡◌, ◌+◌, ◌≤◌, ◌++◌, map, vec_len}
-use Rattle.std.specs.Option.{option_map}
-use Rattle.std.specs.Range.Bound.{bound_map}
-use Rattle.std.specs.Vec.{vec_capacity}
-use Rattle.sorted_arena.specs.Range.{entries_between, entries_outside}
-use Rattle.sorted_arena.specs.Sorted.{item_of}
+use Rattle.std.specs.{Option.option_map, Range.Bound.bound_map, Vec.vec_capacity}
+use Rattle.sorted_arena.specs.{Range.entries_between, Range.entries_outside, Sorted.item_of}
 use Rattle.sorted_arena.proofs.Taking.{Taking}
 use Rattle.sorted_arena.proofs.arena.SortedArena.drain_between.Given as goal
 

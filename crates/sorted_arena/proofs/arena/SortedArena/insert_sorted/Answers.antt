@@ -1,11 +1,10 @@
 use Rattle.std.proofs.Common.{◌≡◌, ◌∙◌, refl, ◌-◌, ◌++◌, ◌∷◌, [], None, Err, sym, ap, subst, map, arith, rules, append_assoc, List, IsSomeAnd, append-nil}
-use Rattle.std.specs.declared.cmp.Ordering.{TheVariants.Greater}
+use Rattle.std.specs.{declared.cmp.Ordering.TheVariants.Greater, Vec.Iter.into_iter_items}
 use Rattle.triple_ord.specs.Gap.{last_of}
 use Rattle.sorted_arena.specs.{Sorted.item_of, Change.ExtendsSorted}
 use Rattle.sorted_arena.specs.declared.error.SortedError.TheVariants.{BeyondMaxCapacity, AllocError}
 use Rattle.sorted_arena.proofs.Merging.{keeps-all, keeps-more}
 use Rattle.std.proofs.lemmas.Grind.{common_steps}
-use Rattle.std.specs.Vec.Iter.{into_iter_items}
 use Rattle.sorted_arena.proofs.Extending.{last-greater, appended, counted, cut_more, cut_all, stopped}
 use Rattle.sorted_arena.proofs.arena.SortedArena.insert_sorted.Goals as goal
 

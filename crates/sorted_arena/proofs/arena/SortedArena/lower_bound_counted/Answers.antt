@@ -1,6 +1,5 @@
 use Rattle.std.proofs.Common.{◌≡◌, ◌≢◌}
-use Rattle.std.specs.Ordering.{is_le}
-use Rattle.std.specs.declared.cmp.Ordering.TheVariants.{Greater}
+use Rattle.std.specs.{Ordering.is_le, declared.cmp.Ordering.TheVariants.Greater}
 use Rattle.sorted_arena.specs.Layout.{sorted_of}
 use Rattle.sorted_arena.proofs.Cutting.{finds-first, le_not, not_le}
 use Rattle.sorted_arena.proofs.arena.SortedArena.lower_bound_counted.Goals as goal

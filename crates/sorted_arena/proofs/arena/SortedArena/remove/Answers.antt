@@ -2,8 +2,7 @@ use Rattle.std.proofs.Common.{◌≡◌, ◌∙◌, List, sym, ap, rules}
 use Rattle.std.specs.Option.{option_map}
 use Rattle.triple_ord.specs.Chain.{Entry, last_pointer}
 use Rattle.sorted_arena.specs.Sorted.{Sorted}
-use Rattle.sorted_arena.proofs.Changing.{arena-removed, sound-removed}
-use Rattle.sorted_arena.proofs.Numbering.{compact-removed}
+use Rattle.sorted_arena.proofs.{Changing.arena-removed, Changing.sound-removed, Numbering.compact-removed}
 use Rattle.sorted_arena.proofs.arena.SortedArena.remove.Goals.{then-self, else-self}
 use Rattle.sorted_arena.proofs.arena.SortedArena.remove.Goals as goal
 

@@ -1,7 +1,6 @@
 use Rattle.std.proofs.Common.{arith}
 use Rattle.std.specs.Range.Bound.{bound_map}
-use Rattle.sorted_arena.proofs.Outside.{range-part}
-use Rattle.sorted_arena.proofs.Taking.{taking-none, cut-next, taking-more, taking-done}
+use Rattle.sorted_arena.proofs.{Outside.range-part, Taking.taking-none, Taking.cut-next, Taking.taking-more, Taking.taking-done}
 use Rattle.sorted_arena.proofs.arena.SortedArena.remove_between.Goals as goal
 
 pub loop-init : goal.loop-init

@@ -1,5 +1,4 @@
-use Rattle.std.specs.Option.{option_map}
-use Rattle.std.specs.Range.Bound.{bound_map}
+use Rattle.std.specs.{Option.option_map, Range.Bound.bound_map}
 use Rattle.sorted_arena.specs.Range.{entries_between, entries_outside}
 use Rattle.sorted_arena.proofs.Taking.{Taking}
 use Rattle.sorted_arena.proofs.arena.SortedArena.remove_between.Given as goal

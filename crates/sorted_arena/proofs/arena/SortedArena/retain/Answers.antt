@@ -1,7 +1,6 @@
 use Rattle.std.proofs.Common.{◌∙◌, ℕ, Option, sym, ap, subst}
 use Rattle.std.specs.Option.{option_map}
-use Rattle.sorted_arena.specs.Answer.{AnswersFor}
-use Rattle.sorted_arena.specs.Taking.{IsCutAt, AsksFor}
+use Rattle.sorted_arena.specs.{Answer.AnswersFor, Taking.IsCutAt, Taking.AsksFor}
 use Rattle.sorted_arena.proofs.Retaining.{Stepped, retains-none, cut-meets, retains-more, retains-done, left-fewer, first-pointer}
 use Rattle.sorted_arena.proofs.arena.SortedArena.retain.Goals as goal
 

@@ -1,12 +1,9 @@
 use Rattle.std.proofs.Common.{◌≡◌, ◌∙◌, List, Err, map, length, ap, subst, arith}
 use Rattle.std.specs.declared.ops.Bound.TheVariants.{Included, Unbounded}
-use Rattle.triple_ord.specs.ReallocationError.{ReallocationError}
-use Rattle.triple_ord.specs.ReallocationError.TheVariants.{BeyondMaxCapacity, AllocError as NoMemory}
+use Rattle.triple_ord.specs.ReallocationError.{ReallocationError, TheVariants.BeyondMaxCapacity, TheVariants.AllocError as NoMemory}
 use Rattle.triple_ord.specs.Chain.{Entry}
-use Rattle.sorted_arena.specs.Range.{entries_between}
-use Rattle.sorted_arena.specs.Sorted.{item_of, with_rest, AreSorted}
-use Rattle.sorted_arena.proofs.Merging.{moves-more, sorted-back, sorted-front}
-use Rattle.sorted_arena.proofs.Outside.{range-part, outside-before_key}
+use Rattle.sorted_arena.specs.{Range.entries_between, Sorted.item_of, Sorted.with_rest, Sorted.AreSorted}
+use Rattle.sorted_arena.proofs.{Merging.moves-more, Merging.sorted-back, Merging.sorted-front, Outside.range-part, Outside.outside-before_key}
 use Rattle.sorted_arena.proofs.Taking.{taking-none, cut-next, taking-more, taking-done}
 use Rattle.sorted_arena.proofs.arena.SortedArena.split_off.Goals as goal
 

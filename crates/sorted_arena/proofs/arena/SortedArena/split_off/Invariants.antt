@@ -1,9 +1,7 @@
 use Rattle.std.proofs.Common.{◌≡◌, ◌≤◌, map}
-use Rattle.std.specs.Option.{option_map}
-use Rattle.std.specs.declared.ops.Bound.TheVariants.{Included, Unbounded}
+use Rattle.std.specs.{Option.option_map, declared.ops.Bound.TheVariants.Included, declared.ops.Bound.TheVariants.Unbounded}
 use Rattle.triple_ord.specs.Generation.{first_generation}
-use Rattle.sorted_arena.specs.Range.{entries_between, entries_outside}
-use Rattle.sorted_arena.specs.Sorted.{count, item_of}
+use Rattle.sorted_arena.specs.{Range.entries_between, Range.entries_outside, Sorted.count, Sorted.item_of}
 use Rattle.sorted_arena.proofs.Taking.{Taking}
 use Rattle.sorted_arena.proofs.arena.SortedArena.split_off.Given as goal
 

@@ -1,6 +1,5 @@
 use Rattle.std.proofs.Common.{◌≡◌, ◌≢◌}
-use Rattle.std.specs.Ordering.{is_lt}
-use Rattle.std.specs.declared.cmp.Ordering.TheVariants.{Less}
+use Rattle.std.specs.{Ordering.is_lt, declared.cmp.Ordering.TheVariants.Less}
 use Rattle.sorted_arena.specs.Layout.{sorted_of}
 use Rattle.sorted_arena.proofs.Cutting.{finds-first, lt_is, lt_not}
 use Rattle.sorted_arena.proofs.arena.SortedArena.upper_bound_counted.Goals as goal

@@ -1,5 +1,4 @@
-use Rattle.sorted_arena.proofs.Cutting.{written-found}
-use Rattle.sorted_arena.proofs.Numbering.{compact-written}
+use Rattle.sorted_arena.proofs.{Cutting.written-found, Numbering.compact-written}
 use Rattle.triple_ord.proofs.ChainLemmas.{length-with_item_among}
 use Rattle.sorted_arena.proofs.arena.SortedArena.value_mut.Goals as goal
 

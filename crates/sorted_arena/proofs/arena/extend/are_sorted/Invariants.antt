@@ -1,6 +1,5 @@
 use Rattle.std.proofs.Common.{◌≢◌}
-use Rattle.std.specs.List.{AllAdjacentBelow}
-use Rattle.std.specs.declared.cmp.Ordering.TheVariants.{Greater}
+use Rattle.std.specs.{List.AllAdjacentBelow, declared.cmp.Ordering.TheVariants.Greater}
 use Rattle.sorted_arena.proofs.arena.extend.are_sorted.Given as goal
 
 abbrev pub invariant-loop-i : goal.invariant-loop-i

@@ -13,12 +13,12 @@ returns-then-are_same-clause-steps g c =
 
 pub returns-in_err-i-clause-steps : goal.returns-in_err-i-clause-steps
 returns-in_err-i-clause-steps g c =
-    let stands = place-linked c.self.inside.pairs.now.list.entries c.self.inside.is_numbered (option_map g.P.Inx.BasePtrInx.number c.self.inside.first) (option_map g.P.Inx.BasePtrInx.number c.self.inside.end) c.self.inside.from c.self.inside.left c.if-self.false c.self.invariant in
+    let stands = place-linked c.self.inside.pairs.now.list.entries c.self.inside.is_numbered (option_map g.P.Inx.BasePtrInx.number c.self.inside.first) (option_map g.P.Inx.BasePtrInx.number c.self.inside.end) c.self.inside.from c.self.inside.left g.P.Inx.BasePtrInx.most c.if-self.false c.self.invariant in
     absurd (last-named c.self.inside.pairs.now.list.entries _ _ stands (c.are_same.ensures.apart c.if-are_same.false) _ (c.last_before.ensures stands.distinct) (ap (option_map g.P.Inx.BasePtrInx.number) c.in_err-i.was))
 
 pub unwrap-entry-requires : goal.unwrap-entry-requires
 unwrap-entry-requires g c =
-    let stands = place-linked c.self.inside.pairs.now.list.entries c.self.inside.is_numbered (option_map g.P.Inx.BasePtrInx.number c.self.inside.first) (option_map g.P.Inx.BasePtrInx.number c.self.inside.end) c.self.inside.from c.self.inside.left c.if-self.false c.self.invariant in
+    let stands = place-linked c.self.inside.pairs.now.list.entries c.self.inside.is_numbered (option_map g.P.Inx.BasePtrInx.number c.self.inside.first) (option_map g.P.Inx.BasePtrInx.number c.self.inside.end) c.self.inside.from c.self.inside.left g.P.Inx.BasePtrInx.most c.if-self.false c.self.invariant in
     some-unless _ _ _ c.get_inx.ensures (last-occupied c.self.inside.pairs.now.list.entries _ _ stands (c.are_same.ensures.apart c.if-are_same.false)
     _ (c.last_before.ensures stands.distinct) (g.P.Inx.BasePtrInx.number c.in_ok-i.i) (ap (option_map g.P.Inx.BasePtrInx.number) c.in_ok-i.was))
 
@@ -27,14 +27,14 @@ stepped : (g : _) (c : goal.After-_from_raw g) → StepsLast c.self.inside.pairs
     (record { index = g.P.Inx.BasePtrInx.number c.in_ok-i.i; generation = g.P.Gen.BasePtrGen.number c.unwrap-entry.result.0; item = (c.k_v.result.0.now, c.k_v.result.1.now) })
     (Some (g.P.Inx.BasePtrInx.number c.in_ok-i.i))
 stepped g c =
-    let stands = place-linked c.self.inside.pairs.now.list.entries c.self.inside.is_numbered (option_map g.P.Inx.BasePtrInx.number c.self.inside.first) (option_map g.P.Inx.BasePtrInx.number c.self.inside.end) c.self.inside.from c.self.inside.left c.if-self.false c.self.invariant in
+    let stands = place-linked c.self.inside.pairs.now.list.entries c.self.inside.is_numbered (option_map g.P.Inx.BasePtrInx.number c.self.inside.first) (option_map g.P.Inx.BasePtrInx.number c.self.inside.end) c.self.inside.from c.self.inside.left g.P.Inx.BasePtrInx.most c.if-self.false c.self.invariant in
     let parts = ap (λ (k : g.row.K.Denot). (k, c.k_v.result.1.now)) c.k_v.ensures.key ∙ ap (λ (v : g.row.V.Denot). (c.unwrap-entry.result.1.now.0, v)) c.k_v.ensures.value in
     steps-last c.self.inside.pairs.now.list.entries _ _ stands (c.are_same.ensures.apart c.if-are_same.false)
     _ (c.last_before.ensures stands.distinct) (g.P.Inx.BasePtrInx.number c.in_ok-i.i) (ap (option_map g.P.Inx.BasePtrInx.number) c.in_ok-i.was)
     (g.P.Gen.BasePtrGen.number c.unwrap-entry.result.0) (c.k_v.result.0.now, c.k_v.result.1.now) _ (ap (option_map _) (sym c.unwrap-entry.ensures) ∙ c.get_inx.ensures) (sym parts)
 
 pub invariant_of-self-2 : goal.invariant_of-self-2
-invariant_of-self-2 g c = linked-place c.self.inside.pairs.now.list.entries c.self.inside.is_numbered (option_map g.P.Inx.BasePtrInx.number c.self.inside.first) (Some (g.P.Inx.BasePtrInx.number c.in_ok-i.i)) c.self.inside.from c.self.inside.left c.if-self.false (stepped g c).stands
+invariant_of-self-2 g c = linked-place c.self.inside.pairs.now.list.entries c.self.inside.is_numbered (option_map g.P.Inx.BasePtrInx.number c.self.inside.first) (Some (g.P.Inx.BasePtrInx.number c.in_ok-i.i)) c.self.inside.from c.self.inside.left g.P.Inx.BasePtrInx.most c.if-self.false (stepped g c).stands
 
 pub returns-clause-steps : goal.returns-clause-steps
 returns-clause-steps g c =
@@ -48,6 +48,6 @@ returns-clause-goes g c = record { on = λ _. (tt, tt, omega (arith, simp length
 pub returns-then-self-clause-steps : goal.returns-then-self-clause-steps
 returns-then-self-clause-steps g c =
     let is = sym c.self.view_is ∙ left-numbered c.self.inside.pairs.now.list.entries c.self.inside.is_numbered (option_map g.P.Inx.BasePtrInx.number c.self.inside.first) (option_map g.P.Inx.BasePtrInx.number c.self.inside.end) c.self.inside.from c.self.inside.left c.if-self.true in
-    let held = place-numbered c.self.inside.pairs.now.list.entries c.self.inside.is_numbered (option_map g.P.Inx.BasePtrInx.number c.self.inside.first) (option_map g.P.Inx.BasePtrInx.number c.self.inside.end) c.self.inside.from c.self.inside.left c.if-self.true c.self.invariant in
+    let held = place-numbered c.self.inside.pairs.now.list.entries c.self.inside.is_numbered (option_map g.P.Inx.BasePtrInx.number c.self.inside.first) (option_map g.P.Inx.BasePtrInx.number c.self.inside.end) c.self.inside.from c.self.inside.left g.P.Inx.BasePtrInx.most c.if-self.true c.self.invariant in
     let left = left-numbered c.self.inside.pairs.now.list.entries c.self.inside.is_numbered (option_map g.P.Inx.BasePtrInx.number c.self.inside.first) (option_map g.P.Inx.BasePtrInx.number c.self.inside.end) c.self.inside.from (c.self.inside.left - 1) c.if-self.true in
-    rw (is, left) (yields-end (shown_entry g.P.BasePtr.numbers) c.self.inside.pairs.now.list.entries c.self.inside.from c.self.inside.left c.if-self-eq0.false held.1 (Some c.entry_at.result) (sym c.entry_at.ensures))
+    rw (is, left) (yields-end (shown_entry g.P.BasePtr.numbers) c.self.inside.pairs.now.list.entries c.self.inside.from c.self.inside.left c.if-self-eq0.false held (Some c.entry_at.result) (sym c.entry_at.ensures))

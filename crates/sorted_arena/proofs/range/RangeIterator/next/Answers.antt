@@ -14,7 +14,7 @@ returns-then-are_same-clause-steps g c =
 
 pub unwrap-entry-requires : goal.unwrap-entry-requires
 unwrap-entry-requires g c =
-    let stands = place-linked c.self.inside.pairs.now.list.entries c.self.inside.is_numbered (option_map g.P.Inx.BasePtrInx.number c.self.inside.first) (option_map g.P.Inx.BasePtrInx.number c.self.inside.end) c.self.inside.from c.self.inside.left c.if-self.false c.self.invariant in
+    let stands = place-linked c.self.inside.pairs.now.list.entries c.self.inside.is_numbered (option_map g.P.Inx.BasePtrInx.number c.self.inside.first) (option_map g.P.Inx.BasePtrInx.number c.self.inside.end) c.self.inside.from c.self.inside.left g.P.Inx.BasePtrInx.most c.if-self.false c.self.invariant in
     some-unless _ _ _ c.get_inx_link_no_gen.ensures (first-linked c.self.inside.pairs.now.list.entries _ _ stands (c.are_same.ensures.apart c.if-are_same.false) (g.P.Inx.BasePtrInx.number c.in_ok-i.i) (ap (option_map g.P.Inx.BasePtrInx.number) c.in_ok-i.was))
 
 -- the step
@@ -22,7 +22,7 @@ stepped : (g : _) (c : goal.After-_from_raw g) → StepsFirst c.self.inside.pair
     (record { index = g.P.Inx.BasePtrInx.number c.in_ok-i.i; generation = g.P.Gen.BasePtrGen.number c.unwrap-entry.result.0; item = (c.k_v.result.0.now, c.k_v.result.1.now) })
     c.unwrap-entry.result.1.next
 stepped g c =
-    let stands = place-linked c.self.inside.pairs.now.list.entries c.self.inside.is_numbered (option_map g.P.Inx.BasePtrInx.number c.self.inside.first) (option_map g.P.Inx.BasePtrInx.number c.self.inside.end) c.self.inside.from c.self.inside.left c.if-self.false c.self.invariant in
+    let stands = place-linked c.self.inside.pairs.now.list.entries c.self.inside.is_numbered (option_map g.P.Inx.BasePtrInx.number c.self.inside.first) (option_map g.P.Inx.BasePtrInx.number c.self.inside.end) c.self.inside.from c.self.inside.left g.P.Inx.BasePtrInx.most c.if-self.false c.self.invariant in
     let item = ap (λ (l : Link (Bor (g.row.K.Denot × g.row.V.Denot))). l.item.now) c.link.view_is in
     let parts = ap (λ (k : g.row.K.Denot). (k, c.k_v.result.1.now)) c.k_v.ensures.key ∙ ap (λ (v : g.row.V.Denot). (c.link.inside.t.now.0, v)) c.k_v.ensures.value in
     steps-first c.self.inside.pairs.now.list.entries _ _ stands (c.are_same.ensures.apart c.if-are_same.false) (g.P.Inx.BasePtrInx.number c.in_ok-i.i)
@@ -31,7 +31,7 @@ stepped g c =
 
 pub invariant_of-self-2 : goal.invariant_of-self-2
 invariant_of-self-2 g c =
-    linked-place c.self.inside.pairs.now.list.entries c.self.inside.is_numbered (option_map g.P.Inx.BasePtrInx.number c.next-self-inside.result) (option_map g.P.Inx.BasePtrInx.number c.self.inside.end) c.self.inside.from c.self.inside.left c.if-self.false (rw c.next-self-inside.ensures.value (stepped g c).stands)
+    linked-place c.self.inside.pairs.now.list.entries c.self.inside.is_numbered (option_map g.P.Inx.BasePtrInx.number c.next-self-inside.result) (option_map g.P.Inx.BasePtrInx.number c.self.inside.end) c.self.inside.from c.self.inside.left g.P.Inx.BasePtrInx.most c.if-self.false (rw c.next-self-inside.ensures.value (stepped g c).stands)
 
 pub returns-clause-steps : goal.returns-clause-steps
 returns-clause-steps g c =
@@ -46,6 +46,6 @@ pub returns-then-self-clause-steps : goal.returns-then-self-clause-steps
 returns-then-self-clause-steps g c =
     let es = c.self.inside.pairs.now.list.entries in
     let is = sym c.self.view_is ∙ left-numbered c.self.inside.pairs.now.list.entries c.self.inside.is_numbered (option_map g.P.Inx.BasePtrInx.number c.self.inside.first) (option_map g.P.Inx.BasePtrInx.number c.self.inside.end) c.self.inside.from c.self.inside.left c.if-self.true in
-    let held = place-numbered c.self.inside.pairs.now.list.entries c.self.inside.is_numbered (option_map g.P.Inx.BasePtrInx.number c.self.inside.first) (option_map g.P.Inx.BasePtrInx.number c.self.inside.end) c.self.inside.from c.self.inside.left c.if-self.true c.self.invariant in
+    let held = place-numbered c.self.inside.pairs.now.list.entries c.self.inside.is_numbered (option_map g.P.Inx.BasePtrInx.number c.self.inside.first) (option_map g.P.Inx.BasePtrInx.number c.self.inside.end) c.self.inside.from c.self.inside.left g.P.Inx.BasePtrInx.most c.if-self.true c.self.invariant in
     let left = left-numbered c.self.inside.pairs.now.list.entries c.self.inside.is_numbered (option_map g.P.Inx.BasePtrInx.number c.self.inside.first) (option_map g.P.Inx.BasePtrInx.number c.self.inside.end) (c.self.inside.from + 1) (c.self.inside.left - 1) c.if-self.true in
-    rw (is, left) (yields-front (shown_entry g.P.BasePtr.numbers) es c.self.inside.from c.self.inside.left c.if-self-eq0.false held.1 (Some c.entry_at.result) (sym c.entry_at.ensures))
+    rw (is, left) (yields-front (shown_entry g.P.BasePtr.numbers) es c.self.inside.from c.self.inside.left c.if-self-eq0.false held (Some c.entry_at.result) (sym c.entry_at.ensures))
