@@ -2,14 +2,12 @@
 use Rattle.std.proofs.Common.{◌≡◌, ◌≢◌, ℕ, ◌+◌, ◌<◌, ◌≤◌, List, [], ◌∷◌, ◌++◌, map, Option, Some, None, refl, sym, ap, subst, ◌∙◌, arith, append_assoc}
 use Rattle.std.proofs.lemmas.List.{map-append}
 use Rattle.std.specs.{List.AllByRecursion, Option.option_map, Option.option_and_then}
-use Rattle.sorted_arena.specs.Chain.{Entry, IsDistinct, item_of}
-use Rattle.sorted_arena.specs.Gap.{first_of, last_of}
+use Rattle.sorted_arena.specs.{Chain.Entry, Chain.IsDistinct, Chain.item_of, Gap.first_of, Gap.last_of}
 use Rattle.sorted_arena.proofs.OrdLemmas.{ends}
 use Rattle.timeline.specs.Timeline.{Change, value_at, IsRising, IsJoinedAfter, AreChanges, IsNextChange, IsWholeSpan}
 use Rattle.timeline.specs.Layout.{change, last_value, valued, IsAround}
 use Rattle.timeline.proofs.Cutting.{AreUntil, AreAfter, all-append, all-weaker, all-back, rising-front, rising-back, before-end, joined-back, last-append}
-use Rattle.timeline.proofs.Values.{value-cut}
-use Rattle.timeline.proofs.Places.{first-found, last-found, value-found}
+use Rattle.timeline.proofs.{Values.value-cut, Places.first-found, Places.last-found, Places.value-found}
 
 -- a time and a value
 abbrev pair : {V : Type 0} → ℕ → V → ℕ × V

@@ -1,12 +1,11 @@
 -- Lists of changes: cutting them at a time, and putting changes between.
-use Rattle.std.proofs.Common.{◌≡◌, Bool, true, false, not, leb, ℕ, ◌<◌, ◌≤◌, List, [], ◌∷◌, ◌++◌, Option, refl, sym, ap, ◌∙◌, arith, inl, inr}
+use Rattle.std.proofs.Common.{◌≡◌, true, false, not, leb, ℕ, ◌<◌, ◌≤◌, List, [], ◌∷◌, ◌++◌, Option, refl, sym, ap, ◌∙◌, arith, inl, inr}
 use Rattle.std.proofs.{lemmas.Bool.Decides.leb_tells, lemmas.Bool.le-leb, lemmas.Bool.lt-leb, lemmas.List.append-nil}
 use Rattle.std.proofs.lemmas.List.Elements.{filter-append, filter_passes, recursion_from_All}
 use Rattle.std.specs.List.{AllByRecursion}
 pub use Rattle.sorted_arena.proofs.CallerLemmas.{all-append, all-front, all-back, filter-all, filter-none}
 pub use Rattle.sorted_arena.proofs.OrdLemmas.{recursion-map as all-weaker}
-use Rattle.timeline.specs.Layout.{earlier, later, last_value, Brings}
-use Rattle.timeline.specs.Timeline.{Change, IsRising, IsJoinedAfter}
+use Rattle.timeline.specs.{Layout.earlier, Layout.later, Layout.last_value, Layout.Brings, Timeline.Change, Timeline.IsRising, Timeline.IsJoinedAfter}
 
 not-leb : (a b : ℕ) → not (leb a b) ≡ true → b < a
 not-leb a b is = elim (leb_tells a b) [

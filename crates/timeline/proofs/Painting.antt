@@ -1,16 +1,13 @@
 -- What the steps of a setting leave.
 use Rattle.std.proofs.Common.{◌≡◌, ◌≢◌, ℕ, ◌<◌, ◌≤◌, List, [], ◌∷◌, ◌++◌, map, Option, Some, None, Result, Ok, Err, IfOk, OnOk, IfErr, OnErr, OnSome, IfSome, IsSomeAnd, refl, sym, ap, subst, ◌∙◌, arith, inl, inr, append_assoc}
 use Rattle.std.proofs.{lemmas.Bool.Decides.nat_tests, lemmas.List.map-append, lemmas.List.Elements.recursion_from_All}
-use Rattle.std.specs.{List.AllByRecursion, Ordering.nat_cmp}
-use Rattle.std.specs.declared.cmp.Ordering.TheVariants.{Less}
-use Rattle.sorted_arena.specs.Gap.{last_of}
-use Rattle.sorted_arena.specs.Sorted.{Sorted, key_of, Inserts}
+use Rattle.std.specs.{List.AllByRecursion, Ordering.nat_cmp, declared.cmp.Ordering.TheVariants.Less}
+use Rattle.sorted_arena.specs.{Gap.last_of, Sorted.Sorted, Sorted.key_of, Sorted.Inserts}
 use Rattle.timeline.specs.Timeline.{Change, most_entries, value_at, IsRising, AreChanges}
 use Rattle.timeline.specs.Layout.{change, changes_of, earlier, later, later_than, last_value, last_taken, held_or, or_else, end_value_of, IsChanged, IsAt, IsReached, IsBeyond, TakesSame, TakesOver, IsRefusable, IsJoinedTo, IsOpen, IsFinished, IsPainted, EndsAt, Sets, CannotEnd}
-use Rattle.timeline.proofs.Cutting.{AreBefore, AreUntil, AreAfter, all-append, all-front, all-back, all-weaker, earlier-before, later-after, cut-before, cut-after, cut-earlier, cut-later, rising-front, rising-back, rising-append, before-end, last-append}
-use Rattle.timeline.proofs.Values.{value-cut}
+use Rattle.timeline.proofs.Cutting.{AreBefore, AreUntil, AreAfter, all-append, all-front, all-weaker, earlier-before, later-after, cut-before, cut-after, cut-earlier, cut-later, rising-front, rising-back, rising-append, before-end, last-append}
+use Rattle.timeline.proofs.{Values.value-cut, Places.Item}
 use Rattle.timeline.proofs.Setting.{IsCutOut, rising-mid, unmet-mid, early-mid, last-mid, value-unmet, changed-same, set-is, set-timeline, set-from, from-timeline}
-use Rattle.timeline.proofs.Places.{Item}
 
 -- what is said where there is something, where there is
 pub owed : {X Q : Type 0} {x : X} (o : Option X) → o ≡ Some x → OnSome o Q → Q

@@ -3,13 +3,10 @@ use Rattle.std.proofs.Common.{◌≡◌, ◌≢◌, ℕ, ◌<◌, ◌≤◌, Lis
 use Rattle.std.proofs.{lemmas.Bool.Decides.leb_tells, lemmas.Bool.Decides.nat_tests, lemmas.List.append-nil, lemmas.List.Elements.recursion_from_All}
 use Rattle.std.specs.{List.AllByRecursion, Option.option_map, Option.option_and_then, Ordering.nat_cmp, Ordering.is_lt}
 use Rattle.std.specs.declared.cmp.Ordering.TheVariants.{Greater}
-use Rattle.sorted_arena.specs.Chain.{Entry, IsDistinct, item_of, without, last_pointer}
-use Rattle.sorted_arena.specs.Gap.{first_of, last_of}
-use Rattle.sorted_arena.proofs.OrdLemmas.{ends}
+use Rattle.sorted_arena.specs.{Chain.Entry, Chain.IsDistinct, Chain.item_of, Chain.without, Chain.last_pointer, Gap.first_of, Gap.last_of}
+use Rattle.sorted_arena.proofs.{OrdLemmas.ends, CallerLemmas.next-here, CallerLemmas.prev-here, CallerLemmas.found-here, CallerLemmas.without-here}
 use Rattle.sorted_arena.specs.Sorted.{pointer_of, key_of, first_where, next_of, prev_of, AreSorted}
-use Rattle.sorted_arena.proofs.CallerLemmas.{next-here, prev-here, found-here, without-here}
-use Rattle.timeline.specs.Timeline.{Change}
-use Rattle.timeline.specs.Layout.{change, last_value, IsAround, IsAt}
+use Rattle.timeline.specs.{Timeline.Change, Layout.change, Layout.last_value, Layout.IsAround, Layout.IsAt}
 
 -- a pointer read as itself
 pub unmapped : (o : Option (ℕ × ℕ)) → option_map (λ p. p) o ≡ o

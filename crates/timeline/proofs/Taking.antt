@@ -1,11 +1,10 @@
 -- What is taken out beside a pointer.
 use Rattle.std.proofs.Common.{◌≡◌, ◌≢◌, ℕ, List, [], ◌∷◌, ◌++◌, map, Option, Some, None, IfSome, refl, sym, ap, subst, ◌∙◌, arith, inl, inr, append_assoc}
 use Rattle.std.proofs.{lemmas.Bool.Decides.leb_tells, lemmas.Bool.Decides.nat_tests, lemmas.List.map-append, lemmas.List.Elements.recursion_from_All}
-use Rattle.std.specs.{List.AllByRecursion, Option.option_map, Ordering.nat_cmp}
-use Rattle.std.specs.declared.cmp.Ordering.TheVariants.{Greater}
-use Rattle.sorted_arena.specs.Chain.{IsDistinct, item_of, without}
-use Rattle.sorted_arena.specs.Gap.{first_of, last_of}
+use Rattle.std.specs.{List.AllByRecursion, Option.option_map, Ordering.nat_cmp, declared.cmp.Ordering.TheVariants.Greater}
+use Rattle.sorted_arena.specs.{Chain.IsDistinct, Chain.item_of, Chain.without, Gap.first_of, Gap.last_of}
 use Rattle.sorted_arena.specs.Sorted.{key_of, next_of, prev_of, AreSorted}
+use Rattle.sorted_arena.proofs.CallerLemmas.{sorted-back}
 use Rattle.timeline.specs.Timeline.{Change}
 use Rattle.timeline.specs.Layout.{change, last_taken, or_else, IsAt, IsReached, IsBeyond, TakesNext, TakesBehind, TakesSame, TakesOver}
 use Rattle.timeline.proofs.Places.{Item, NextAt, next-at, PrevAt, before-at, next-there, prev-there}
@@ -74,10 +73,6 @@ module _ {V : Type 0} where
   last-behind o [] e = refl
   last-behind o (f ∷ es) e = last-behind (Some f.item.1) es e
 
-  sorted-back : (front back : List (Item V)) → AreSorted nat_cmp (front ++ back) → AreSorted nat_cmp back
-  sorted-back [] back sorted = sorted
-  sorted-back (e ∷ front) back sorted = sorted-back front back sorted.1
-
   -- behind an entry beyond the end all are
   all-beyond : (until : Option ℕ) (es : List (Item V)) → AreSorted nat_cmp es → IfSome (first_of es) (λ f. IsBeyond until f.item.0) → AllByRecursion (λ (c : Change V). IsBeyond until c.time) (map change es)
   all-beyond until [] sorted first = tt
@@ -118,7 +113,7 @@ module _ {V : Type 0} where
         rest = taking.rest;
         parts = taking.parts;
         reached = taking.reached;
-        beyond = all-beyond until taking.rest (sorted-back (at.entry ∷ []) taking.rest (sorted-back at.front (at.entry ∷ taking.rest) (subst (AreSorted nat_cmp) (same ∙ taking.left) sorted))) first;
+        beyond = all-beyond until taking.rest (sorted-back nat_cmp (at.entry ∷ []) taking.rest (sorted-back nat_cmp at.front (at.entry ∷ taking.rest) (subst (AreSorted nat_cmp) (same ∙ taking.left) sorted))) first;
         left = same ∙ taking.left;
         moved_is = taking.moved_is;
       }

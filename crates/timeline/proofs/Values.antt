@@ -1,8 +1,7 @@
 -- Values along lists of changes.
 use Rattle.std.proofs.Common.{◌≡◌, ℕ, List, [], ◌∷◌, ◌++◌, Option, refl, sym, ◌∙◌, arith, inl, inr}
 use Rattle.std.proofs.lemmas.Bool.Decides.{leb_tells}
-use Rattle.timeline.specs.Timeline.{Change, value_after}
-use Rattle.timeline.specs.Layout.{last_value}
+use Rattle.timeline.specs.{Timeline.Change, Timeline.value_after, Layout.last_value}
 use Rattle.timeline.proofs.Cutting.{AreUntil, AreAfter}
 
 module _ {V : Type 0} where

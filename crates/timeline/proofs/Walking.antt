@@ -2,17 +2,13 @@
 use Rattle.std.proofs.Common.{◌≡◌, ◌≢◌, ℕ, ◌<◌, ◌≤◌, List, [], ◌∷◌, ◌++◌, map, Option, Some, None, IsSome, refl, sym, ap, subst, ◌∙◌, arith, inl, inr, append_assoc}
 use Rattle.std.proofs.{lemmas.Bool.le-leb, lemmas.Bool.lt-leb, lemmas.Bool.Decides.leb_tells}
 use Rattle.std.specs.Option.{option_map, option_and_then}
-use Rattle.sorted_arena.specs.Chain.{IsDistinct, item_of}
-use Rattle.sorted_arena.specs.Gap.{first_of}
-use Rattle.sorted_arena.proofs.OrdLemmas.{from_index-here}
-use Rattle.sorted_arena.specs.Sorted.{pointer_of, next_of, item_of as entry_item}
-use Rattle.sorted_arena.proofs.CallerLemmas.{next-here, found-here}
+use Rattle.sorted_arena.specs.{Chain.IsDistinct, Chain.item_of, Gap.first_of, Sorted.pointer_of, Sorted.next_of, Sorted.item_of as entry_item}
+use Rattle.sorted_arena.proofs.{OrdLemmas.from_index-here, CallerLemmas.next-here, CallerLemmas.found-here}
 use Rattle.timeline.specs.Timeline.{Change, value_after, value_at, IsRising, IsJoinedAfter, AreChanges, HasNone, AreSpans, HasValues, AreGaps}
 use Rattle.timeline.specs.{declared.span.Span.Span, declared.walk.Piece.Piece}
 use Rattle.timeline.specs.Layout.{change, change_of, later, last_value, left_from, pieces_after, pieces_of, with_span, spans_among, with_gap, gaps_among, IsAround, IsBehind}
 use Rattle.timeline.proofs.Cutting.{AreAfter, cut-after, cut-later, later-after, all-weaker, rising-back, joined-back}
-use Rattle.timeline.proofs.Values.{value-early, value-late}
-use Rattle.timeline.proofs.{Around.changes-cut, Around.held-around, Places.Item, Places.unmapped, Places.value-found}
+use Rattle.timeline.proofs.{Values.value-early, Values.value-late, Around.changes-cut, Around.held-around, Places.Item, Places.unmapped, Places.value-found}
 
 module _ {V : Type 0} where
   -- what is left from the pointer behind a cut on

@@ -1,10 +1,8 @@
 -- How a timeline lies in its arena, and what its private calls leave (layout).
 use Rattle.std.specs.Prelude.{◌≡◌, ◌≢◌, ℕ, ◌≤◌, ◌<◌, leb, not, filter, if◌then◌else◌, List, [], ◌∷◌, ◌++◌, length, map, Option, Some, None, ◌⊎◌, IfSome}
-use Rattle.std.specs.{List.AllByRecursion, Option.option_map, Borrow.Bor}
-use Rattle.sorted_arena.specs.Chain.{Entry, IsDistinct, from_index}
-use Rattle.sorted_arena.specs.Gap.{first_of, last_of}
-use Rattle.sorted_arena.specs.Sorted.{Sorted, pointer_of}
-use Rattle.timeline.specs.{Timeline.Change, Timeline.Timeline, Timeline.value_at, Timeline.IsRising, Timeline.IsSet, Timeline.IsSetFrom, Timeline.HoldsRefusable, Timeline.roomy_capacity, Timeline.capacity_set, declared.walk.Piece.Piece, declared.span.Span.Span}
+use Rattle.std.specs.{List.AllByRecursion, Option.option_map, Ordering.nat_cmp, Borrow.Bor}
+use Rattle.sorted_arena.specs.{Chain.Entry, Chain.IsDistinct, Chain.from_index, Gap.first_of, Gap.last_of, Sorted.Sorted, Sorted.pointer_of, Sorted.IsSound}
+use Rattle.timeline.specs.{Timeline.most_entries, Timeline.Change, Timeline.Timeline, Timeline.value_at, Timeline.IsRising, Timeline.IsSet, Timeline.IsSetFrom, Timeline.HoldsRefusable, Timeline.roomy_capacity, Timeline.capacity_set, declared.walk.Piece.Piece, declared.span.Span.Span}
 use Rattle.timeline.specs.declared.span.Gap.{Gap as FreeTime}
 
 -- whether a time is reached by an end, which may be none; and whether it is behind the end
@@ -84,11 +82,16 @@ module _ {V : Type 0} where
     pub cut : es ≡ front ++ entry ∷ back
     pub named : p ≡ pointer_of entry
 
+  -- A call that leaves the capacity of an arena as it is, and the arena sound.
+  pub record KeepsCapacity (old new : Sorted ℕ (Option V)) : Type 0 where
+    pub capacity : new.capacity ≡ old.capacity
+    pub sound : IsSound nat_cmp most_entries new
+
   -- A call that may take changes out of an arena. If a pointer names a change, `takes` says what is left. The capacity stays.
   pub record TakesChange (old : Sorted ℕ (Option V)) (p : ℕ × ℕ) (takes : IsAt old.entries p → Type 0)
       (new : Sorted ℕ (Option V)) : Type 0 where
     pub taken : (at : IsAt old.entries p) → takes at
-    pub capacity : new.capacity ≡ old.capacity
+    pub keeps : KeepsCapacity old new
     pub count : length new.entries ≤ length old.entries
 
   -- a change is taken out directly behind the one at a pointer, if the end reaches it

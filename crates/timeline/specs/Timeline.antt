@@ -1,8 +1,7 @@
 -- What a timeline is: the value that holds at each time, told by the times at which it changes.
 use Rattle.std.specs.Prelude.{◌≡◌, ◌≢◌, ℕ, ◌+◌, ◌*◌, ◌<◌, ◌≤◌, ◌⊎◌, ◌↔◌, leb, nat_lt, if◌then◌else◌, List, [], ◌∷◌, length, Option, Some, None, IsSome, IfSome, Result, Err, OnOk, OnErr}
 use Rattle.std.specs.{List.AllByRecursion, Option.option_map, Borrow.Bor}
-use Rattle.sorted_arena.specs.PlainArena.{capacity_for}
-use Rattle.sorted_arena.specs.ReallocationError.{ReallocationError}
+use Rattle.sorted_arena.specs.{PlainArena.capacity_for, ReallocationError.ReallocationError}
 use Rattle.sorted_arena.specs.ReallocationError.TheVariants.{BeyondMaxCapacity, AllocError}
 use Rattle.timeline.specs.declared.span.{Span.Span, WholeSpan.WholeSpan, Gap.Gap}
 -- how many changes there can be

@@ -4,7 +4,7 @@ ghost use Rattle.std.specs.Prelude.{◌≡◌, ◌≤◌, ◌<◌, ◌+◌, ◌+
 ghost use Rattle.std.specs.Ordering.{nat_cmp};
 ghost use Rattle.sorted_arena.specs.Sorted.{Inserts, IsSound};
 ghost use Rattle.timeline.specs.Timeline.{most_entries, roomy_capacity, value_at, IsRising};
-ghost use Rattle.timeline.specs.Layout.{changes_of, timeline_of, IsReached, IsBeyond, IsAt, TakesChange, TakesNext, TakesBehind, TakesSame};
+ghost use Rattle.timeline.specs.Layout.{changes_of, timeline_of, IsReached, IsBeyond, IsAt, KeepsCapacity, TakesChange, TakesNext, TakesBehind, TakesSame};
 ghost use Rattle.timeline.specs.Layout.{end_value_of, IsOpen, TakesOver, IsJoinedTo, IsFinished, IsPainted, IsRefusable, CannotEnd};
 
 use crate::changes::{Changes, held_at, value_of};
@@ -57,7 +57,7 @@ pub(crate) fn make_room<V: TimelineValue, A: Allocator>(
 fn insert_at<V: Drop, A: Allocator>(changes: &mut Changes<V, A>, time: u64, value: Option<V>) -> P0
     requires { length changes.old.entries < changes.old.capacity }
     ensures inserted { Inserts nat_cmp most_entries changes.old result time value changes.new }
-    ensures capacity { changes.new.capacity ≡ changes.old.capacity }
+    ensures keeps { KeepsCapacity changes.old changes.new }
     ensures count { length changes.new.entries ≡ length changes.old.entries + 1 }
 {
     match changes.insert(time, value) {
@@ -89,7 +89,6 @@ fn take_next<V, A: Allocator>(
     ensures count { OnSome result
         (length changes.old.entries ≡ length changes.new.entries + 1) }
     ensures kept { IfNone result (changes.new ≡ changes.old) }
-    ensures sound { IsSound nat_cmp most_entries changes.new }
 {
     let next = changes.next(p)?;
     let time = *changes.key(next)?;
@@ -188,17 +187,16 @@ fn finish<V: TimelineValue, A: Allocator>(
     spare: Option<Option<V>>,
     taken: Option<Option<V>>,
 ) -> Result<(), AllocError>
-    requires { length changes.old.entries < changes.old.capacity }
+    requires room { length changes.old.entries < changes.old.capacity }
+    requires sound { IsSound nat_cmp most_entries changes.old }
     ensures finished { (stands : IsOpen changes.old.entries p until) → OnOk result
         (IsFinished stands (end_value_of stands.at spare taken) (changes_of changes.new)) }
     ensures refused { (at : IsAt changes.old.entries p)
         → OnErr result (IsRefusable V.is_infallible at spare taken) }
     ensures err { (at : IsAt changes.old.entries p)
         → OnErr result (changes.new.entries ≡ at.front ++ at.back) }
-    ensures capacity { changes.new.capacity ≡ changes.old.capacity }
+    ensures keeps { KeepsCapacity changes.old changes.new }
 {
-    // For the prover: the arena is sound.
-    let _ = changes.len();
     let after = match end_value(changes, p, spare, taken) {
         Ok(after) => after,
         Err(refused) => {
@@ -232,7 +230,7 @@ pub(crate) fn paint<V: TimelineValue, A: Allocator>(
     ensures refused { OnErr result
         ((spare ≡ None) × CannotEnd V.is_infallible (changes_of changes.old) from until) }
     ensures err { OnErr result (changes_of changes.new ≡ changes_of changes.old) }
-    ensures capacity { changes.new.capacity ≡ changes.old.capacity }
+    ensures keeps { KeepsCapacity changes.old changes.new }
 {
     let p = insert_at(changes, from, value);
     let taken = take_over(changes, p, from, until);

@@ -1,6 +1,6 @@
 use Rattle.timeline.proofs.Places.{around-some, around-none}
-use Rattle.timeline.proofs.changes.around.Goals as goal
 use Rattle.timeline.proofs.changes.around.Goals.{in-Some, in-None}
+use Rattle.timeline.proofs.changes.around.Goals as goal
 
 pub returns : goal.returns
 returns g c = elim c.match-after.branch [

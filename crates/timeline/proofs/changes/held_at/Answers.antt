@@ -1,6 +1,5 @@
 use Rattle.std.proofs.Common.{◌∙◌, sym}
-use Rattle.timeline.proofs.Places.{value-found}
-use Rattle.timeline.proofs.Around.{held-around}
+use Rattle.timeline.proofs.{Places.value-found, Around.held-around}
 use Rattle.timeline.proofs.changes.held_at.Goals as goal
 
 pub returns : goal.returns

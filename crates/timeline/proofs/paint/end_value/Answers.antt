@@ -1,6 +1,5 @@
 use Rattle.std.proofs.Common.{◌∙◌}
-use Rattle.timeline.proofs.Places.{value-there}
-use Rattle.timeline.proofs.Painting.{cloned, refused}
+use Rattle.timeline.proofs.{Places.value-there, Painting.cloned, Painting.refused}
 use Rattle.timeline.proofs.paint.end_value.Goals as goal
 
 pub returns-in-None-None-clause-ok : goal.returns-in-None-None-clause-ok

@@ -1,20 +1,19 @@
 use Rattle.std.proofs.Common.{◌∙◌, ◌≢◌, sym, ap, subst}
 use Rattle.std.specs.Option.{option_and_then}
 use Rattle.timeline.specs.Layout.{IsFinished, changes_of}
-use Rattle.timeline.proofs.Places.{found-there, without-there}
-use Rattle.timeline.proofs.Painting.{owed, finished-same, finished-other}
+use Rattle.timeline.proofs.{Places.found-there, Places.without-there, Painting.owed, Painting.finished-same, Painting.finished-other}
 use Rattle.timeline.proofs.paint.finish.Goals as goal
 
 pub returns-in-Err-clause-err : goal.returns-in-Err-clause-err
 returns-in-Err-clause-err g c at =
     let es = c.args.changes.now.entries in
-    let distinct = c.len.ensures.sound.distinct in
+    let distinct = c.requires.sound.distinct in
     ap (λ a. a.entries) (owed c.remove.result (c.remove.ensures.value ∙ found-there es distinct c.args.p at) c.remove.ensures.removes.gone) ∙ without-there es distinct c.args.p at
 
 pub returns-then-is_end-clause-finished : goal.returns-then-is_end-clause-finished
 returns-then-is_end-clause-finished g c stands =
     let es = c.args.changes.now.entries in
-    let here = c.value_of.ensures ∙ ap (option_and_then (λ x. x.1)) (found-there es c.len.ensures.sound.distinct c.args.p stands.at) in
+    let here = c.value_of.ensures ∙ ap (option_and_then (λ x. x.1)) (found-there es c.requires.sound.distinct c.args.p stands.at) in
     let other : stands.at.entry.item.1 ≢ c.in-Ok.after = λ same. absurd (let yes = c.is_same-is_end.ensures.1 (here ∙ same ∙ sym c.as_ref.ensures.value) in let no = c.if-is_end.true in cc) in
     subst (λ v. IsFinished stands v (changes_of c.insert_at.new.changes)) (c.in-Ok.ensures.ok stands.at)
     (finished-other es c.args.p c.args.until stands c.join_before.new.changes (c.join_before.ensures.taken stands.at) c.in-Ok.after c.insert_at.result c.insert_at.new.changes other c.insert_at.ensures.inserted)
@@ -22,6 +21,6 @@ returns-then-is_end-clause-finished g c stands =
 pub returns-else-is_end-clause-finished : goal.returns-else-is_end-clause-finished
 returns-else-is_end-clause-finished g c stands =
     let es = c.args.changes.now.entries in
-    let here = c.value_of.ensures ∙ ap (option_and_then (λ x. x.1)) (found-there es c.len.ensures.sound.distinct c.args.p stands.at) in
+    let here = c.value_of.ensures ∙ ap (option_and_then (λ x. x.1)) (found-there es c.requires.sound.distinct c.args.p stands.at) in
     subst (λ v. IsFinished stands v (changes_of c.join_before.new.changes)) (c.in-Ok.ensures.ok stands.at)
     (finished-same es c.args.p c.args.until stands c.join_before.new.changes (c.join_before.ensures.taken stands.at) c.in-Ok.after (sym here ∙ c.is_same-is_end.ensures.0 c.if-is_end.false ∙ c.as_ref.ensures.value))

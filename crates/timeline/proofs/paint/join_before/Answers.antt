@@ -1,8 +1,7 @@
 use Rattle.std.proofs.Common.{◌∙◌, sym, ap, inl, inr, refl, arith, rules}
 use Rattle.std.proofs.lemmas.Grind.{common_steps}
 use Rattle.std.specs.Option.{option_and_then}
-use Rattle.timeline.proofs.Places.{value-there, found-there, without-there}
-use Rattle.timeline.proofs.Painting.{owed}
+use Rattle.timeline.proofs.{Places.value-there, Places.found-there, Places.without-there, Painting.owed}
 use Rattle.timeline.proofs.paint.join_before.Goals as goal
 
 pub returns-then-is_same : goal.returns-then-is_same
@@ -16,7 +15,7 @@ returns-then-is_same g c =
           let here = c.value_of-2.ensures ∙ ap (option_and_then (λ x. x.1)) found in
           let gone = owed c.remove.result (c.remove.ensures.value ∙ found) c.remove.ensures.removes.gone in
           inl (sym before ∙ c.is_same.ensures.0 c.if-is_same.true ∙ here, ap (λ a. a.entries) gone ∙ without-there es distinct c.args.p at);
-      capacity = search rules;
+      keeps = record { capacity = search rules; sound = c.remove.ensures.removes.sound };
       count = grind (arith, common_steps);
     }
 
@@ -30,6 +29,6 @@ returns-else-is_same g c =
           let before = c.value_of.ensures ∙ value-there es distinct c.args.p at c.prev-before.result c.prev-before.ensures.value in
           let here = c.value_of-2.ensures ∙ ap (option_and_then (λ x. x.1)) found in
           inr (λ same. absurd (let yes = c.is_same.ensures.1 (before ∙ same ∙ sym here) in cc), refl);
-      capacity = refl;
+      keeps = record { capacity = refl; sound = c.prev-before.ensures.sound };
       count = omega arith;
     }

@@ -2,8 +2,8 @@ use Rattle.std.proofs.Common.{subst, rules, Option, ℕ, IfSome, ◌<◌}
 use Rattle.timeline.specs.Layout.{changes_of}
 use Rattle.timeline.proofs.Painting.{IsCleared, at_put, cleared, painted-none, painted-some, painted-refused, painted-kept, stands}
 use Rattle.timeline.proofs.paint.paint.Given.{Over}
-use Rattle.timeline.proofs.paint.paint.Goals as goal
 use Rattle.timeline.proofs.paint.paint.Goals.{After-take_over-taken}
+use Rattle.timeline.proofs.paint.paint.Goals as goal
 
 -- The change stands between those that were left.
 cleared-put : (g : Over) (c : After-take_over-taken g)
@@ -23,7 +23,7 @@ returns-in-Some g c =
           (c.finish.ensures.finished (stands (changes_of c.args.changes.now) c.requires.rising c.args.from c.args.until c.args.value c.take_over-taken.result c.take_over-taken.new.changes.entries c.insert_at-p.result clear c.in-Some.until c.in-Some.is ordered));
       refused = painted-refused (changes_of c.args.changes.now) c.requires.rising c.args.from c.args.until c.args.value c.take_over-taken.result c.take_over-taken.new.changes.entries c.insert_at-p.result clear c.in-Some.until c.in-Some.is ordered g.V.Clone.is_infallible c.args.spare c.finish.result (c.finish.ensures.refused clear.at);
       err = painted-kept (changes_of c.args.changes.now) c.requires.rising c.args.from c.args.until c.args.value c.take_over-taken.result c.take_over-taken.new.changes.entries c.insert_at-p.result clear c.in-Some.until c.in-Some.is ordered g.V.Clone.is_infallible c.args.spare c.finish.new.changes.entries c.finish.result (c.finish.ensures.refused clear.at) (c.finish.ensures.err clear.at);
-      capacity = search rules;
+      keeps = record { capacity = search rules; sound = c.finish.ensures.keeps.sound };
     }
 
 pub returns-in-None-clause-painted : goal.returns-in-None-clause-painted

@@ -7,7 +7,7 @@ pub loop-value-preserved : goal.loop-value-preserved
 loop-value-preserved g c = (
   λ at. taking-more c.args.until c.args.changes.now.entries c.args.p at c.loop-value.moved c.loop-value.changes.entries (c.loop-value.invariant.0 at) c.in-Some.value c.take_next.new.changes.entries
       (c.in-Some.ensures.takes.taken (at_now c.args.until c.args.changes.now.entries c.args.p at c.loop-value.moved c.loop-value.changes.entries (c.loop-value.invariant.0 at))),
-  c.in-Some.ensures.takes.capacity ∙ c.loop-value.invariant.1,
+  c.in-Some.ensures.takes.keeps.capacity ∙ c.loop-value.invariant.1,
   omega (arith, c.in-Some.ensures.count, c.loop-value.invariant.2),
 )
 
@@ -16,7 +16,7 @@ returns g c = record {
   taken = λ at.
       taking-done c.args.until c.args.changes.now.entries c.args.p at c.loop-value.moved c.loop-value.changes.entries (c.loop-value.invariant.0 at) c.take_next.new.changes.entries
       (c.in_default.ensures.takes.taken (at_now c.args.until c.args.changes.now.entries c.args.p at c.loop-value.moved c.loop-value.changes.entries (c.loop-value.invariant.0 at)))
-      c.in_default.ensures.sound.sorted;
-  capacity = search rules;
+      c.in_default.ensures.takes.keeps.sound.sorted;
+  keeps = record { capacity = search rules; sound = c.in_default.ensures.takes.keeps.sound };
   count = grind (arith, common_steps);
 }

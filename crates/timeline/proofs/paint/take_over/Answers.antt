@@ -8,7 +8,7 @@ returns-in-Some g c = record {
       let takes = c.in-Some.ensures.taken at in
       takes-over c.args.from c.args.until c.args.changes.now.entries c.args.p at _ _ takes c.take_same-same.result c.take_same-same.new.changes.entries
       (c.take_same-same.ensures.taken (at_mid c.args.from c.args.until c.args.changes.now.entries c.args.p at _ _ takes));
-  capacity = search rules;
+  keeps = record { capacity = search rules; sound = c.take_same-same.ensures.keeps.sound };
   count = grind (arith, common_steps);
 }
 
@@ -18,6 +18,6 @@ returns-in-None g c = record {
       let takes = c.in-None.ensures.taken at in
       takes-over c.args.from c.args.until c.args.changes.now.entries c.args.p at _ _ takes c.take_same-same.result c.take_same-same.new.changes.entries
       (c.take_same-same.ensures.taken (at_mid c.args.from c.args.until c.args.changes.now.entries c.args.p at _ _ takes));
-  capacity = search rules;
+  keeps = record { capacity = search rules; sound = c.take_same-same.ensures.keeps.sound };
   count = grind (arith, common_steps);
 }

@@ -1,19 +1,18 @@
-use Rattle.std.proofs.Common.{refl, ap, arith, rules}
-use Rattle.std.proofs.lemmas.Grind.{common_steps}
+use Rattle.std.proofs.{Common.refl, Common.ap, Common.arith, Common.rules, lemmas.Grind.common_steps}
 use Rattle.timeline.proofs.Taking.{none-before, apart-before, takes-same}
 use Rattle.timeline.proofs.paint.take_same.Goals as goal
 
 pub returns-in_err-before : goal.returns-in_err-before
 returns-in_err-before g c = record {
   taken = λ at. rw c.from_residual.ensures (none-before c.args.changes.now.entries c.in_err-before.ensures.sound.distinct c.args.p at c.args.from c.in_err-before.ensures.value);
-  capacity = refl;
+  keeps = record { capacity = refl; sound = c.in_err-before.ensures.sound };
   count = omega arith;
 }
 
 pub returns-then-branch-from : goal.returns-then-branch-from
 returns-then-branch-from g c = record {
   taken = λ at. (refl, apart-before c.args.changes.now.entries c.in_ok-before.ensures.sound.distinct c.args.p at c.args.from c.in_ok-before.before c.in_ok-key.field-0.now c.in_ok-before.ensures.value c.in_ok-key.ensures c.if-branch-from.true);
-  capacity = refl;
+  keeps = record { capacity = refl; sound = c.in_ok-before.ensures.sound };
   count = omega arith;
 }
 
@@ -22,6 +21,6 @@ returns-in-Some g c = record {
   taken = λ at.
       takes-same c.args.changes.now.entries c.in_ok-before.ensures.sound.distinct c.args.p at c.args.from c.in_ok-before.before c.in_ok-key.field-0.now c.in_ok-before.ensures.value c.in_ok-key.ensures c.if-branch-from.false
       (c.in-Some.field-0-0, c.in-Some.value) c.in-Some.ensures.value c.remove.new.self.entries (ap (λ a. a.entries) c.in-Some.ensures.removes.gone);
-  capacity = search rules;
+  keeps = record { capacity = search rules; sound = c.in-Some.ensures.removes.sound };
   count = grind (arith, common_steps);
 }
