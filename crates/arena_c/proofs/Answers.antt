@@ -1,17 +1,11 @@
 -- What the calls answer, from what was found in the arena.
 use Rattle.std.proofs.Common.{◌≡◌, ◌≢◌, ℕ, ℤ, Bool, true, List, [], ◌∷◌, length, Option, Some, None, is_some, Result, Ok, Err, IsSomeAnd, IfNone, OnSome, OnOk, ◌↔◌, refl, sym, ap, ◌∙◌, subst, arith, lit<}
-use Rattle.std.specs.Option.{option_map, option_and_then}
-use Rattle.std.specs.Ordering.{int_cmp, is_eq}
-use Rattle.std.specs.declared.cmp.Ordering.{Ordering}
-use Rattle.sorted_arena.specs.Chain.{Entry as Listed, IsDistinct, last_pointer, item_of}
-use Rattle.sorted_arena.specs.Sorted.{first_where, key_of, last_item}
+use Rattle.std.specs.{Option.option_map, Option.option_and_then, Ordering.int_cmp, Ordering.is_eq, declared.cmp.Ordering.Ordering, List.Contains}
+use Rattle.sorted_arena.specs.{Chain.Entry as Listed, Chain.IsDistinct, Chain.last_pointer, Chain.item_of, ReallocationError.ReallocationError}
+use Rattle.sorted_arena.specs.{Sorted.first_where, Sorted.key_of, Sorted.last_item, declared.error.UniqueInsertionError.UniqueInsertionError}
 use Rattle.sorted_arena.proofs.CallerLemmas.{last-named, last-none}
-use Rattle.arena_c.specs.declared.entry.Entry.{Entry}
-use Rattle.arena_c.specs.Shown.{Arena, entry_found}
-use Rattle.std.specs.List.{Contains}
-use Rattle.sorted_arena.specs.declared.error.UniqueInsertionError.{UniqueInsertionError}
+use Rattle.arena_c.specs.{declared.entry.Entry.Entry, Shown.Arena, Shown.entry_found}
 use Rattle.sorted_arena.specs.declared.error.UniqueInsertionError.TheVariants.{EqualKey, BeyondMaxCapacity, AllocError}
-use Rattle.sorted_arena.specs.ReallocationError.{ReallocationError}
 use Rattle.sorted_arena.specs.ReallocationError.TheVariants.{BeyondMaxCapacity as Beyond, AllocError as NoMemory}
 use Rattle.arena_c.specs.Status.{ok, full, no_memory, closed, out_of_order}
 use Rattle.arena_c.specs.Answer.{found_status, found_or, look_status, Becomes, Looks, Changes, status_of_reservation}

@@ -3,13 +3,11 @@ use Rattle.std.proofs.Common.{◌≡◌, ℕ, zero, suc, ◌+◌, ◌<◌, ◌�
 use native.Mathlib.Numerals.{unary_clauses}
 use Rattle.std.proofs.lemmas.{Grind.common_steps, List.map-append}
 use Rattle.std.specs.{Cmp.int_cmp_total, Option.option_map, Option.option_map_or, Ordering.is_gt, Ordering.int_cmp, List.zip}
-use Rattle.sorted_arena.specs.Chain.{Entry, IsDistinct, item_of, first_pointer, from_index}
-use Rattle.sorted_arena.specs.Gap.{first_of, last_of}
+use Rattle.sorted_arena.specs.{Chain.Entry, Chain.IsDistinct, Chain.item_of, Chain.first_pointer, Chain.from_index, Gap.first_of, Gap.last_of}
 use Rattle.sorted_arena.specs.Sorted.{Inserts, next_of, pointer_of, first_item, first_item_until, behind_first, entries_until, last_item, item_of as pair_in}
-use Rattle.arena_c.specs.declared.entry.Entry.{Entry as Shown}
+use Rattle.arena_c.specs.{declared.entry.Entry.Entry as Shown, Batch.first_fall}
 use Rattle.arena_c.specs.Shown.{Arena, most_entries, entry_at, entry_found, shown_entry, numbers_of}
-use Rattle.arena_c.specs.Batch.{first_fall}
-use Rattle.sorted_arena.proofs.CallerLemmas.{first-named, next-here, found-here, appended}
+use Rattle.sorted_arena.proofs.CallerLemmas.{first-named, next-here, found-here, appended, last-item, first-pointer}
 
 -- a key that is not smaller than the one before it, and then the rest
 pub fall-step : (before : Option ℤ) (k : ℤ) (ks : List ℤ) (i : ℕ) → first_fall before (k ∷ ks) i ≡ None
@@ -75,14 +73,9 @@ module _ {X : Type 0} where
   take-drop (x ∷ xs) (suc n) = ap (λ zs. x ∷ zs) (take-drop xs n)
 
 module _ {K V : Type 0} where
-  last-item : (es : List (Entry (K × V))) → last_item es ≡ last_of None (map pair_in es)
-  last-item [] = refl
-  last-item (e ∷ []) = refl
-  last-item (e ∷ f ∷ es) = last-item (f ∷ es)
-
   -- the last entry of a list that ends so
   pub last-end : (es : List (Entry (K × V))) (xs : List (K × V)) (x : K × V) → map pair_in es ≡ xs ++ x ∷ [] → last_item es ≡ Some x
-  last-end es xs x is = last-item es ∙ ap (last_of None) is ∙ last-append None xs x
+  last-end es xs x is = sym (last-item es) ∙ ap (last_of None) is ∙ last-append None xs x
 
   -- the entries from an index on are the back of the list
   from-cut : (es : List (Entry (K × V))) (i : ℕ) → (front : List (Entry (K × V))) × (es ≡ front ++ from_index es i)
@@ -97,10 +90,6 @@ module _ {K V : Type 0} where
   run-cut es i n =
       let cut = from-cut es i in
       (cut.0 ++ take n (from_index es i), cut.1 ∙ ap (λ zs. cut.0 ++ zs) (take-drop (from_index es i) n) ∙ sym (append_assoc cut.0 (take n (from_index es i)) (drop n (from_index es i))))
-
-  first-pointer : (es : List (Entry (K × V))) → option_map pointer_of (first_of es) ≡ first_pointer es
-  first-pointer [] = refl
-  first-pointer (e ∷ es) = refl
 
 -- A run of entries from an index on, in which n entries were passed.
 module _ (a : Arena) (distinct : IsDistinct a.entries) (i n : ℕ) where
@@ -127,7 +116,7 @@ module _ (a : Arena) (distinct : IsDistinct a.entries) (i n : ℕ) where
             entry = x;
             cut = is ∙ ap (λ zs. x ∷ zs) (sym behind);
             shown = same;
-            next = ap (λ (s : Shown). next_of a.entries (numbers_of s.pointer)) same ∙ next-here a.entries distinct whole.0 x back cut ∙ first-pointer back ∙ ap first_pointer (sym behind);
+            next = ap (λ (s : Shown). next_of a.entries (numbers_of s.pointer)) same ∙ next-here a.entries distinct whole.0 x back cut ∙ sym (first-pointer back) ∙ ap first_pointer (sym behind);
           }
 
   pub run-done : entry_found a (first_pointer (drop n run)) ≡ None → drop n run ≡ []

@@ -1,12 +1,9 @@
 -- What a call leaves and answers.
 use Rattle.std.specs.Prelude.{◌≡◌, ◌≢◌, ◌↔◌, ℕ, ℤ, List, Option, Some, None, is_some, IsSomeAnd, if◌then◌else◌, Result, Ok, Err}
-use Rattle.std.specs.List.{Contains}
-use Rattle.std.specs.Option.{option_map_or, option_and_then}
-use Rattle.sorted_arena.specs.ReallocationError.{ReallocationError}
-use Rattle.sorted_arena.specs.ReallocationError.TheVariants.{BeyondMaxCapacity, AllocError}
+use Rattle.std.specs.{List.Contains, Option.option_map_or, Option.option_and_then}
+use Rattle.sorted_arena.specs.ReallocationError.{ReallocationError, TheVariants.BeyondMaxCapacity, TheVariants.AllocError}
 use Rattle.sorted_arena.specs.Sorted.{count, Updates}
-use Rattle.arena_c.specs.declared.entry.Pointer.{Pointer}
-use Rattle.arena_c.specs.Shown.{Arena, numbers_of}
+use Rattle.arena_c.specs.{declared.entry.Pointer.Pointer, Shown.Arena, Shown.numbers_of}
 use Rattle.arena_c.specs.Status.{ok, not_found, full, no_memory, closed}
 
 module _ {X : Type 0} where

@@ -1,11 +1,8 @@
 -- Calls on many entries.
 use Rattle.std.specs.Prelude.{◌≡◌, ℕ, ◌+◌, ℤ, ◌++◌, min, false, if◌then◌else◌, List, [], ◌∷◌, length, map, take, drop, Option, Some, None}
-use Rattle.std.specs.Ordering.{int_cmp, is_gt}
-use Rattle.std.specs.{List.zip, Option.option_map, Option.option_map_or}
-use Rattle.sorted_arena.specs.Chain.{Entry as Listed}
-use Rattle.sorted_arena.specs.Sorted.{item_of, last_item}
-use Rattle.arena_c.specs.declared.entry.Entry.{Entry}
-use Rattle.arena_c.specs.Shown.{Arena, shown_entry}
+use Rattle.std.specs.{Ordering.int_cmp, Ordering.is_gt, List.zip, Option.option_map, Option.option_map_or}
+use Rattle.sorted_arena.specs.{Chain.Entry as Listed, Sorted.item_of, Sorted.last_item}
+use Rattle.arena_c.specs.{declared.entry.Entry.Entry, Shown.Arena, Shown.shown_entry}
 
 -- the index of the first key that is smaller than the one before it; one may stand before the first key, whose index is `at`
 abbrev pub first_fall : Option ℤ → List ℤ → ℕ → Option ℕ

@@ -1,10 +1,8 @@
 -- Arenas, pointers and entries as C sees them.
 use Rattle.std.specs.Prelude.{ℕ, ℤ, List, [], ◌∷◌, Option}
 use Rattle.std.specs.Option.{option_map, option_and_then}
-use Rattle.sorted_arena.specs.Chain.{Entry as Listed}
-use Rattle.sorted_arena.specs.Sorted.{Sorted, pair_of}
-use Rattle.arena_c.specs.declared.entry.Pointer.{Pointer}
-use Rattle.arena_c.specs.declared.entry.Entry.{Entry}
+use Rattle.sorted_arena.specs.{Chain.Entry as Listed, Sorted.Sorted, Sorted.pair_of}
+use Rattle.arena_c.specs.declared.entry.{Pointer.Pointer, Entry.Entry}
 -- how many entries there can be, and the greatest generation of a pointer
 pub use Rattle.sorted_arena.specs.PlainPointer.{most_entries, greatest_generation}
 

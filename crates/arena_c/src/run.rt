@@ -41,8 +41,6 @@ impl Content {
     pub fn last_key(&self) -> Option<i64>
         ensures { result ≡ option_map (λ pair. pair.0) (last_item self.now.entries) }
     {
-        // For the prover: the arena is sound.
-        let _ = self.pairs.len();
         let last = self.pairs.last()?;
         self.pairs.key(last).copied()
     }
@@ -55,8 +53,6 @@ impl Content {
         ensures { AppendsPairs keys.now values.now self.old self.new }
     {
         for (i, key) in keys.iter().enumerate() {
-            // For the prover: the arena is sound.
-            let _ = self.pairs.len();
             match self.pairs.insert(*key, values[i]) {
                 Ok(_) => {}
                 // there is room

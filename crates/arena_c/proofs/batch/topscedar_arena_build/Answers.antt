@@ -2,10 +2,8 @@ use Rattle.std.proofs.Common.{◌∙◌, ◌++◌, ◌∷◌, [], sym, ap, subst
 use Rattle.std.proofs.lemmas.Grind.{common_steps}
 use Rattle.std.specs.List.{Contains, zip}
 use Rattle.sorted_arena.specs.Sorted.{item_of}
-use Rattle.arena_c.specs.{Shown.Arena, Batch.AppendsPairs}
-use Rattle.arena_c.specs.Status.{ok, full, no_memory, closed, out_of_order}
-use Rattle.arena_c.proofs.Answers.{becomes, known-reservation, reserved}
-use Rattle.arena_c.proofs.Runs.{zip-shorter}
+use Rattle.arena_c.specs.{Shown.Arena, Batch.AppendsPairs, Status.ok, Status.full, Status.no_memory, Status.closed, Status.out_of_order}
+use Rattle.arena_c.proofs.{Answers.becomes, Answers.known-reservation, Answers.reserved, Runs.zip-shorter}
 use Rattle.arena_c.proofs.batch.topscedar_arena_build.Goals as goal
 
 pub returns-in_default-clause-builds : goal.returns-in_default-clause-builds

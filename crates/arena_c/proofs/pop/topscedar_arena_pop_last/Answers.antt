@@ -1,6 +1,5 @@
 use Rattle.std.proofs.Common.{◌≡◌, ◌∙◌, ap, subst, OnSome, IfNone}
-use Rattle.sorted_arena.specs.Chain.{IsDistinct, last_pointer}
-use Rattle.sorted_arena.specs.Sorted.{with_left, before_last, last_item}
+use Rattle.sorted_arena.specs.{Chain.IsDistinct, Chain.last_pointer, Sorted.with_left, Sorted.before_last, Sorted.last_item}
 use Rattle.arena_c.specs.Shown.{Arena, entry_found, greatest_generation}
 use Rattle.arena_c.proofs.Answers.{changes, found-at, popped-last}
 use Rattle.arena_c.proofs.pop.topscedar_arena_pop_last.Goals as goal

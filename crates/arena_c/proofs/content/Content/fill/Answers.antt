@@ -1,9 +1,7 @@
 use Rattle.std.proofs.Common.{◌∙◌, ◌+◌, refl, sym, ap, subst, drop, arith}
-use Rattle.sorted_arena.specs.Chain.{IsDistinct, first_pointer, from_index}
-use Rattle.sorted_arena.specs.Sorted.{next_of}
+use Rattle.sorted_arena.specs.{Chain.IsDistinct, Chain.first_pointer, Chain.from_index, Sorted.next_of}
 use Rattle.arena_c.specs.Shown.{Arena, entry_found, shown_entry}
-use Rattle.arena_c.proofs.Answers.{own-numbers}
-use Rattle.arena_c.proofs.Runs.{drop-none, drop-some, run-done, run-first, run-step, written-step}
+use Rattle.arena_c.proofs.{Answers.own-numbers, Runs.drop-none, Runs.drop-some, Runs.run-done, Runs.run-first, Runs.run-step, Runs.written-step}
 use Rattle.arena_c.proofs.content.Content.fill.Goals as goal
 use Rattle.arena_c.proofs.content.Content.fill.Goals.{After-len}
 

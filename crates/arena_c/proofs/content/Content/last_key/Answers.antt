@@ -7,5 +7,5 @@ use Rattle.arena_c.proofs.content.Content.last_key.Goals as goal
 
 pub returns : goal.returns
 returns c =
-    let named = (last-named c.self.inside.pairs.entries c.len.ensures.sound.distinct c.in_ok-last.last (sym c.in_ok-last.ensures.value)).0 in
+    let named = (last-named c.self.inside.pairs.entries c.in_ok-last.ensures.sound.distinct c.in_ok-last.last (sym c.in_ok-last.ensures.value)).0 in
     c.copied.ensures ∙ c.key.ensures ∙ ap (option_map (λ (e : ℤ × ℕ). e.0)) named ∙ ap (λ (a : Arena). option_map (λ (e : ℤ × ℕ). e.0) (last_item a.entries)) c.self.view_is

@@ -1,10 +1,8 @@
 use Rattle.std.proofs.Common.{◌≡◌, ◌∙◌, ◌+◌, ◌++◌, ◌∷◌, [], refl, sym, ap, Some, List, ℤ, ℕ, take, drop, append_assoc, arith, w64, to_z, of_z}
 use Rattle.std.specs.Ordering.{int_cmp}
-use Rattle.sorted_arena.specs.Chain.{Entry, first_pointer}
-use Rattle.sorted_arena.specs.Sorted.{behind_first, entries_until, first_item_until}
+use Rattle.sorted_arena.specs.{Chain.Entry, Chain.first_pointer, Sorted.behind_first, Sorted.entries_until, Sorted.first_item_until}
 use Rattle.arena_c.specs.Shown.{Arena, entry_found, shown_entry}
-use Rattle.arena_c.proofs.Answers.{found-at}
-use Rattle.arena_c.proofs.Runs.{drop-some, drop-step, take-step, pop-step, written-step}
+use Rattle.arena_c.proofs.{Answers.found-at, Runs.drop-some, Runs.drop-step, Runs.take-step, Runs.pop-step, Runs.written-step}
 use Rattle.arena_c.proofs.content.Content.pop_until.Goals as goal
 
 pub loop-i-preserved : goal.loop-i-preserved
