@@ -1,5 +1,5 @@
 -- The jobs of an agenda and the entries of its arena: what a ticket names, and what a removal leaves.
-use Rattle.std.proofs.Common.{◌≡◌, ℕ, ◌≤◌, List, [], ◌∷◌, map, Option, Some, None, IsSome, IfNone, OnSome, is_some, refl, sym, ap, ◌+◌, subst, ◌∙◌, arith, inl, inr, true, false, if◌then◌else◌}
+use Rattle.std.proofs.Common.{◌≡◌, ℕ, ◌≤◌, length, List, [], ◌∷◌, map, Option, Some, None, IsSome, IfNone, OnSome, is_some, refl, sym, ap, ◌+◌, subst, ◌∙◌, arith, inl, inr, true, false, if◌then◌else◌}
 use Rattle.std.proofs.{lemmas.List.Elements.All-from_recursion, lemmas.List.Elements.recursion_from_All, lemmas.Bool.Decides.eqb_tells}
 use Rattle.std.proofs.{lemmas.Grind.common_steps, lemmas.List.length-map}
 use Rattle.std.specs.List.{All, AllByRecursion}
@@ -7,7 +7,7 @@ use Rattle.triple_ord.specs.PlainArena.{limit_of}
 use Rattle.triple_ord.specs.Chain.{Entry, removed, IsSound as IsSoundChain, IsDistinct as AreDistinct, entry_at, item_of, without as without_index}
 use Rattle.triple_ord.proofs.ChainLemmas.{entry_at-absent}
 use Rattle.triple_ord.specs.Tree.{Tree}
-use Rattle.agenda.specs.Agenda.{greatest_generation, Scheduled, Agenda, most_entries, count, Updates, with_left, is_named_by, job_of, without, IsInOrder, IsDistinct, IsSound}
+use Rattle.agenda.specs.Agenda.{greatest_generation, Scheduled, Agenda, most_entries, count, HasRoomFor, Updates, with_left, is_named_by, job_of, without, IsInOrder, IsDistinct, IsSound}
 use Rattle.agenda.specs.Tickets.{IsStep}
 use Rattle.agenda.proofs.Steps.{step-stays, step-leaves}
 use Rattle.agenda.specs.Layout.{scheduled, agenda_of, IsArenaOfJobs}
@@ -95,6 +95,10 @@ module _ {J : Type 0} where
       pub count-removed : count (agenda_of old) ≡ count (agenda_of new) + 1
       count-removed =
           omega (arith, ap count agenda-removed, length-without (agenda_of old).jobs t (subst (λ (o : Option (ℕ × J)). IsSome o) (sym (job_of-found old.list.entries distinct t)) there))
+
+      pub room-removed : length old.list.entries ≤ old.list.capacity → HasRoomFor 1 (agenda_of new)
+      room-removed within =
+          omega (arith, within, count-removed, length-map old.list.entries (scheduled {J = J}), ap (λ (a : Agenda J). a.capacity) agenda-removed)
 
     -- what tickets name afterwards, whether the ticket had an entry or none
     pub updates-removed : (o : Option (ℕ × J)) → o ≡ item_of old.list.entries t → OnSome o IsTaken → IfNone o (new ≡ old)

@@ -4,7 +4,7 @@ ghost use Rattle.std.specs.Prelude.{◌≡◌, ◌==◌, ◌↔◌, ◌+◌, ℕ
 ghost use Rattle.std.specs.Prelude.{IfOk, OnOk, IfErr, IfSome, IfNone};
 ghost use Rattle.std.specs.{Prelude.is_some, Option.option_map, Bool.OnTrue, Bool.OnFalse};
 ghost use Rattle.agenda.specs.Agenda.{most_entries, count, job_of, without, first_deadline, first_due, behind_first};
-ghost use Rattle.agenda.specs.Agenda.{IsSound, HasRoomFor, Schedules, Reschedules, MovesDeadline};
+ghost use Rattle.agenda.specs.Agenda.{IsSound, IsInOrder, HasRoomFor, Schedules, Reschedules, MovesDeadline};
 ghost use Rattle.agenda.specs.Agenda.{Updates, Leaves, Moves};
 ghost use Rattle.agenda.specs.Layout.{scheduled};
 ghost use Rattle.agenda.specs.Tickets.{HasNoLaterTicket};
@@ -88,7 +88,8 @@ impl<J, A: Allocator> Agenda<J, A> {
 
     // The entries of the ordered arena.
     pub(crate) fn entries(&self) -> Iter<'_, P0, OrdPair<u64, J>, A>
-        ensures { map scheduled result ≡ self.now.jobs }
+        ensures value { map scheduled result ≡ self.now.jobs }
+        ensures in_order { IsInOrder self.now.jobs }
     {
         self.jobs.iter_ordered()
     }
@@ -111,8 +112,6 @@ impl<J, A: Allocator> Agenda<J, A> {
             self.old result self.new }
         ensures updates { Updates self.old self.new ticket None }
     {
-        // For the prover: the list is sound.
-        let _ = self.jobs.len();
         let pair = self.jobs.remove(ticket.pointer).allow()?;
         Some(pair.into_k_v())
     }
@@ -178,8 +177,6 @@ impl<J: Drop, A: Allocator> Agenda<J, A> {
         ensures none { OnFalse result (self.new ≡ self.old) }
         ensures generation { self.new.generation ≡ self.old.generation }
     {
-        // For the prover: the list is sound.
-        let _ = self.jobs.len();
         self.jobs.rekey_pair(ticket.pointer, deadline).is_ok()
     }
 
@@ -193,8 +190,6 @@ impl<J: Drop, A: Allocator> Agenda<J, A> {
         ensures moves { IfSome result (λ new. Moves self.old self.new ticket new deadline) }
         ensures none { IfNone result (self.new ≡ self.old) }
     {
-        // For the prover: the list is sound.
-        let _ = self.jobs.len();
         let moved = self.jobs.remove(ticket.pointer).allow()?;
         let (_, job) = moved.into_k_v();
         // the job that was taken out has left its slot

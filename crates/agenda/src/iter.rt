@@ -2,7 +2,7 @@
 
 ghost use Rattle.std.specs.Prelude.{◌≡◌};
 ghost use Rattle.std.specs.Iterator.{YieldsFirstBy, item_count};
-ghost use Rattle.agenda.specs.Agenda.{shown_job};
+ghost use Rattle.agenda.specs.Agenda.{shown_job, IsInOrder};
 ghost use Rattle.triple_ord.specs.Walk.{IsExactHint};
 
 use crate::agenda::Agenda;
@@ -30,7 +30,8 @@ impl<'a, J, A: Allocator> Model for Iter<'a, J, A> {
 impl<J, A: Allocator> Agenda<J, A> {
     /// Returns an iterator over all jobs, in the order in which they leave.
     pub fn iter(&self) -> Iter<'_, J, A>
-        ensures { result ≡ self.now.jobs }
+        ensures value { result ≡ self.now.jobs }
+        ensures in_order { IsInOrder self.now.jobs }
     {
         Iter {
             entries: self.entries(),

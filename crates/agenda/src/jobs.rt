@@ -25,8 +25,6 @@ fn kind_behind<'k, J, A: Allocator>(
     ensures aim { aim_of (λ i. i) (kind_now result) ≡ behind_key deadline.now }
     ensures sound { IsSound most_entries greatest_generation jobs.now.list }
 {
-    // For the prover: the list is sound.
-    let _ = jobs.len();
     match jobs.last() {
         Some(last) => OrdInsertKind::NonhereditaryLinear {
             p_init: last.inx(),
@@ -57,8 +55,6 @@ pub(crate) fn put<J: Drop, A: Allocator>(
         Ok(entry) => {
             let p = entry.ptr().any();
             let _ = entry.insert(OrdPair::new(deadline, job));
-            // For the prover: with the new job the list is sound, so there was room.
-            let _ = jobs.len();
             Ok(p)
         }
         Err(OrdInsertionError::BeyondMaxCapacity) => {

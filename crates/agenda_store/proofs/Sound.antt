@@ -1,16 +1,16 @@
 -- What holds of a store after a call on an open one.
-use Rattle.std.proofs.Common.{◌≡◌, IsTrue, Bool, true, false, ℕ, List, [], ◌∷◌, ◌++◌, Ok, Err, sym, subst, arith}
+use Rattle.std.proofs.Common.{◌≡◌, IsTrue, Bool, true, ℕ, List, [], ◌∷◌, ◌++◌, Ok, sym, subst, arith}
 use Rattle.std.proofs.lemmas.Grind.{common_steps}
-use Rattle.record_log.specs.Device.{LeavesOnly, nothing}
+use Rattle.record_log.specs.Device.{LeavesOnly}
 use Rattle.record_log.specs.Format.{HoldsEither}
 use Rattle.record_log.specs.Log.{Keeps, device_of}
-use Rattle.record_log.specs.{declared.log.Log.Log, declared.error.LogError.LogError}
+use Rattle.record_log.specs.declared.log.Log.{Log}
 use Rattle.agenda_store.specs.Plan.{Plan}
 use Rattle.agenda_store.specs.Planner.{plan_of, HasPlan}
 use Rattle.agenda_store.specs.Replay.{IsReplayed, Replays, StandsForEither}
 use Rattle.agenda_store.specs.Store.{IsSound, ChangesPlan}
 use Rattle.agenda_store.specs.StoreLayout.{store_of, IsStore}
-use Rattle.agenda_store.specs.{declared.planner.Planner.Planner, declared.error.StoreError.StoreError, declared.error.StoreError.TheVariants.Log as FromLog}
+use Rattle.agenda_store.specs.declared.planner.Planner.{Planner}
 use Rattle.agenda_store.proofs.Kept.{either_stands}
 use Rattle.agenda_store.proofs.Replays.{one_more}
 
@@ -53,19 +53,6 @@ module _ {D : Type 0} {is_modelled : Bool} {seen : D → List ℕ} {may_leave : 
           err = tt;
           any_moment = leaves;
         }
-
-      -- The log failed, and the store is closed.
-      pub fails : {after : Planner} {log_after : Log D} {moment : D → ℕ} {left_since : D → ℕ → List ℕ → Type 0} {T : Type 0} {e : StoreError} {failure : LogError}
-          → e ≡ FromLog failure → LeavesEither moment left_since plan (device_of log_after)
-          → ChangesPlan is_modelled seen may_leave moment left_since (store_of planner log is_open) (store_of after log_after false) {T = T} (Err e) plan
-      fails e_is leaves = rw e_is (record {
-        sound = λ modelled open_now. nothing open_now;
-        is_open = tt;
-        closed = grind (arith, common_steps, was_open);
-        plan_is = tt;
-        err = λ open_now. nothing open_now;
-        any_moment = leaves;
-      })
 
       module _ {bytes : List ℕ} (replays : Replays bytes (plan_of planner) plan) where
         -- The record is on the disk.

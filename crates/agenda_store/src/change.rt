@@ -213,8 +213,6 @@ pub(crate) fn snapshot_of(alloc: Global, planner: &Planner) -> Result<Vec<Vec<u8
     ensures replayed { IfOk result (λ records. IsReplayed (contents records.items) (plan_of planner.now)) }
     ensures fit { IfOk result (λ records. AllByRecursion Fits (contents records.items)) }
 {
-    // For the prover: the plan is lawful.
-    let _ = planner.len();
     let mut records = Vec::new(alloc);
     records.push(count_record(alloc, planner.next)?)?;
     for (_, deadline, entry) in planner.agenda.iter() {

@@ -18,8 +18,6 @@ pub fn run_due(rounds: &mut Rounds, now: u64, period: u64) -> Option<(u64, Ticke
     ensures count { count rounds.new ≡ count rounds.old }
     ensures none { IfNone result (rounds.new ≡ rounds.old) }
 {
-    // For the prover: there is room for all jobs.
-    let _ = rounds.len();
     let (deadline, job) = rounds.pop_due(now)?;
     match rounds.schedule(deadline.saturating_add(period), job) {
         Ok(ticket) => Some((job, ticket)),

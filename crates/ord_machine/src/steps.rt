@@ -126,8 +126,6 @@ fn entry<P: BasePtr, T: SimpleOrdItem + Drop, A: Allocator>(
         P.numbers
         arena.old item result arena.new }
 {
-    // For the prover: the arena's pointers are distinct.
-    let _ = arena.len();
     match arena.entry_insert_by_growth(growth, kind.as_ref()) {
         Ok(entry) => {
             let shown = entry.ptr();

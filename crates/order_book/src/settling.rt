@@ -111,8 +111,6 @@ pub(crate) fn settle_anew<A: Allocator, B: Allocator>(
 {
     let price = order.kind.limit(order.side);
     let left = other.offer(price, order.quantity, trades)?;
-    // For the prover: there is room for all orders of the side.
-    let _ = own.len();
     let _ = own.remove(pointer);
     other.take(order.quantity - left);
     match rest(own, price, rest_of(order, left), order.tag) {

@@ -118,7 +118,8 @@ impl<A: Allocator> OrderQueue<A> {
 
     /// Returns the order that trades first, in O(1).
     pub fn first(&self) -> Option<Order>
-        ensures { result ≡ first_of self.now.orders }
+        ensures value { result ≡ first_of self.now.orders }
+        ensures left { IfSome result (λ order. 0 < order.quantity) }
     {
         let pointer = self.orders.first()?;
         let (rank, lot) = self.orders.get(pointer)?;
@@ -172,6 +173,7 @@ impl<A: Allocator> OrderQueue<A> {
         ensures changes { ChangesOrder self.old pointer None result self.new }
         ensures count { OnSome result (length self.old.orders ≡ length self.new.orders + 1) }
         ensures gone { OnSome result (self.new ≡ with_left self.old pointer) }
+        ensures room { OnSome result (HasRoomFor 1 self.new) }
     {
         let (rank, lot) = self.orders.remove(pointer)?;
         Some(order_at(self.side, pointer, rank, lot))
@@ -308,8 +310,6 @@ impl<A: Allocator> OrderQueue<A> {
         ensures rest { taken quantity self.old ≡ taken (quantity - result) self.new }
         ensures none { result ≡ 0 → (self.old.orders ≡ []) × (self.new ≡ self.old) }
     {
-        // For the prover: of each order something is left.
-        let _ = self.len();
         let Some(first) = self.first() else {
             return 0;
         };

@@ -1,5 +1,5 @@
 -- What a call makes of a sorted arena, by its result.
-use Rattle.std.specs.Prelude.{◌≡◌, ◌+◌, ◌≤◌, ℕ, List, ◌++◌, map, length, Option, Some, Result, Err, Vec, vec_len}
+use Rattle.std.specs.Prelude.{◌≡◌, ◌+◌, ◌≤◌, ◌<◌, ℕ, List, ◌++◌, map, length, Option, Some, Result, Err, Vec, vec_len}
 use Rattle.std.specs.Prelude.{IsOk, IfOk, IfErr, IfNone, OnOk, OnErr, OnSome}
 use Rattle.std.specs.{Option.option_map, Vec.vec_capacity, declared.cmp.Ordering.Ordering}
 use Rattle.triple_ord.specs.Chain.{Entry}
@@ -37,13 +37,14 @@ pub record ChangesKey {K V E : Type 0} (cmp : K → K → Ordering) (most : ℕ)
   pub sound : IsSound cmp most new
   pub count : count new ≡ count old
 
--- A call that removes an entry; `left` is the arena without it. On `None` the arena is unchanged.
+-- A call that removes an entry, which leaves room for another; `left` is the arena without it. On `None` the arena is unchanged.
 pub record RemovesEntry {K V : Type 0} (cmp : K → K → Ordering) (most : ℕ) (old left : Sorted K V)
     (result : Option (K × V)) (new : Sorted K V) : Type 0 where
   pub gone : OnSome result (new ≡ left)
   pub none : IfNone result (new ≡ old)
   pub sound : IsSound cmp most new
   pub count : OnSome result (count old ≡ count new + 1)
+  pub room : OnSome result (length new.entries < new.capacity)
 
 -- A call that removes all entries but these, and returns how many it removed.
 pub record RemovesEntries {K V : Type 0} (greatest : Option ℕ) (old : Sorted K V) (left : List (Entry (K × V)))

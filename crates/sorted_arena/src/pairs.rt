@@ -29,7 +29,8 @@ fn kind_behind<'k, K: Ord, V, P: BasePtr, A: Allocator>(
     pairs: &Pairs<K, V, P, A>,
     k: &'k K,
 ) -> OrdInsertKind<P, &'k K>
-    ensures { aim_of P.Inx.number (kind_now result) ≡ behind_key k.now }
+    ensures aim { aim_of P.Inx.number (kind_now result) ≡ behind_key k.now }
+    ensures sound { IsSoundChain P.Inx.most P.Gen.greatest pairs.now.list }
 {
     match pairs.last() {
         Some(last) => OrdInsertKind::NonhereditaryLinear {
@@ -58,15 +59,11 @@ pub(crate) fn put<K: Ord + Drop, V: Drop, P: BasePtr, A: Allocator>(
     ensures sound { IsSoundChain P.Inx.most P.Gen.greatest pairs.old.list }
     ensures still_sound { IsSoundChain P.Inx.most P.Gen.greatest pairs.new.list }
 {
-    // For the prover: the list is sound.
-    let _ = pairs.len();
     let kind = kind_behind(pairs, &k);
     match pairs.entry_insert(kind) {
         Ok(entry) => {
             let p = entry.ptr().any();
             let _ = entry.insert(OrdPair::new(k, v));
-            // For the prover: the list is still sound.
-            let _ = pairs.len();
             Ok(p)
         }
         Err(OrdInsertionError::BeyondMaxCapacity) => {

@@ -240,11 +240,7 @@ impl<V: TimelineValue, A: Allocator> Timeline<V, A> {
         }
         let spare = make_room(&mut self.changes, until)?;
         match paint(&mut self.changes, from, until, value, spare) {
-            Ok(()) => {
-                // For the prover: the timeline is lawful.
-                let _ = self.len();
-                Ok(())
-            }
+            Ok(()) => Ok(()),
             Err(_) => Err(ReallocationError::AllocError),
         }
     }

@@ -49,8 +49,6 @@ pub fn set_reserved<A: Allocator>(rates: &mut Timeline<u64, A>, from: u64, rate:
     requires { HasRoomFor 1 rates.old }
     ensures { (t : ℕ) → from ≤ t → value_at rates.new.changes t ≡ Some rate }
 {
-    // with its length a timeline tells what holds of it
-    let _ = rates.len();
     match rates.set_from(from, rate) {
         Ok(()) => {}
         Err(ReallocationError::BeyondMaxCapacity) => unreachable!(),

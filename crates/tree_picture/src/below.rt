@@ -41,8 +41,6 @@ pub fn branch_at<P: BasePtr, T, A: Allocator>(
         ≡ node (part_below arena.now.shape (option_map P.Inx.number b.lesser)) (P.Inx.number i)
         b.rank (part_below arena.now.shape (option_map P.Inx.number b.greater))) }
 {
-    // For the prover: the list and the shape are sound.
-    let _ = arena.len();
     let entry = arena.get_inx_node(i)?;
     let node = entry.1;
     Some(Branch {

@@ -1,8 +1,8 @@
 -- An ordered arena as its callers see it: what pointers find in it, and its entries in order. A pointer is the pair of its index and its
 -- generation.
-use Rattle.std.specs.{Prelude.◌≡◌, Prelude.◌≢◌, Prelude.ℕ, Prelude.◌+◌, Prelude.List, Prelude.max, Prelude.nat_lt, Prelude.if◌then◌else◌, Prelude.Option, Prelude.None, Prelude.IfSome, Prelude.IsSomeAnd, Prelude.length, Prelude.map, Prelude.slice_get, declared.cmp.Ordering.Ordering, declared.cmp.Ordering.TheVariants.Equal, Option.option_map}
+use Rattle.std.specs.{Prelude.◌≡◌, Prelude.◌≢◌, Prelude.ℕ, Prelude.◌+◌, Prelude.List, Prelude.max, Prelude.nat_lt, Prelude.if◌then◌else◌, Prelude.Option, Prelude.None, Prelude.IfSome, Prelude.OnSome, Prelude.IsSomeAnd, Prelude.length, Prelude.map, Prelude.slice_get, declared.cmp.Ordering.Ordering, declared.cmp.Ordering.TheVariants.Equal, Option.option_map}
 use Rattle.ord_tree.specs.{PlainArena.doubled_capacity, Chain.Chain, Chain.chain_limit, Chain.with_capacity, Chain.entry_at as entry_among}
-use Rattle.ord_tree.specs.{Chain.item_of as item_among, Tree.Tree}
+use Rattle.ord_tree.specs.{Chain.IsSound, Chain.item_of as item_among, Tree.Tree, Tree.IsShrunk}
 use Rattle.triple_ord.specs.Search.{pointer, FindsKey, FindsSimilar}
 
 module _ {T : Type 0} where
@@ -29,6 +29,11 @@ module _ {T : Type 0} where
   -- the list with room for so many entries in all: if its capacity is less, it grows at least as far as an insertion grows it
   abbrev pub with_room_for : ℕ → Chain T → ℕ → Chain T
   with_room_for most c needed = if nat_lt c.capacity needed then with_capacity c (max needed (doubled_capacity (chain_limit most c) c.capacity)) else c
+
+  -- What a call says that reads an arena: its answer, and what is true of the list of every arena.
+  pub record Reads (most : ℕ) (greatest : Option ℕ) (a : Tree T) (Answer : Type 0) : Type 0 where
+    pub value : Answer
+    pub sound : IsSound most greatest a.list
 
   -- from old to new, p comes to find `found`, and every other pointer finds what it found before
   pub record Updates (old new : Tree T) (p : ℕ × ℕ) (found : Option T) : Type 0 where
@@ -60,6 +65,12 @@ module _ {T : Type 0} where
   pub record KeepsEntries (old new : Tree T) : Type 0 where
     pub found : FindSame old new
     pub count : count new ≡ count old
+
+  -- What a call does that takes an entry out, if `taken` is one: there is one entry fewer, and the shape shrinks.
+  pub record TakesEntry {R : Type 0} (most : ℕ) (greatest : Option ℕ) (taken : Option R) (old new : Tree T) : Type 0 where
+    pub sound : IsSound most greatest old.list
+    pub count : OnSome taken (count old ≡ count new + 1)
+    pub shape : OnSome taken (IsShrunk old.shape new.shape)
 
   -- no pointer finds anything
   abbrev pub FindsNothing : Tree T → Type 0

@@ -1,8 +1,9 @@
 -- The state of a descent from the root of a tree. No public clause cites this file.
+use Rattle.std.proofs.Props.{props}
 use Rattle.std.specs.{List.All, List.FoldsTo, Option.option_map, Ordering.ordering_then}
 use Rattle.std.specs.Prelude.{◌≡◌, ◌≢◌, ℕ, ◌+◌, ◌-◌, ◌^◌, ◌<◌, ◌≤◌, ◌⊎◌, List, ◌++◌, Option, Some, None, IsSome, IfSome, MatchOption, Contains, length, map}
 use Rattle.std.specs.declared.cmp.Ordering.{Ordering, TheVariants.Less, TheVariants.Equal, TheVariants.Greater}
-use Rattle.ord_tree.specs.{Chain.Entry, Chain.times, Chain.entry_at, Chain.link_at, Shape.Shape, Shape.node, Shape.root_of, Shape.walk, Shape.height, Tree.Tree}
+use Rattle.ord_tree.specs.{Chain.Entry, Chain.times, Chain.entry_at, Chain.link_at, Shape.Shape, Shape.missing, Shape.node, Shape.root_of, Shape.walk, Shape.height, Ranks.IsRankOver, Ranks.IsRanked, Tree.Tree, Tree.IsSoundTree}
 use Rattle.triple_ord.specs.{ClosureSearch.Shown, ClosureSearch.entries_of, ClosureSearch.where_equal, ClosureSearch.similar_of, Search.order_to, Search.pointer, Search.FindsSimilar, Gap.first_of, Gap.last_of, Node.IsPart}
 
 -- the entry at index i, with the roots of its sides
@@ -92,3 +93,14 @@ module _ {T : Type 0} where
   pub record HasEndedByKey {K : Type 0} (key : T → K) (cmp : K → K → Ordering) (t : Tree T) (k : K) (before : ℕ) (found : Option ((ℕ × ℕ) × Ordering)) (visits : ℕ) : Type 0 where
     pub similar : FindsSimilar key cmp t.list.entries k found (visits - before)
     pub few : visits ≤ before + height t.shape
+
+-- each of these is a proposition
+IsRankOver-prop : (k l r : ℕ) → IsProp (IsRankOver k l r)
+IsRankOver-prop k l r = hlevel props
+
+IsRanked-prop : (s : Shape) → IsProp (IsRanked s)
+IsRanked-prop missing = hlevel props
+IsRanked-prop (node l i k r) = hlevel (props, IsRankOver-prop, IsRanked-prop l, IsRanked-prop r)
+
+pub IsSoundTree-prop : {T : Type 0} (t : Tree T) → IsProp (IsSoundTree t)
+IsSoundTree-prop t = hlevel (props, IsRanked-prop)

@@ -1,7 +1,7 @@
 -- What contracts see of an entry of an insertion.
 use Rattle.std.specs.declared.{alloc.Allocator.Ghosts as AllocatorGhosts, cmp.PartialEq.Ghosts as PartialEqGhosts}
 use Rattle.std.specs.{Borrow.GName, Borrow.Fml, Borrow.RattleType, Borrow.MutBor, Borrow.RestsIfErr, Prelude.◌≡◌, Prelude.ℕ, Prelude.List, Prelude.Result, Prelude.IfOk, Prelude.IfErr, declared.cmp.Ordering.Ordering}
-use Rattle.ord_tree.specs.{BasePtr.Ghosts as PtrGhosts, BasePtrGen.Ghosts as PtrGenGhosts, BasePtrInx.Ghosts as PtrInxGhosts, Chain.Entry, Tree.Tree}
+use Rattle.ord_tree.specs.{BasePtr.Ghosts as PtrGhosts, BasePtrGen.Ghosts as PtrGenGhosts, BasePtrInx.Ghosts as PtrInxGhosts, Chain.Entry, Chain.IsDistinct, Tree.Tree}
 use Rattle.ord_tree.specs.Tree.{put_at}
 use Rattle.triple_ord.specs.{Arena.count, Arena.FindSame, Entry.IsEntryFor, Insertion.IsRefused, Place.aim_of}
 use Rattle.triple_ord.specs.{declared.error.OrdInsertionError.OrdInsertionError, declared.growth.Growth.Growth, declared.insert_kind.OrdInsertKind.OrdInsertKind}
@@ -41,6 +41,7 @@ module _ {P T A Inx Gen : Type 0}
     pub refused : IfErr result (IsRefused key cmp most growth (aim_of number kind) old)
     pub same_reference : IfOk result (λ e. entry_lender e ≡ lender)
     pub count : IfOk result (λ e. count (entry_arena e) ≡ count old)
+    pub distinct : IsDistinct old.list.entries
 
 -- if the call fails, the arena behind m is unchanged
 module _ (P T A Inx Gen : RattleType)

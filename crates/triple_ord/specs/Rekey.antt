@@ -1,6 +1,6 @@
 -- An entry that moves to the place of its key, with a new item or its own.
-use Rattle.std.specs.{Prelude.◌≡◌, Prelude.ℕ, Prelude.◌≤◌, Prelude.◌⊎◌, Prelude.None, Prelude.Result, Prelude.IfErr, Prelude.OnErr, declared.cmp.Ordering.Ordering}
-use Rattle.ord_tree.specs.{Chain.without, Tree.Tree, Tree.with_item, Move.IsRearranged}
+use Rattle.std.specs.{Prelude.◌≡◌, Prelude.ℕ, Prelude.◌≤◌, Prelude.◌⊎◌, Prelude.None, Prelude.Option, Prelude.Result, Prelude.IfErr, Prelude.OnErr, declared.cmp.Ordering.Ordering}
+use Rattle.ord_tree.specs.{Chain.IsSound, Chain.without, Tree.Tree, Tree.with_item, Move.IsRearranged}
 use Rattle.triple_ord.specs.{Arena.item_of, Arena.count, Gap.Gap, Gap.with_between, Gap.neighbour_count, Place.LiesBehind, Order.IsInOrder}
 
 -- The entry of p has the item, and is in a gap of the other entries that lies behind the item's key. Nothing else changes.
@@ -17,7 +17,8 @@ pub record RekeysCounted {T K : Type 0} (key : T → K) (cmp : K → K → Order
   pub seen : neighbour_count rekeys.gap ≤ c
 
 -- What a call does that moves the entry of p, or gives back what it was given if p names no entry. Nothing changes then.
-pub record MovesOrReturns {T A B : Type 0} (old : Tree T) (p : ℕ × ℕ) (given : B) (result : Result A B) (new : Tree T) : Type 0 where
+pub record MovesOrReturns {T A B : Type 0} (most : ℕ) (greatest : Option ℕ) (old : Tree T) (p : ℕ × ℕ) (given : B) (result : Result A B) (new : Tree T) : Type 0 where
+  pub sound : IsSound most greatest old.list
   pub stale : OnErr result (item_of old p ≡ None)
   pub back : IfErr result (λ back. back ≡ given)
   pub refused : OnErr result (new ≡ old)

@@ -3,7 +3,8 @@ ghost use Rattle.std.specs.Prelude.{◌≡◌, ◌==◌, length};
 ghost use Rattle.ord_tree.specs.Generation.{IsLawfulGeneration, overflows_after};
 ghost use Rattle.ord_tree.specs.Invalidation.{is_overflow};
 ghost use Rattle.ord_tree.specs.Chain.{raised, IsSound};
-ghost use Rattle.ord_tree.specs.Tree.{IsSoundTree};
+ghost use Rattle.ord_tree.specs.Tree.{IsSoundTree, IsChainOf};
+ghost use Rattle.triple_ord.specs.Arena.{Reads};
 
 mod access;
 mod append;
@@ -35,10 +36,11 @@ mod walk;
 mod write;
 
 use arena_base::{BasePtr, InvalidationOption};
+use chain_base::ChainArena;
 pub use drain::{CapacityDrain, OrderedDrain};
 pub use insert_entry::SimpleOrdArenaInsertEntry;
 pub use iter::Iter;
-use ord_tree::OrdTree;
+use ord_tree::{OrdTree, SimpleOrdArenaNode};
 pub use slot_drain::Drain;
 use std::alloc::{Allocator, Global};
 use std::marker::Model;
@@ -67,9 +69,9 @@ impl<P: BasePtr, T, A: Allocator> Model for SimpleOrdArena<P, T, A> {
 impl<P: BasePtr, T, A: Allocator> SimpleOrdArena<P, T, A> {
     /// Returns how many entries the arena holds without growing.
     pub fn capacity(&self) -> usize
-        ensures { result ≡ self.now.list.capacity }
+        ensures { Reads P.Inx.most P.Gen.greatest self.now (result ≡ self.now.list.capacity) }
     {
-        self.tree.chain().capacity()
+        self.chain().capacity()
     }
 
     /// Returns the maximum that was set, if any. The capacity never exceeds it, nor what the pointers' indexes can name.
@@ -112,6 +114,15 @@ impl<P: BasePtr, T, A: Allocator> SimpleOrdArena<P, T, A> {
             } }
     {
         self.tree.set_generation(generation);
+    }
+
+    // The list under the tree, which is sound.
+    fn chain(&self) -> &ChainArena<P, SimpleOrdArenaNode<P, T>, A>
+        ensures { Reads P.Inx.most P.Gen.greatest self.now (IsChainOf self.now result.now) }
+    {
+        // For the prover: the list is sound.
+        let _ = self.tree.len();
+        self.tree.chain()
     }
 
     /// Raises the generation of the next entry. Existing entries keep theirs. The result says whether the generation overflowed.

@@ -5,7 +5,7 @@ ghost use Rattle.ord_tree.specs.Chain.{Entry, entry_at, IsDistinct};
 ghost use Rattle.ord_tree.specs.Shape.{root_of, height};
 ghost use Rattle.ord_tree.specs.Tree.{IsSoundTree};
 ghost use Rattle.triple_ord.specs.Around.{last_item};
-ghost use Rattle.triple_ord.specs.Descent.{CanShow, IsLinkAt, IsNodeAt, ShowsEntry};
+ghost use Rattle.triple_ord.specs.Descent.{CanShow, IsLinkAt, IsNodeAt, IsSoundTree-prop, ShowsEntry};
 
 use crate::visits::Visits;
 use arena_base::BasePtr;
@@ -19,6 +19,8 @@ pub(crate) struct Probe<'a, P: BasePtr, T, A: Allocator> {
     tree: &'a OrdTree<P, T, A>,
     visits: u128,
     ghost distinct: { IsDistinct tree.now.list.entries },
+    ghost sound: { IsSoundTree tree.now } by { IsSoundTree-prop tree.now },
+    ghost few: { height tree.now.shape < 2 ^ 64 },
 }
 
 impl<'a, P: BasePtr, T, A: Allocator> Probe<'a, P, T, A> {
@@ -38,8 +40,6 @@ impl<'a, P: BasePtr, T, A: Allocator> Probe<'a, P, T, A> {
         ensures sound { IsSoundTree self.now.tree.now }
         ensures few { height self.now.tree.now.shape < 2 ^ 64 }
     {
-        // For the prover: the tree is sound.
-        let _ = self.tree.len();
         self.tree.root()
     }
 

@@ -13,8 +13,6 @@ impl<J, A: Allocator> Agenda<J, A> {
     pub fn contains(&self, ticket: Ticket) -> bool
         ensures { result ≡ is_some (job_of self.now.jobs ticket) }
     {
-        // For the prover: the list is sound.
-        let _ = self.jobs.len();
         self.jobs.contains(ticket.pointer)
     }
 
@@ -22,8 +20,6 @@ impl<J, A: Allocator> Agenda<J, A> {
     pub fn get(&self, ticket: Ticket) -> Option<(u64, &J)>
         ensures { option_map (λ x. (x.0, x.1.now)) result ≡ job_of self.now.jobs ticket }
     {
-        // For the prover: the list is sound.
-        let _ = self.jobs.len();
         let pair = self.jobs.get(ticket.pointer)?;
         let (deadline, job) = pair.k_v();
         Some((*deadline, job))

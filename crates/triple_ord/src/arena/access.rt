@@ -1,7 +1,7 @@
 //! Looking up entries by pointer and by index.
 ghost use Rattle.std.specs.Prelude.{◌≡◌, Some, IsSome, is_some};
 ghost use Rattle.std.specs.Option.{option_copied, option_map};
-ghost use Rattle.triple_ord.specs.Arena.{item_of, entry_at};
+ghost use Rattle.triple_ord.specs.Arena.{item_of, entry_at, Reads};
 
 use super::SimpleOrdArena;
 use arena_base::BasePtr;
@@ -11,9 +11,10 @@ use std::ops::Index;
 impl<P: BasePtr, T, A: Allocator> SimpleOrdArena<P, T, A> {
     /// Returns whether the pointer names an entry. O(1).
     pub fn contains(&self, p: P) -> bool
-        ensures { result ≡ is_some (item_of self.now (P.numbers p)) }
+        ensures { Reads P.Inx.most P.Gen.greatest self.now
+            (result ≡ is_some (item_of self.now (P.numbers p))) }
     {
-        self.tree.chain().contains(p)
+        self.chain().contains(p)
     }
 
     /// Returns whether there is an entry at the index. O(1).
@@ -25,18 +26,20 @@ impl<P: BasePtr, T, A: Allocator> SimpleOrdArena<P, T, A> {
 
     /// Returns the item that the pointer names. O(1).
     pub fn get(&self, p: P) -> Option<&T>
-        ensures { option_copied result ≡ item_of self.now (P.numbers p) }
+        ensures { Reads P.Inx.most P.Gen.greatest self.now
+            (option_copied result ≡ item_of self.now (P.numbers p)) }
     {
-        let node = self.tree.chain().get(p)?;
+        let node = self.chain().get(p)?;
         Some(&node.t)
     }
 
     /// Returns the generation and the item of the entry at the index. O(1).
     pub fn get_inx(&self, i: P::Inx) -> Option<(P::Gen, &T)>
-        ensures { option_map (λ e. (P.Gen.number e.0, e.1.now)) result
-            ≡ entry_at self.now (P.Inx.number i) }
+        ensures { Reads P.Inx.most P.Gen.greatest self.now
+            (option_map (λ e. (P.Gen.number e.0, e.1.now)) result
+            ≡ entry_at self.now (P.Inx.number i)) }
     {
-        let entry = self.tree.chain().get_inx(i)?;
+        let entry = self.chain().get_inx(i)?;
         let node = entry.1;
         Some((entry.0, &node.t))
     }

@@ -1,6 +1,7 @@
 //! Requesting the place of an insertion, and the methods of its entry.
 ghost use Rattle.std.specs.Prelude.{◌≡◌, ◌+◌, Some, is_some, if◌then◌else◌};
 ghost use Rattle.std.specs.Borrow.{sem};
+ghost use Rattle.ord_tree.specs.Chain.{IsSound};
 ghost use Rattle.triple_ord.specs.Arena.{item_of, count, Updates};
 ghost use Rattle.triple_ord.specs.Entry.{InsertsThere};
 ghost use Rattle.triple_ord.specs.EntryKind.{pointer_of_kind};
@@ -56,9 +57,13 @@ impl<'a, P: BasePtr, T: Drop, A: Allocator> SimpleOrdArenaInsertEntry<'a, P, T, 
         ensures count { count self.exit.0.now
             ≡ (if is_some result then count (entry_arena self.entry)
             else count (entry_arena self.entry) + 1) }
+        ensures sound { IsSound P.Inx.most P.Gen.greatest self.exit.0.now.list }
     {
         let prepared = self.prepared;
-        self.arena.insert_prepared(prepared, t)
+        let before = self.arena.insert_prepared(prepared, t);
+        // For the prover: the list is sound.
+        let _ = self.arena.len();
+        before
     }
 }
 

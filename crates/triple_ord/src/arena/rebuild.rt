@@ -3,7 +3,7 @@
 ghost use Rattle.std.specs.Prelude.{◌≡◌, OnOk, map};
 ghost use Rattle.ord_tree.specs.ArenaCompression.{compressed_generation};
 ghost use Rattle.ord_tree.specs.Generation.{IsLawfulGeneration};
-ghost use Rattle.ord_tree.specs.Chain.{chain_limit};
+ghost use Rattle.ord_tree.specs.Chain.{chain_limit, IsSound};
 ghost use Rattle.ord_tree.specs.ChainCompression.{canonical, relocated, IsCompression, IsTransfer};
 ghost use Rattle.ord_tree.specs.Room.{Reallocates};
 ghost use Rattle.ord_tree.specs.Tree.{TransfersTree};
@@ -32,9 +32,12 @@ impl<P: BasePtr, T, A: Allocator> SimpleOrdArena<P, T, A> {
         f: F,
     ) -> InvalidationOption<()>
         requires { F.IsAlwaysCallable f }
-        ensures { Renumbers P.Gen.greatest reset self.old result self.new
+        ensures renumbers { Renumbers P.Gen.greatest reset self.old result self.new
             (λ g. IsCompression P.numbers F.step g f self.old.list self.new.list) }
+        ensures sound { IsSound P.Inx.most P.Gen.greatest self.old.list }
     {
+        // For the prover: the list is sound.
+        let _ = self.len();
         self.tree.compress_with(reset, f)
     }
 
@@ -118,8 +121,6 @@ impl<P: BasePtr, T: SimpleOrdItem, A: Allocator> SimpleOrdArena<P, T, A> {
         ensures renumbers { Renumbers P.Gen.greatest reset self.old result self.new
             (λ g. IsCompression P.numbers F.step g f self.old.list self.new.list) }
     {
-        // For the prover: the list is sound.
-        let _ = self.len();
         self.compress_with(reset, f)
     }
 }

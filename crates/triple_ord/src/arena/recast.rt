@@ -16,9 +16,8 @@ impl<I, P: BasePtr, T: Recast<I>, A: Allocator> Recast<I> for SimpleOrdArena<P, 
         RecastsItems (T.recast_gives gives) old result new };
 
     fn recast<R: Recaster<Item = I>>(&mut self, recaster: &R) -> Result<(), I> {
-        // For the prover: the list is sound.
-        let _ = self.len();
-        for position in 0..self.capacity() {
+        let capacity = self.capacity();
+        for position in 0..capacity {
             let i = P::Inx::try_from_usize(position + 1).unwrap();
             if self.contains_inx(i) {
                 recast_at(self, i, recaster)?;

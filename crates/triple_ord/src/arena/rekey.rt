@@ -43,7 +43,8 @@ impl<P: BasePtr, T: SimpleOrdItem, A: Allocator> SimpleOrdArena<P, T, A> {
             (Rekeys T.key_of T.Key.cmp self.old (P.numbers p) t self.new) }
         ensures before { IfOk result (λ before. item_of self.old (P.numbers p) ≡ Some before) }
         ensures updates { OnOk result (Updates self.old self.new (P.numbers p) (Some t)) }
-        ensures otherwise { MovesOrReturns self.old (P.numbers p) t result self.new }
+        ensures otherwise { MovesOrReturns P.Inx.most P.Gen.greatest
+            self.old (P.numbers p) t result self.new }
     {
         match self.rekey_counted(p, t) {
             Ok((before, _visits)) => Ok(before),
@@ -63,7 +64,8 @@ impl<P: BasePtr, T: SimpleOrdItem, A: Allocator> SimpleOrdArena<P, T, A> {
         ensures visits { IfOk result
             (λ r. IsWithinBounds (length self.old.list.entries) self.old.shape r.1) }
         ensures updates { OnOk result (Updates self.old self.new (P.numbers p) (Some t)) }
-        ensures otherwise { MovesOrReturns self.old (P.numbers p) t result self.new }
+        ensures otherwise { MovesOrReturns P.Inx.most P.Gen.greatest
+            self.old (P.numbers p) t result self.new }
     {
         if !self.contains(p) {
             return Err(t);
@@ -121,7 +123,8 @@ impl<P: BasePtr, K: Ord, V, A: Allocator> SimpleOrdArena<P, OrdPair<K, V>, A> {
             option_map (λ pair. pair.0) (item_of self.old (P.numbers p)) ≡ Some before) }
         ensures updates { Updates self.old self.new (P.numbers p)
             (option_map (λ pair. (k, pair.1)) (item_of self.old (P.numbers p))) }
-        ensures otherwise { MovesOrReturns self.old (P.numbers p) k result self.new }
+        ensures otherwise { MovesOrReturns P.Inx.most P.Gen.greatest
+            self.old (P.numbers p) k result self.new }
     {
         let Some(_pair) = self.get(p) else {
             return Err(k);
@@ -175,8 +178,6 @@ impl<P: BasePtr, T, A: Allocator> SimpleOrdArena<P, T, A> {
         ensures { IsTrue result → (P.numbers at.0).0 ≢ P.Inx.number i
             → self.now.list ≡ with_entry_moved self.now.list (P.Inx.number i) (put_on at.1 (P.numbers at.0).0) }
     {
-        // For the prover: the list is sound.
-        let _ = self.len();
         let Some((_, link)) = self.get_inx_node(at.0.inx()) else {
             return false;
         };

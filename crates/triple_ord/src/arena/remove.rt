@@ -1,12 +1,11 @@
 //! Removing entries and invalidating pointers. None of these calls takes memory.
-ghost use Rattle.std.specs.Prelude.{◌≡◌, ◌+◌, None, IfSome, OnSome, is_some};
+ghost use Rattle.std.specs.Prelude.{◌≡◌, None, IfSome, is_some};
 ghost use Rattle.std.specs.Option.{option_map};
 ghost use Rattle.ord_tree.specs.Generation.{overflows_after};
 ghost use Rattle.ord_tree.specs.Invalidation.{valid_value, has_overflowed, is_overflow, IsRemoval, IsRenewal};
 ghost use Rattle.ord_tree.specs.Chain.{removed, renewed, cleared};
 ghost use Rattle.ord_tree.specs.Shape.{missing};
-ghost use Rattle.ord_tree.specs.Tree.{IsShrunk};
-ghost use Rattle.triple_ord.specs.Arena.{item_of, entry_at, count, Updates, Renews, FindsNothing};
+ghost use Rattle.triple_ord.specs.Arena.{item_of, entry_at, count, Updates, Renews, FindsNothing, TakesEntry};
 
 use super::SimpleOrdArena;
 use arena_base::{BasePtr, InvalidationOption, InvalidationResult};
@@ -28,11 +27,9 @@ impl<P: BasePtr, T, A: Allocator> SimpleOrdArena<P, T, A> {
             (self.new.list ≡ removed P.Gen.greatest self.old.list (P.numbers p).0)
             (self.new ≡ self.old) }
         ensures updates { Updates self.old self.new (P.numbers p) None }
-        ensures count { OnSome (valid_value result) (count self.old ≡ count self.new + 1) }
-        ensures shape { OnSome (valid_value result) (IsShrunk self.old.shape self.new.shape) }
+        ensures takes { TakesEntry P.Inx.most P.Gen.greatest (valid_value result)
+            self.old self.new }
     {
-        // For the prover: the list is sound.
-        prove!(self.len() <= usize::MAX);
         if !self.contains(p) {
             return InvalidationResult::InvalidPtr;
         }
@@ -50,8 +47,8 @@ impl<P: BasePtr, T, A: Allocator> SimpleOrdArena<P, T, A> {
             (self.new ≡ self.old) }
         ensures updates { IfSome (valid_value result)
             (λ e. Updates self.old self.new (P.Inx.number i, P.Gen.number e.0) None) }
-        ensures count { OnSome (valid_value result) (count self.old ≡ count self.new + 1) }
-        ensures shape { OnSome (valid_value result) (IsShrunk self.old.shape self.new.shape) }
+        ensures takes { TakesEntry P.Inx.most P.Gen.greatest (valid_value result)
+            self.old self.new }
     {
         // For the prover: the list is sound.
         prove!(self.len() <= usize::MAX);

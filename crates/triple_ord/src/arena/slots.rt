@@ -2,7 +2,7 @@
 ghost use Rattle.std.specs.Prelude.{◌≡◌, ◌↔◌, IfSome, IsNone};
 ghost use Rattle.ord_tree.specs.ArenaWalk.{GoesFrom, GoesOverAll, HasEnded};
 ghost use Rattle.ord_tree.specs.Chain.{IsFirstIndex, IsLastIndex};
-ghost use Rattle.triple_ord.specs.Arena.{count};
+ghost use Rattle.triple_ord.specs.Arena.{count, Reads};
 ghost use Rattle.triple_ord.specs.Content.{content_of};
 ghost use Rattle.triple_ord.specs.SlotWalk.{SlotWalkSteps};
 
@@ -17,18 +17,20 @@ impl<P: BasePtr, T, A: Allocator> SimpleOrdArena<P, T, A> {
     pub fn find_first_inx_ptr(&self) -> Option<P>
         ensures first { IfSome result
             (λ p. IsFirstIndex self.now.list.entries (P.numbers p).0 (P.numbers p).1) }
-        ensures empty { IsNone result ↔ (count self.now ≡ 0) }
+        ensures empty { Reads P.Inx.most P.Gen.greatest self.now
+            (IsNone result ↔ (count self.now ≡ 0)) }
     {
-        self.tree.chain().find_first_inx_ptr()
+        self.chain().find_first_inx_ptr()
     }
 
     /// Returns the pointer of the entry with the greatest index. O(capacity).
     pub fn find_last_inx_ptr(&self) -> Option<P>
         ensures last { IfSome result
             (λ p. IsLastIndex self.now.list.entries (P.numbers p).0 (P.numbers p).1) }
-        ensures empty { IsNone result ↔ (count self.now ≡ 0) }
+        ensures empty { Reads P.Inx.most P.Gen.greatest self.now
+            (IsNone result ↔ (count self.now ≡ 0)) }
     {
-        self.tree.chain().find_last_inx_ptr()
+        self.chain().find_last_inx_ptr()
     }
 
     /// Returns a walk over all pointers by rising index, whatever the list order. All steps together take O(capacity).

@@ -9,8 +9,7 @@ use arena_base::{
 };
 use std::alloc::{AllocError, Allocator};
 
-// The contract of a call on `self` brings the arena's laws into the proof. So each method first asks for the length if its own call needs
-// them.
+// Most calls on `self` say that the list is sound, which the laws of an arena need. Before the others the length is asked, which says so too.
 #[tactic(auto, using(crate::specs::ContentLaws::slot_is, crate::specs::ContentLaws::item_is, crate::specs::ContentLaws::capacity_is, crate::specs::ContentLaws::len_is, crate::specs::ContentLaws::lawful_is, crate::specs::ContentLaws::content_removed, crate::specs::ContentLaws::content_renewed, crate::specs::ContentLaws::content_cleared))]
 impl<P: BasePtr, T, A: Allocator + Copy> ArenaTrait<P, T> for SimpleOrdArena<P, T, A> {
     type Alloc = A;
@@ -28,7 +27,6 @@ impl<P: BasePtr, T, A: Allocator + Copy> ArenaTrait<P, T> for SimpleOrdArena<P, 
     }
 
     fn capacity(&self) -> usize {
-        let _ = self.len();
         self.capacity()
     }
 
@@ -50,7 +48,6 @@ impl<P: BasePtr, T, A: Allocator + Copy> ArenaTrait<P, T> for SimpleOrdArena<P, 
     }
 
     fn contains(&self, p: P) -> bool {
-        let _ = self.len();
         self.contains(p)
     }
 
@@ -59,27 +56,22 @@ impl<P: BasePtr, T, A: Allocator + Copy> ArenaTrait<P, T> for SimpleOrdArena<P, 
     }
 
     fn get(&self, p: P) -> Option<&T> {
-        let _ = self.len();
         self.get(p)
     }
 
     fn get_mut(&mut self, p: P) -> Option<&mut T> {
-        let _ = self.len();
         self.get_mut(p)
     }
 
     fn get_inx(&self, i: P::Inx) -> Option<(P::Gen, &T)> {
-        let _ = self.len();
         self.get_inx(i)
     }
 
     fn find_first_inx_ptr(&self) -> Option<P> {
-        let _ = self.len();
         self.find_first_inx_ptr()
     }
 
     fn find_last_inx_ptr(&self) -> Option<P> {
-        let _ = self.len();
         self.find_last_inx_ptr()
     }
 
@@ -89,12 +81,10 @@ impl<P: BasePtr, T, A: Allocator + Copy> ArenaTrait<P, T> for SimpleOrdArena<P, 
     }
 
     fn remove(&mut self, p: P) -> InvalidationResult<T> {
-        let _ = self.len();
         self.remove(p)
     }
 
     fn remove_inx(&mut self, i: P::Inx) -> InvalidationResult<(P::Gen, T)> {
-        let _ = self.len();
         self.remove_inx(i)
     }
 
@@ -110,7 +100,6 @@ impl<P: BasePtr, T, A: Allocator + Copy> ArenaTrait<P, T> for SimpleOrdArena<P, 
         reset: bool,
         f: F,
     ) -> InvalidationOption<()> {
-        let _ = self.len();
         self.compress_with(reset, f)
     }
 }

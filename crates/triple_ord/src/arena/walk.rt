@@ -78,8 +78,6 @@ impl<P: BasePtr, T, A: Allocator> SimpleOrdArena<P, T, A> {
             (record { at = option_map P.Inx.number e.1; falling = falling })
             self.now (P.numbers e.0).0 (P.numbers e.0).1) }
     {
-        // For the prover: the list is sound.
-        let _ = self.len();
         let entry = self.get_inx_link_no_gen(i)?;
         let link = entry.1;
         let p = P::_from_raw(i, entry.0);

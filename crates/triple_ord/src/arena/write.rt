@@ -3,7 +3,7 @@ ghost use Rattle.std.specs.Prelude.{◌≡◌, Some, IsSome};
 ghost use Rattle.std.specs.Option.{option_copied_mut};
 ghost use Rattle.std.specs.Borrow.{sem, Lends, LendsIf};
 ghost use Rattle.ord_tree.specs.Tree.{with_item};
-ghost use Rattle.triple_ord.specs.Arena.{item_of, entry_at};
+ghost use Rattle.triple_ord.specs.Arena.{item_of, entry_at, Reads};
 
 use super::SimpleOrdArena;
 use arena_base::{BasePtr, ItemsMut};
@@ -36,7 +36,8 @@ impl<P: BasePtr, T, A: Allocator> SimpleOrdArena<P, T, A> {
             P.BasePtr.own P.PartialEq P.Inx.BasePtrInx.own P.Inx.PartialEq
             P.Gen.BasePtrGen.own P.Gen.PartialEq A.Allocator)
             T.row self.entry result (with_item self.old (P.numbers p).0) self.old) }
-        ensures value { option_copied_mut result ≡ item_of self.old (P.numbers p) }
+        ensures value { Reads P.Inx.most P.Gen.greatest self.old
+            (option_copied_mut result ≡ item_of self.old (P.numbers p)) }
     {
         if self.contains(p) {
             self.tree.item_at_mut(p.inx())

@@ -10,7 +10,7 @@ use Rattle.agenda_store.specs.Planner.{Entry, plan_of}
 use Rattle.agenda_store.specs.Replay.{IsReplayed}
 use Rattle.agenda_store.specs.declared.store.TheConstants.{MAX_BYTES}
 use Rattle.agenda_store.proofs.Entries.{Entries}
-use Rattle.agenda_store.proofs.Snapshots.{IsSpelled, none_spelled, one_spelled, all_spelled, its_turn, snapshot_replayed, snapshot_fits}
+use Rattle.agenda_store.proofs.Snapshots.{lawful, IsSpelled, none_spelled, one_spelled, all_spelled, its_turn, snapshot_replayed, snapshot_fits}
 use Rattle.agenda_store.proofs.change.snapshot_of.Goals as goal
 use Rattle.agenda_store.proofs.change.snapshot_of.Goals.{In-Some}
 
@@ -32,7 +32,7 @@ loop-deadline-init c =
     let first = c.in_ok-count_record.field-0 in
     let start = none_spelled next jobs first.items c.in_ok-count_record.ensures.spelled c.count_record.ensures.written in
     let items = c.in_ok-push.ensures.items ∙ ap (λ (l : List (Vec ℕ Global)). l ++ first ∷ []) c.new-records.ensures.items in
-    let left = c.into_iter-deadline-iterator.ensures.into_iter_gives ∙ c.iter-deadline-items.ensures in
+    let left = c.into_iter-deadline-iterator.ensures.into_iter_gives ∙ c.iter-deadline-items.ensures.value in
     subst (λ (l : Entries). IsSpelled next jobs l (contents c.push.new.self.items)) (sym left)
     (subst (λ (l : List (Vec ℕ Global)). IsSpelled next jobs jobs (contents l)) (sym items) start)
 
@@ -67,6 +67,6 @@ returns c =
     (subst (λ (l : Entries). IsSpelled planner.next planner.agenda.jobs l records) c.in-None.ensures.steps.0 c.loop-deadline.invariant) in
     record {
       spelled = all.0;
-      replayed = subst (λ (l : List (List ℕ)). IsReplayed l plan) (sym all.0) (snapshot_replayed plan (c.len.ensures.lawful c.requires) all.1);
+      replayed = subst (λ (l : List (List ℕ)). IsReplayed l plan) (sym all.0) (snapshot_replayed plan (lawful planner c.requires c.iter-deadline-items.ensures.in_order) all.1);
       fit = subst (λ (l : List (List ℕ)). AllByRecursion Fits l) (sym all.0) (snapshot_fits (snapshot plan) all.1);
     }

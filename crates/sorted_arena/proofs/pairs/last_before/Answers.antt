@@ -6,7 +6,7 @@ use Rattle.sorted_arena.proofs.pairs.last_before.Goals as goal
 pub returns-in_err-link-in-Some : goal.returns-in_err-link-in-Some
 returns-in_err-link-in-Some g c distinct front back cut ends =
     before-unlinked c.args.pairs.now.list.entries distinct front back cut (g.P.Inx.BasePtrInx.number c.in-Some.i)
-    (ends ∙ ap (option_map g.P.Inx.BasePtrInx.number) c.in-Some.is) c.in_err-link-in-Some.ensures
+    (ends ∙ ap (option_map g.P.Inx.BasePtrInx.number) c.in-Some.is) c.in_err-link-in-Some.ensures.value
 
 pub returns-in_err-last-in-None : goal.returns-in_err-last-in-None
 returns-in_err-last-in-None g c distinct front back cut ends =
@@ -16,7 +16,7 @@ returns-in_err-last-in-None g c distinct front back cut ends =
 pub returns-in_ok-link-in-Some : goal.returns-in_ok-link-in-Some
 returns-in_ok-link-in-Some g c distinct front back cut ends =
     before-linked c.args.pairs.now.list.entries distinct front back cut (g.P.Inx.BasePtrInx.number c.in-Some.i) _ _
-    (ends ∙ ap (option_map g.P.Inx.BasePtrInx.number) c.in-Some.is) c.in_ok-link-in-Some.ensures ∙ sym c.prev.ensures.value
+    (ends ∙ ap (option_map g.P.Inx.BasePtrInx.number) c.in-Some.is) c.in_ok-link-in-Some.ensures.value ∙ sym c.prev.ensures.value
 
 pub returns-in_ok-last-in-None : goal.returns-in_ok-last-in-None
 returns-in_ok-last-in-None g c distinct front back cut ends =

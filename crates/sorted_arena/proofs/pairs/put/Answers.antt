@@ -11,12 +11,15 @@ returns-in-Ok-clause-ok g c =
     let shown = c.in-Ok.entry.prepared.shown in
     let named : g.P.BasePtr.numbers c.any-p.result ≡ g.P.BasePtr.numbers (pointer_of_kind shown) = ap g.P.BasePtr.numbers (c.any-p.ensures ∙ ap pointer_of_kind c.ptr.ensures) in
     let done = entry-inserts-new item_key g.K.Ord.cmp g.P.BasePtr.numbers g.P.Inx.BasePtrInx.number Reallocating g.P.Inx.BasePtrInx.most _ c.args.pairs.now c.in-Ok.entry.arena.now c.insert.new.self.0
-    c.len.ensures.sound.distinct shown _ _ c.new.result c.insert.result c.in-Ok.ensures.request.place c.args.k c.kind_behind-kind.ensures c.insert.ensures.inserts in
+    c.kind_behind-kind.ensures.sound.distinct shown _ _ c.new.result c.insert.result c.in-Ok.ensures.request.place c.args.k c.kind_behind-kind.ensures.aim c.insert.ensures.inserts in
     let told : InsertsNew item_key g.K.Ord.cmp g.P.Inx.BasePtrInx.most Reallocating (behind_key c.args.k) c.args.pairs.now item (g.P.BasePtr.numbers c.any-p.result) c.insert.new.self.0 = rw (named, ← c.new.ensures) done in
     subst (λ u. InsertsNew item_key g.K.Ord.cmp g.P.Inx.BasePtrInx.most Reallocating (behind_key c.args.k) c.args.pairs.now item (g.P.BasePtr.numbers c.any-p.result) u) (search rules) told
+
+pub returns-in-Ok-clause-still_sound : goal.returns-in-Ok-clause-still_sound
+returns-in-Ok-clause-still_sound g c = search rules
 
 pub returns-in-Ok-clause-full : goal.returns-in-Ok-clause-full
 returns-in-Ok-clause-full g c = (
   λ is. absurd (cc),
-  λ is. absurd (not_full g.K.Ord.cmp g.P.Inx.BasePtrInx.most g.P.Gen.BasePtrGen.greatest _ _ c.args.k _ _ (returns-in-Ok-clause-ok g c) c.len-in-Ok.ensures.sound is),
+  λ is. absurd (not_full g.K.Ord.cmp g.P.Inx.BasePtrInx.most g.P.Gen.BasePtrGen.greatest _ _ c.args.k _ _ (returns-in-Ok-clause-ok g c) (returns-in-Ok-clause-still_sound g c) is),
 )

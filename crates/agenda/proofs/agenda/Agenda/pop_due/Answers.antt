@@ -9,6 +9,7 @@ returns-in_err-first-clause-takes g c = record {
   none = search rules;
   step = step-stays _ _ refl;
   count = search rules;
+  room = search rules;
 }
 
 pub returns-then-deadline-now-clause-takes : goal.returns-then-deadline-now-clause-takes
@@ -18,6 +19,7 @@ returns-then-deadline-now-clause-takes g c = record {
   none = search rules;
   step = step-stays _ _ refl;
   count = search rules;
+  room = search rules;
 }
 
 pub returns-clause-takes : goal.returns-clause-takes
@@ -27,6 +29,7 @@ returns-clause-takes g c = record {
   none = search rules;
   step = search rules;
   count = search rules;
+  room = search rules;
 }
 
 pub returns-clause-due : goal.returns-clause-due

@@ -7,7 +7,7 @@ use Rattle.agenda.proofs.agenda.Agenda.reschedule.Goals.{After-rekey_pair}
 -- what the call tells, by the result of the arena
 told : (g : Over) (c : After-rekey_pair g) → Tells c.self.inside.jobs c.rekey_pair.new.self c.ticket.inside.pointer c.args.deadline (is_ok c.rekey_pair.result)
 told g c =
-    rekey-tells c.self.inside.jobs c.rekey_pair.new.self c.ticket.inside.pointer c.args.deadline c.len.ensures.sound c.self.invariant c.rekey_pair.result
+    rekey-tells c.self.inside.jobs c.rekey_pair.new.self c.ticket.inside.pointer c.args.deadline c.rekey_pair.ensures.otherwise.sound c.self.invariant c.rekey_pair.result
     c.rekey_pair.ensures.rekeys c.rekey_pair.ensures.before c.rekey_pair.ensures.otherwise.stale c.rekey_pair.ensures.otherwise.refused
 
 pub invariant_of-self : goal.invariant_of-self

@@ -5,7 +5,7 @@ use Rattle.agenda_store.specs.Planner.{plan_of}
 use Rattle.agenda_store.specs.Replay.{Replays}
 use Rattle.agenda_store.proofs.Absent.{cancelled_none}
 use Rattle.agenda_store.proofs.Replays.{replaying}
-use Rattle.agenda_store.proofs.Sound.{succeeds, fails, records_change, leaves_either}
+use Rattle.agenda_store.proofs.Sound.{succeeds, records_change, leaves_either}
 use Rattle.agenda_store.proofs.store.Store.cancel.Given.{Over}
 use Rattle.agenda_store.proofs.store.Store.cancel.Goals as goal
 use Rattle.agenda_store.proofs.store.Store.cancel.Goals.{After-append}
@@ -24,8 +24,14 @@ returns-then-not-has-clause-change g c =
 pub returns-in_err-append-clause-change : goal.returns-in_err-append-clause-change
 returns-in_err-append-clause-change g c =
     let again = replays g (goal.at.returns-in_err-append-clause-change g c).After-append in
-    rw (← c.self.view_is) (fails c.self.invariant c.if-not-self.false (search rules)
-    (leaves_either c.self.invariant c.if-not-self.false again c.append.ensures.any_moment))
+    rw (← c.self.view_is) (record {
+      sound = search rules;
+      is_open = search rules;
+      closed = search rules;
+      plan_is = search rules;
+      err = search rules;
+      any_moment = leaves_either c.self.invariant c.if-not-self.false again c.append.ensures.any_moment;
+    })
 
 pub invariant_of-self-2 : goal.invariant_of-self-2
 invariant_of-self-2 g c =

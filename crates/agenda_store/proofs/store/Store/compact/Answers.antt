@@ -5,7 +5,7 @@ use Rattle.agenda_store.specs.Planner.{plan_of}
 use Rattle.agenda_store.specs.Replay.{IsReplayed, StandsFor}
 use Rattle.record_log.proofs.CallerLemmas.{weaker}
 use Rattle.agenda_store.proofs.Kept.{rewritten}
-use Rattle.agenda_store.proofs.Sound.{succeeds, fails}
+use Rattle.agenda_store.proofs.Sound.{succeeds}
 use Rattle.agenda_store.proofs.store.Store.compact.Given.{Over}
 use Rattle.agenda_store.proofs.store.Store.compact.Goals as goal
 use Rattle.agenda_store.proofs.store.Store.compact.Goals.{After-rewrite}
@@ -26,7 +26,14 @@ pub returns-in_err-rewrite-clause-keeps : goal.returns-in_err-rewrite-clause-kee
 returns-in_err-rewrite-clause-keeps g c =
     let leaves = moments g (goal.at.returns-in_err-rewrite-clause-keeps g c).After-rewrite in
     rw (← c.self.view_is) (record {
-      change = fails c.self.invariant c.if-not-self.false (search rules) (λ true _. weaker (leaves true) (λ file stands. inl stands));
+      change = record {
+        sound = search rules;
+        is_open = search rules;
+        closed = search rules;
+        plan_is = search rules;
+        err = search rules;
+        any_moment = λ true _. weaker (leaves true) (λ file stands. inl stands);
+      };
       plan = refl;
       any_moment = λ true _. leaves true;
     })

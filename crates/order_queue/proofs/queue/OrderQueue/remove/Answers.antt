@@ -40,3 +40,6 @@ returns-clause-changes g c =
 pub returns-clause-gone : goal.returns-clause-gone
 returns-clause-gone g c =
     rw (← c.self.view_is, c.in_ok-rank.ensures.removes.gone) (queue-without c.self.inside.side c.self.inside.orders c.args.pointer c.self.invariant.distinct (ap is_some (sym c.in_ok-rank.ensures.value)))
+
+pub returns-clause-room : goal.returns-clause-room
+returns-clause-room g c = rw (← c.self.view_is) (omega (arith, c.in_ok-rank.ensures.removes.room, length-map c.remove.new.self.entries (order_in c.self.inside.side)))

@@ -15,4 +15,5 @@ returns-clause-removes g c = record {
   none = search rules;
   sound = search rules;
   count = search rules;
+  room = search rules;
 }

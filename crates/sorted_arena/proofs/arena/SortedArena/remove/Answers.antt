@@ -1,6 +1,6 @@
-use Rattle.std.proofs.Common.{◌≡◌, ◌∙◌, List, sym, ap, rules}
+use Rattle.std.proofs.Common.{◌≡◌, ◌∙◌, List, sym, ap, rules, arith}
 use Rattle.std.specs.Option.{option_map}
-use Rattle.triple_ord.specs.Chain.{Entry, last_pointer}
+use Rattle.triple_ord.specs.Chain.{Chain, Entry, last_pointer}
 use Rattle.sorted_arena.specs.Sorted.{Sorted}
 use Rattle.sorted_arena.proofs.{Changing.arena-removed, Changing.sound-removed, Numbering.compact-removed}
 use Rattle.sorted_arena.proofs.arena.SortedArena.remove.Goals.{then-self, else-self}
@@ -32,4 +32,5 @@ returns-clause-removes g c =
       none = search rules;
       sound = sound-removed g.K.Ord.cmp g.P.Inx.BasePtrInx.most g.P.Gen.BasePtrGen.greatest c.self.inside.pairs c.remove.new.self _ after sound;
       count = search rules;
+      room = omega (arith, sound.within, rw some at c.remove.ensures.takes.count, ap (λ (l : Chain _). l.capacity) after);
     }

@@ -19,7 +19,7 @@ returns-in_err-i-clause-steps g c =
 pub unwrap-entry-requires : goal.unwrap-entry-requires
 unwrap-entry-requires g c =
     let stands = place-linked c.self.inside.pairs.now.list.entries c.self.inside.is_numbered (option_map g.P.Inx.BasePtrInx.number c.self.inside.first) (option_map g.P.Inx.BasePtrInx.number c.self.inside.end) c.self.inside.from c.self.inside.left g.P.Inx.BasePtrInx.most c.if-self.false c.self.invariant in
-    some-unless _ _ _ c.get_inx.ensures (last-occupied c.self.inside.pairs.now.list.entries _ _ stands (c.are_same.ensures.apart c.if-are_same.false)
+    some-unless _ _ _ c.get_inx.ensures.value (last-occupied c.self.inside.pairs.now.list.entries _ _ stands (c.are_same.ensures.apart c.if-are_same.false)
     _ (c.last_before.ensures stands.distinct) (g.P.Inx.BasePtrInx.number c.in_ok-i.i) (ap (option_map g.P.Inx.BasePtrInx.number) c.in_ok-i.was))
 
 -- the step
@@ -31,7 +31,7 @@ stepped g c =
     let parts = ap (λ (k : g.row.K.Denot). (k, c.k_v.result.1.now)) c.k_v.ensures.key ∙ ap (λ (v : g.row.V.Denot). (c.unwrap-entry.result.1.now.0, v)) c.k_v.ensures.value in
     steps-last c.self.inside.pairs.now.list.entries _ _ stands (c.are_same.ensures.apart c.if-are_same.false)
     _ (c.last_before.ensures stands.distinct) (g.P.Inx.BasePtrInx.number c.in_ok-i.i) (ap (option_map g.P.Inx.BasePtrInx.number) c.in_ok-i.was)
-    (g.P.Gen.BasePtrGen.number c.unwrap-entry.result.0) (c.k_v.result.0.now, c.k_v.result.1.now) _ (ap (option_map _) (sym c.unwrap-entry.ensures) ∙ c.get_inx.ensures) (sym parts)
+    (g.P.Gen.BasePtrGen.number c.unwrap-entry.result.0) (c.k_v.result.0.now, c.k_v.result.1.now) _ (ap (option_map _) (sym c.unwrap-entry.ensures) ∙ c.get_inx.ensures.value) (sym parts)
 
 pub invariant_of-self-2 : goal.invariant_of-self-2
 invariant_of-self-2 g c = linked-place c.self.inside.pairs.now.list.entries c.self.inside.is_numbered (option_map g.P.Inx.BasePtrInx.number c.self.inside.first) (Some (g.P.Inx.BasePtrInx.number c.in_ok-i.i)) c.self.inside.from c.self.inside.left g.P.Inx.BasePtrInx.most c.if-self.false (stepped g c).stands

@@ -15,7 +15,7 @@ returns-then-are_same-clause-steps g c =
 pub unwrap-entry-requires : goal.unwrap-entry-requires
 unwrap-entry-requires g c =
     let stands = place-linked c.self.inside.pairs.now.list.entries c.self.inside.is_numbered (option_map g.P.Inx.BasePtrInx.number c.self.inside.first) (option_map g.P.Inx.BasePtrInx.number c.self.inside.end) c.self.inside.from c.self.inside.left g.P.Inx.BasePtrInx.most c.if-self.false c.self.invariant in
-    some-unless _ _ _ c.get_inx_link_no_gen.ensures (first-linked c.self.inside.pairs.now.list.entries _ _ stands (c.are_same.ensures.apart c.if-are_same.false) (g.P.Inx.BasePtrInx.number c.in_ok-i.i) (ap (option_map g.P.Inx.BasePtrInx.number) c.in_ok-i.was))
+    some-unless _ _ _ c.get_inx_link_no_gen.ensures.value (first-linked c.self.inside.pairs.now.list.entries _ _ stands (c.are_same.ensures.apart c.if-are_same.false) (g.P.Inx.BasePtrInx.number c.in_ok-i.i) (ap (option_map g.P.Inx.BasePtrInx.number) c.in_ok-i.was))
 
 -- the step
 stepped : (g : _) (c : goal.After-_from_raw g) → StepsFirst c.self.inside.pairs.now.list.entries (option_map g.P.Inx.BasePtrInx.number c.self.inside.first) (option_map g.P.Inx.BasePtrInx.number c.self.inside.end)
@@ -26,7 +26,7 @@ stepped g c =
     let item = ap (λ (l : Link (Bor (g.row.K.Denot × g.row.V.Denot))). l.item.now) c.link.view_is in
     let parts = ap (λ (k : g.row.K.Denot). (k, c.k_v.result.1.now)) c.k_v.ensures.key ∙ ap (λ (v : g.row.V.Denot). (c.link.inside.t.now.0, v)) c.k_v.ensures.value in
     steps-first c.self.inside.pairs.now.list.entries _ _ stands (c.are_same.ensures.apart c.if-are_same.false) (g.P.Inx.BasePtrInx.number c.in_ok-i.i)
-    (ap (option_map g.P.Inx.BasePtrInx.number) c.in_ok-i.was) (g.P.Gen.BasePtrGen.number c.unwrap-entry.result.0) (c.k_v.result.0.now, c.k_v.result.1.now) _ (ap (option_map _) (sym c.unwrap-entry.ensures) ∙ c.get_inx_link_no_gen.ensures)
+    (ap (option_map g.P.Inx.BasePtrInx.number) c.in_ok-i.was) (g.P.Gen.BasePtrGen.number c.unwrap-entry.result.0) (c.k_v.result.0.now, c.k_v.result.1.now) _ (ap (option_map _) (sym c.unwrap-entry.ensures) ∙ c.get_inx_link_no_gen.ensures.value)
     (sym item ∙ sym parts)
 
 pub invariant_of-self-2 : goal.invariant_of-self-2

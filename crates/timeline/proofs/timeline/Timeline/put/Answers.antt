@@ -1,4 +1,5 @@
-use Rattle.std.proofs.Common.{ap, map}
+use Rattle.std.proofs.Common.{ap, map, arith}
+use Rattle.std.proofs.lemmas.List.{length-map}
 use Rattle.timeline.specs.Layout.{change, changes_of}
 use Rattle.timeline.proofs.Painting.{painted-sets}
 use Rattle.timeline.proofs.timeline.Timeline.put.Goals as goal
@@ -11,3 +12,14 @@ pub returns-in-Ok-clause-set : goal.returns-in-Ok-clause-set
 returns-in-Ok-clause-set g c =
     rw (← c.self.view_is)
     ((painted-sets (changes_of c.self.inside.changes) _ c.args.from c.args.until c.args.value (changes_of c.paint.new.changes) c.self.invariant (ap (map change) c.make_room.ensures.entries) (c.is_empty.ensures.no c.if-is_empty.false) c.in-Ok.ensures.painted).0)
+
+pub returns-in-Ok-clause-lawful : goal.returns-in-Ok-clause-lawful
+returns-in-Ok-clause-lawful g c =
+    let are = (painted-sets (changes_of c.self.inside.changes) _ c.args.from c.args.until c.args.value (changes_of c.paint.new.changes) c.self.invariant (ap (map change) c.make_room.ensures.entries) (c.is_empty.ensures.no c.if-is_empty.false) c.in-Ok.ensures.painted).1 in
+    let sound = c.paint.ensures.keeps.sound in
+    record {
+      rising = are.rising;
+      joined = are.joined;
+      within = omega (arith, length-map c.paint.new.changes.entries change, sound.within);
+      limited = sound.limited;
+    }

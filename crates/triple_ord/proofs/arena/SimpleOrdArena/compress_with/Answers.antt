@@ -1,8 +1,8 @@
 use Rattle.triple_ord.proofs.{CallerLemmas.ended-moved, Words.ap, Words.length, Words.◌∙◌, Words.length-map, Words.Chain}
 use Rattle.triple_ord.proofs.arena.SimpleOrdArena.compress_with.Goals as goal
 
-pub returns : goal.returns
-returns g c =
+pub returns-clause-renumbers : goal.returns-clause-renumbers
+returns-clause-renumbers g c =
     let call = c.compress_with.ensures in
     rw (← c.self.view_is) (record {
       after = call.after;

@@ -2,7 +2,7 @@ use Rattle.triple_ord.proofs.{Bare.last_index-under, Bare.none_under, Words.IfSo
 use Rattle.triple_ord.proofs.arena.SimpleOrdArena.find_last_inx_ptr.Goals as goal
 
 pub returns-clause-last : goal.returns-clause-last
-returns-clause-last g c = rw (← c.self.view_is) (IfSome_then _ c.find_last_inx_ptr.ensures.last (λ p. last_index-under _ _ c.chain.ensures.chain _ _))
+returns-clause-last g c = IfSome_then _ c.find_last_inx_ptr.ensures.last (λ p. last_index-under _ _ c.chain.ensures.value _ _)
 
 pub returns-clause-empty : goal.returns-clause-empty
-returns-clause-empty g c = rw (← c.self.view_is) (none_under _ _ c.chain.ensures.chain c.find_last_inx_ptr.result c.find_last_inx_ptr.ensures.empty)
+returns-clause-empty g c = record { value = none_under _ _ c.chain.ensures.value c.find_last_inx_ptr.result c.find_last_inx_ptr.ensures.empty; sound = c.chain.ensures.sound }

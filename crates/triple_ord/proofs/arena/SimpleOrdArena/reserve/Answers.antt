@@ -24,7 +24,7 @@ pub returns-clause-room : goal.returns-clause-room
 returns-clause-room g c =
     let a = c.args.self.now in
     resizing-makes g.P.Inx.BasePtrInx.most g.P.Gen.BasePtrGen.greatest a c.reallocate_min_capacity.new.self c.max.result c.len.ensures.sound
-    (omega (arith, c.if-needed-capacity.false, c.capacity-capacity.ensures)) (λ n. length a.list.entries + c.args.additional ≤ n) (omega (arith, c.in-Some.ensures, c.len.ensures.value))
+    (omega (arith, c.if-needed-capacity.false, c.capacity-capacity.ensures.value)) (λ n. length a.list.entries + c.args.additional ≤ n) (omega (arith, c.in-Some.ensures, c.len.ensures.value))
     c.reallocate_min_capacity.result c.reallocate_min_capacity.ensures.reallocates.ok
 
 pub returns-clause-capacity : goal.returns-clause-capacity
@@ -33,7 +33,7 @@ returns-clause-capacity g c =
     let limit : ℕ = chain_limit g.P.Inx.BasePtrInx.most a.list in
     let sum : c.in-Some.needed ≡ length a.list.entries + c.args.additional = omega (arith, c.in-Some.ensures, c.len.ensures.value) in
     resizing-makes g.P.Inx.BasePtrInx.most g.P.Gen.BasePtrGen.greatest a c.reallocate_min_capacity.new.self c.max.result c.len.ensures.sound
-    (omega (arith, c.if-needed-capacity.false, c.capacity-capacity.ensures)) (λ n. n ≡ capacity_for limit a.list.capacity (length a.list.entries + c.args.additional))
+    (omega (arith, c.if-needed-capacity.false, c.capacity-capacity.ensures.value)) (λ n. n ≡ capacity_for limit a.list.capacity (length a.list.entries + c.args.additional))
     (grind (arith, nat_tests, sum)) c.reallocate_min_capacity.result c.reallocate_min_capacity.ensures.reallocates.ok
 
 pub returns-then-needed-capacity-clause-reallocates : goal.returns-then-needed-capacity-clause-reallocates
@@ -41,7 +41,7 @@ returns-then-needed-capacity-clause-reallocates g c =
     let a = c.args.self.now in
     record {
       ok = reserved-room g.P.Inx.BasePtrInx.most a (length a.list.entries + c.args.additional)
-          (omega (arith, c.if-needed-capacity.true, c.capacity-capacity.ensures, c.in-Some.ensures, c.len.ensures.value));
+          (omega (arith, c.if-needed-capacity.true, c.capacity-capacity.ensures.value, c.in-Some.ensures, c.len.ensures.value));
       beyond = grind (arith, common_steps);
       memory = search rules;
       err = search rules;
@@ -53,7 +53,7 @@ returns-clause-reallocates g c =
     let sum : c.in-Some.needed ≡ length a.list.entries + c.args.additional = omega (arith, c.in-Some.ensures, c.len.ensures.value) in
     record {
       ok = reserved-grown g.P.Inx.BasePtrInx.most g.P.Gen.BasePtrGen.greatest a c.reallocate_min_capacity.new.self c.max.result (length a.list.entries + c.args.additional) c.len.ensures.sound
-          (omega (arith, c.if-needed-capacity.false, c.capacity-capacity.ensures, sum)) (grind (arith, sum)) c.reallocate_min_capacity.result c.reallocate_min_capacity.ensures.reallocates.ok;
+          (omega (arith, c.if-needed-capacity.false, c.capacity-capacity.ensures.value, sum)) (grind (arith, sum)) c.reallocate_min_capacity.result c.reallocate_min_capacity.ensures.reallocates.ok;
       beyond = grind (arith, common_steps);
       memory = grind (arith, common_steps);
       err = c.reallocate_min_capacity.ensures.reallocates.err;

@@ -13,7 +13,7 @@ returns-in_err-recast_at g c =
     let named : g.P.Inx.BasePtrInx.number c.unwrap-i.result ≡ i = rw c.unwrap-i.ensures at c.try_from_usize.ensures.value in
     let within : i ≤ c.args.self.now.list.capacity = omega arith in
     let same : c.from_residual.result ≡ Err c.in_err-recast_at.field-0.0 = search rules in
-    rw same (recast-failed _ _ _ _ c.len.ensures.sound _ i at.invariant within _ _ (rw named at c.in_err-recast_at.ensures))
+    rw same (recast-failed _ _ _ _ c.capacity-capacity.ensures.sound _ i at.invariant within _ _ (rw named at c.in_err-recast_at.ensures))
 
 pub loop-position-preserved : goal.loop-position-preserved
 loop-position-preserved g c =
@@ -22,10 +22,10 @@ loop-position-preserved g c =
     let within : i ≤ c.args.self.now.list.capacity = omega arith in
     elim c.if-contains_inx.branch [
       | then-contains_inx+in_ok-recast_at w ↦
-          rw w.self-is (recast-next _ _ _ _ c.len.ensures.sound _ i at.invariant within _ (rw named at w.in_ok-recast_at.ensures))
+          rw w.self-is (recast-next _ _ _ _ c.capacity-capacity.ensures.sound _ i at.invariant within _ (rw named at w.in_ok-recast_at.ensures))
       | else-contains_inx w ↦
           let none = ap (λ n. is_some (entry_at at.self n)) (sym named) ∙ (sym c.contains_inx.ensures ∙ w.if-contains_inx.false) in
-          rw w.self-is (recast-vacant _ _ _ _ c.len.ensures.sound _ i at.invariant within (vacant_of (entry_at at.self i) none))
+          rw w.self-is (recast-vacant _ _ _ _ c.capacity-capacity.ensures.sound _ i at.invariant within (vacant_of (entry_at at.self i) none))
     ]
 
 pub returns : goal.returns

@@ -32,7 +32,7 @@ returns-clause-steps g c =
         first = rw made first;
         whole = whole-removed _ _ a c.remove.new.self i c.len.ensures.sound removal (g.P.BasePtr.numbers p).1 _ _ first;
         removed_list = rw made removal;
-        shape = subst (λ o. OnSome o (IsShrunk a.shape c.remove.new.self.shape)) valid c.remove.ensures.shape;
+        shape = subst (λ o. OnSome o (IsShrunk a.shape c.remove.new.self.shape)) valid c.remove.ensures.takes.shape;
         overflow = c.map.ensures.overflow ∙ (c.unwrap-taken.ensures.overflow
             ∙ subst (λ o. OnSome o (has_overflowed c.remove.result ≡ overflows_after g.P.Gen.BasePtrGen.greatest a.list.generation)) valid c.remove.ensures.removal.overflow);
         found = rw made (sym c.remove.ensures.removal.value ∙ valid);
