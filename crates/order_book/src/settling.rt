@@ -1,7 +1,7 @@
 //! What an order does to the two sides of a book.
 
 ghost use Rattle.std.specs.Prelude.{◌≡◌, ◌≢◌, ◌↔◌, ◌+◌, ◌<◌, ◌⊎◌, ℕ, Err, Some, None, length, vec_capacity, if◌then◌else◌};
-ghost use Rattle.std.specs.Prelude.{IfOk, OnOk, OnErr, IfSome};
+ghost use Rattle.std.specs.Prelude.{IfOk, OnOk, OnErr, IfSome, IsOk};
 ghost use Rattle.order_queue.specs.Queue.{most_entries, order_of, resting, with_left, HasRoomFor};
 ghost use Rattle.order_book.specs.Book.{limit_of, can_rest, dealt, deals, remainder, IsFull, LacksRoom, RestsOrNot};
 ghost use Rattle.order_book.specs.Layout.{Settles};
@@ -24,6 +24,7 @@ fn rest<A: Allocator>(
         ↔ ((0 < left) × (length own.old.orders ≡ most_entries)) }
     ensures memory { result ≡ Err ReallocationError.AllocError
         → (0 < left) × IsFull own.old × (length own.old.orders ≢ most_entries) }
+    ensures fits { HasRoomFor 1 own.old → IsOk result }
     ensures err { OnErr result (own.new ≡ own.old) }
 {
     if left == 0 {

@@ -1,7 +1,7 @@
 //! `OrderQueue`: the resting orders of one side.
 
 ghost use Rattle.std.specs.Prelude.{◌≡◌, ◌↔◌, ◌+◌, ◌-◌, ◌≤◌, ◌<◌, [], ◌++◌, Err, Some, None, length, vec_capacity};
-ghost use Rattle.std.specs.Prelude.{IfOk, OnOk, OnErr, OnSome, IfSome};
+ghost use Rattle.std.specs.Prelude.{IfOk, OnOk, OnErr, OnSome, IfSome, IsOk};
 ghost use Rattle.std.specs.Option.{option_map};
 ghost use Rattle.sorted_arena.specs.PlainArena.{capacity_for};
 ghost use Rattle.order_queue.specs.Queue.{most_entries, first_of, order_of, resting, within, traded, trades_of_first, taken, with_left, with_rest, reduced, reduced_order};
@@ -155,6 +155,7 @@ impl<A: Allocator> OrderQueue<A> {
             ↔ (length self.old.orders ≡ most_entries) }
         ensures memory { result ≡ Err ReallocationError.AllocError
             → length self.old.orders ≡ self.old.capacity }
+        ensures fits { HasRoomFor 1 self.old → IsOk result }
         ensures err { OnErr result (self.new ≡ self.old) }
     {
         let lot = Lot { quantity, tag };

@@ -239,10 +239,10 @@ impl<V: TimelineValue, A: Allocator> Timeline<V, A> {
             return Ok(());
         }
         let spare = make_room(&mut self.changes, until)?;
-        match paint(&mut self.changes, from, until, value, spare) {
-            Ok(()) => Ok(()),
-            Err(_) => Err(ReallocationError::AllocError),
-        }
+        let Ok(()) = paint(&mut self.changes, from, until, value, spare) else {
+            return Err(ReallocationError::AllocError);
+        };
+        Ok(())
     }
 }
 

@@ -1,7 +1,8 @@
-use Rattle.std.proofs.Common.{◌∙◌, refl, sym, ap, None, is_some}
+use Rattle.std.proofs.Common.{◌∙◌, refl, sym, ap, None, is_some, arith}
+use Rattle.std.proofs.lemmas.List.{length-map}
 use Rattle.std.specs.Option.{option_map}
 use Rattle.sorted_arena.proofs.CallerLemmas.{recursion-without}
-use Rattle.order_queue.specs.{Layout.IsLawful}
+use Rattle.order_queue.specs.{Layout.IsLawful, Layout.order_in}
 use Rattle.order_queue.proofs.Naming.{order_under, order_of-found, queue-without, updates-found}
 use Rattle.order_queue.proofs.queue.OrderQueue.remove.Goals as goal
 
@@ -42,4 +43,4 @@ returns-clause-gone g c =
     rw (← c.self.view_is, c.in_ok-rank.ensures.removes.gone) (queue-without c.self.inside.side c.self.inside.orders c.args.pointer c.self.invariant.distinct (ap is_some (sym c.in_ok-rank.ensures.value)))
 
 pub returns-clause-room : goal.returns-clause-room
-returns-clause-room g c = rw (← c.self.view_is) (omega (arith, c.in_ok-rank.ensures.removes.room, length-map c.remove.new.self.entries (order_in c.self.inside.side)))
+returns-clause-room g c = omega (arith, c.in_ok-rank.ensures.removes.room, length-map c.remove.new.self.entries (order_in c.self.inside.side))

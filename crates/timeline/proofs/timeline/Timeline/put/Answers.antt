@@ -4,17 +4,17 @@ use Rattle.timeline.specs.Layout.{change, changes_of}
 use Rattle.timeline.proofs.Painting.{painted-sets}
 use Rattle.timeline.proofs.timeline.Timeline.put.Goals as goal
 
-pub invariant_of-self-in-Ok : goal.invariant_of-self-in-Ok
-invariant_of-self-in-Ok g c =
+pub invariant_of-self-2 : goal.invariant_of-self-2
+invariant_of-self-2 g c =
     (painted-sets (changes_of c.self.inside.changes) _ c.args.from c.args.until c.args.value (changes_of c.paint.new.changes) c.self.invariant (ap (map change) c.make_room.ensures.entries) (c.is_empty.ensures.no c.if-is_empty.false) c.in-Ok.ensures.painted).1
 
-pub returns-in-Ok-clause-set : goal.returns-in-Ok-clause-set
-returns-in-Ok-clause-set g c =
+pub returns-clause-set : goal.returns-clause-set
+returns-clause-set g c =
     rw (← c.self.view_is)
     ((painted-sets (changes_of c.self.inside.changes) _ c.args.from c.args.until c.args.value (changes_of c.paint.new.changes) c.self.invariant (ap (map change) c.make_room.ensures.entries) (c.is_empty.ensures.no c.if-is_empty.false) c.in-Ok.ensures.painted).0)
 
-pub returns-in-Ok-clause-lawful : goal.returns-in-Ok-clause-lawful
-returns-in-Ok-clause-lawful g c =
+pub returns-clause-lawful : goal.returns-clause-lawful
+returns-clause-lawful g c =
     let are = (painted-sets (changes_of c.self.inside.changes) _ c.args.from c.args.until c.args.value (changes_of c.paint.new.changes) c.self.invariant (ap (map change) c.make_room.ensures.entries) (c.is_empty.ensures.no c.if-is_empty.false) c.in-Ok.ensures.painted).1 in
     let sound = c.paint.ensures.keeps.sound in
     record {
