@@ -9,7 +9,6 @@ use arena_base::{
 };
 use std::alloc::{AllocError, Allocator};
 
-// Most calls on `self` say that the list is sound, which the laws of an arena need. Before the others the length is asked, which says so too.
 #[tactic(auto, using(crate::specs::ContentLaws::slot_is, crate::specs::ContentLaws::item_is, crate::specs::ContentLaws::capacity_is, crate::specs::ContentLaws::len_is, crate::specs::ContentLaws::lawful_is, crate::specs::ContentLaws::content_removed, crate::specs::ContentLaws::content_renewed, crate::specs::ContentLaws::content_cleared))]
 impl<P: BasePtr, T, A: Allocator + Copy> ArenaTrait<P, T> for SimpleOrdArena<P, T, A> {
     type Alloc = A;
@@ -43,6 +42,7 @@ impl<P: BasePtr, T, A: Allocator + Copy> ArenaTrait<P, T> for SimpleOrdArena<P, 
     }
 
     fn reallocate_min_capacity(&mut self, n: usize) -> Result<(), ReallocationError> {
+        // For the prover: the list is sound.
         let _ = self.len();
         self.reallocate_min_capacity(n)
     }
@@ -76,6 +76,7 @@ impl<P: BasePtr, T, A: Allocator + Copy> ArenaTrait<P, T> for SimpleOrdArena<P, 
     }
 
     fn invalidate(&mut self, p: P) -> InvalidationResult<P> {
+        // For the prover: the list is sound.
         let _ = self.len();
         self.invalidate(p)
     }
