@@ -14,6 +14,6 @@ pub returns-clause-takes : goal.returns-clause-takes
 returns-clause-takes g c = record {
   sound = c.if-not-contains.ensures.sound;
   count = some_always _ (count-removed g.P.Gen.BasePtrGen.greatest c.args.self.now c.remove_entry.new.self (g.P.BasePtr.numbers c.args.p)
-    (sym c.if-not-contains.ensures.value) (rw (c.self.view_is, c.inx.ensures) at c.remove_entry.ensures.removal.removed));
+      (sym c.if-not-contains.ensures.value) (rw (c.self.view_is, c.inx.ensures) at c.remove_entry.ensures.removal.removed));
   shape = rw (← c.self.view_is) (some_always _ c.remove_entry.ensures.shape);
 }
