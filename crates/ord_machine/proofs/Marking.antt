@@ -2,7 +2,7 @@
 use Rattle.std.proofs.Common.{◌≡◌, ℕ, zero, suc, ◌==◌, cond, true, inl, inr, ◌∷◌, length, refl, sym, subst, arith, length-append}
 use Rattle.std.proofs.{lemmas.List.length-map, Math.Dec.eqb-suc-zero}
 use Rattle.triple_ord.specs.{Shape.Shape, Shape.missing, Shape.node, Shape.walk, Tree.Tree, Tree.IsSoundTree}
-use Rattle.ord_machine.specs.Machine.{Calls, Reading, State, Marks, Effect, adds, removes, moves, rebuilds, keeps, marked_by, AreTrue, settled, Does, effect_of, marks_after}
+use Rattle.ord_machine.specs.Machine.{Calls, Reading, State, Marks, Effect, adds, removes, moves, rebuilds, clears, keeps, marked_by, AreTrue, settled, Does, effect_of, marks_after}
 use Rattle.ord_machine.specs.{declared.command.Command.Command, declared.reply.Reply.Reply}
 use Rattle.ord_machine.proofs.{Outcomes.Affects, Outcomes.outcome, CallerLemmas.AreTrue-missing}
 
@@ -31,8 +31,8 @@ AreTrue-marked adds old new marks tight holds = record { only_inserted = λ e. t
 AreTrue-marked removes old new marks any holds = record { only_inserted = λ e. cc; just_built = λ e. cc }
 AreTrue-marked moves old new marks any holds = record { only_inserted = λ e. cc; just_built = λ e. cc }
 AreTrue-marked rebuilds old new marks rebuilt holds = record { only_inserted = λ e. cc; just_built = λ e. rebuilt }
-AreTrue-marked keeps old new marks (inl same) holds = subst (λ (s : Shape). AreTrue marks s) (sym same) holds
-AreTrue-marked keeps old new marks (inr none) holds = subst (λ (s : Shape). AreTrue marks s) (sym none) (AreTrue-missing marks)
+AreTrue-marked clears old new marks none holds = rw none (AreTrue-missing (record { only_inserted = true; just_built = true }))
+AreTrue-marked keeps old new marks same holds = subst (λ (s : Shape). AreTrue marks s) (sym same) holds
 
 -- so the marks after a step are true
 module _ {P T I G A F K : Type 0} (r : Reading P T I G K) (calls : Calls T F) (s : State T) (f : F) (command : Command P T I G K)

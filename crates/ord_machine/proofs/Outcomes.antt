@@ -22,7 +22,7 @@ use Rattle.triple_ord.proofs.CallerLemmas.{item_if-found, item_if-own}
 use Rattle.triple_ord.proofs.CallerLemmas.{kept_order, rekeyed_order, in_order-without, in_order-one, in_order-more, IsInOrder-rest}
 use Rattle.triple_ord.specs.{Rekey.Rekeys, Order.IsInOrder, OrderLaws.GoesBy, Insertion.InsertsBy}
 use Rattle.ord_machine.specs.declared.reply.Reply.TheVariants.{Inserted, Refused, Item, Removed, Renewed, Changed, Entries, Done, ReductionRefused}
-use Rattle.ord_machine.specs.Machine.{Calls, Reading, State, Effect, adds, removes, moves, rebuilds, keeps, told_effect, effect_of, Inserts, Does, IsTakenOut, entry_of, removed_each}
+use Rattle.ord_machine.specs.Machine.{Calls, Reading, State, Effect, adds, removes, moves, rebuilds, clears, keeps, told_effect, effect_of, Inserts, Does, IsTakenOut, entry_of, removed_each}
 use Rattle.ord_machine.specs.{Pointers.resets, Pointers.raises, Pointers.ReplacesAnother, Pointers.IsOfOthers, declared.reply.Reply.Reply}
 use Rattle.ord_machine.specs.{Ascending.IsPlacedByKey, Ascending.KeepsApart, InOrder.GoesByEqualKey, InOrder.KeepsInOrder, declared.command.Command.Command}
 use Rattle.ord_machine.specs.declared.command.Command.TheVariants as commands
@@ -138,7 +138,8 @@ Affects adds old new = (IsTight old → IsTight new) × (ChangesRanksWithin 4 ol
 Affects removes old new = ChangesRanksWithin 9 old new ⊎ (new ≡ old)
 Affects moves old new = ChangesRanksWithin 14 old new ⊎ (new ≡ old)
 Affects rebuilds old new = IsRebuilt new
-Affects keeps old new = (new ≡ old) ⊎ (new ≡ missing)
+Affects clears old new = new ≡ missing
+Affects keeps old new = new ≡ old
 
 -- and about the shape, the generation, if it isn't reset, and the order of the keys
 pub record Outcome {P T I G K : Type 0} (r : Reading P T I G K) (old new : Tree T) (effect : Effect) (back : Bool) (n : ℕ) (Of : ℕ × ℕ → Type 0) (Keeps InOrder : Type 0) : Type 0 where
@@ -234,7 +235,7 @@ module _ {P T I G K : Type 0} (r : Reading P T I G K) (s : State T) (new : Tree 
   alike (Inserted (New p) before) same = (λ tight. subst IsTight (sym same) tight, inr same)
   alike (Removed (Success taken)) same = inr same
   alike (Removed (GenerationOverflow taken)) same = inr same
-  alike reply same = inl same
+  alike reply same = same
 
   module _ {back : Bool} {Of : ℕ × ℕ → Type 0} {Keeps InOrder : Type 0} where
     still : {A : Type 0} (reply : Reply P T A I G) → new ≡ s.tree → Outcome r s.tree new (told_effect reply) back 0 Of Keeps InOrder
@@ -270,16 +271,16 @@ module _ {P T I G K : Type 0} (r : Reading P T I G K) (s : State T) (new : Tree 
     again : (q : ℕ × ℕ) → IsSome (item_of es q) → new ≡ record s.tree { list = renewed r.greatest s.tree.list q.0 } → ((p : ℕ × ℕ) → Of p → q ≢ p)
         → Outcome r s.tree new keeps back 1 Of Keeps InOrder
     again q there is apart = record {
-      affects = inl (ap (λ t. t.shape) is);
+      affects = ap (λ t. t.shape) is;
       raised = λ _. ap (λ t. t.list.generation) is;
       change = λ _. renews q.0 (rw is refl) (omega arith) (λ p here of. other_index es p q (apart p of) there here);
       ordered = λ _ _ _. in_order_alike (ap (λ (t : Tree T). map (λ e. r.key e.item) t.list.entries) is ∙ keys-renewed r.key es q.0 _);
     }
 
     gone : {n : ℕ} → new.shape ≡ missing → new.list.entries ≡ [] → new.list.generation ≡ risen r.greatest n s.tree.list.generation → 0 < n
-        → IsOfNone Of → Outcome r s.tree new keeps back n Of Keeps InOrder
+        → IsOfNone Of → Outcome r s.tree new clears back n Of Keeps InOrder
     gone bare none raised some of_none =
-        record { affects = inr bare; raised = λ _. raised; change = λ _. empties none some of_none; ordered = λ _ _ _ _. in_order_as none (in_order-none r.key r.cmp) }
+        record { affects = bare; raised = λ _. raised; change = λ _. empties none some of_none; ordered = λ _ _ _ _. in_order_as none (in_order-none r.key r.cmp) }
 
     -- the list keeps its entries, and the tree its shape
     alone-raised : {n : ℕ} (c : Chain T) → new ≡ record s.tree { list = c } → c.entries ≡ es
@@ -287,7 +288,7 @@ module _ {P T I G K : Type 0} (r : Reading P T I G K) (s : State T) (new : Tree 
     alone-raised c is same raised =
         let entries = ap (λ t. t.list.entries) is ∙ same in
         record {
-          affects = inl (ap (λ t. t.shape) is);
+          affects = ap (λ t. t.shape) is;
           raised = λ _. ap (λ t. t.list.generation) is ∙ raised;
           change = λ _. stays entries;
           ordered = λ _ _ _. in_order_as entries;
@@ -343,7 +344,7 @@ module _ {P T I G K : Type 0} (r : Reading P T I G K) (s : State T) (new : Tree 
     outcome-insertion (Inserted (Replacing q) (Some before)) does =
         let e = does.entry in
         record {
-          affects = inl (ap (λ t. t.shape) does.after);
+          affects = ap (λ t. t.shape) does.after;
           raised = λ _. ap (λ t. t.list.generation) does.after;
           change = λ distinct.
               let here = replaced-here distinct aim e does.place in
@@ -372,7 +373,7 @@ module _ {P T I G K : Type 0} (r : Reading P T I G K) (s : State T) (new : Tree 
       let there : IsSome (item_of es (r.pointer q)) = ap is_some (sym does.0.0) in
       let found = found-there es (r.pointer q) there in
       record {
-        affects = inl (ap (λ t. t.shape) does.0.1);
+        affects = ap (λ t. t.shape) does.0.1;
         raised = λ _. ap (λ t. t.list.generation) does.0.1;
         change = λ _. writes (r.pointer q).0 ((r.pointer q).1, found.0) item found.1 (ap (λ t. t.list.entries) does.0.1)
             (λ p here of. other_index es p (r.pointer q) of there here) (λ _ never. absurd never);

@@ -57,12 +57,13 @@ pub record Marks : Type 0 where
   -- since it was empty or rebuilt, no entry came, went or moved
   pub just_built : Bool
 
--- what a step does: it adds an entry, removes one, moves one, rebuilds the tree, or keeps the entries
+-- What a step does: it adds an entry, removes one, moves one, rebuilds the tree, takes all entries out, or keeps the tree as it is.
 pub data Effect : Type 0 where
   adds : Effect
   removes : Effect
   moves : Effect
   rebuilds : Effect
+  clears : Effect
   keeps : Effect
 
 -- the marks after such a step
@@ -71,6 +72,7 @@ marked_by adds marks = record { only_inserted = marks.only_inserted; just_built 
 marked_by removes marks = record { only_inserted = false; just_built = false }
 marked_by moves marks = record { only_inserted = false; just_built = false }
 marked_by rebuilds marks = record { only_inserted = false; just_built = true }
+marked_by clears marks = record { only_inserted = true; just_built = true }
 marked_by keeps marks = marks
 
 -- the state of the machine
@@ -340,7 +342,7 @@ module _ {P T I G A : Type 0} where
   Replies r old (commands.DrainOrdered num) reply new = Drains r.greatest r.pointer old.tree num reply new
   Replies r old command reply new = Tells r old command reply × (new ≡ old.tree)
 
-  -- the effect of a command by its reply; a failure keeps the entries
+  -- The effect of a command by its reply. A failure keeps the tree, and a drain takes all entries out.
   abbrev pub told_effect : Reply P T A I G → Effect
   told_effect (Inserted (New p) before) = adds
   told_effect (Removed (Success taken)) = removes
@@ -351,6 +353,8 @@ module _ {P T I G A : Type 0} where
   effect_of (commands.Rekey p item) (Item (Some before)) = moves
   effect_of (commands.Compress reset) reply = rebuilds
   effect_of (commands.Canonical reset) reply = rebuilds
+  effect_of commands.Clear reply = clears
+  effect_of (commands.DrainOrdered num) (Entries pairs) = clears
   effect_of command reply = told_effect reply
 
   -- the marks after a command and its reply; if no entry is left, both are true

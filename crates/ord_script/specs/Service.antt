@@ -1,5 +1,5 @@
 -- The answer to a script, and how much of it is written.
-use Rattle.std.specs.Prelude.{◌≡◌, ℕ, ◌+◌, ◌<◌, ◌≤◌, ◌||◌, Bool, true, false, List, [], ◌++◌, length, map, codes, Option, Some, None, Result, is_err}
+use Rattle.std.specs.Prelude.{◌≡◌, ℕ, ◌+◌, ◌<◌, ◌≤◌, ◌||◌, Bool, true, false, List, [], ◌∷◌, ◌++◌, length, map, codes, Option, Some, None, Result, is_err}
 use Rattle.std.specs.Io.KnownBytes.{Consumes, Appends}
 use Rattle.ord_script.specs.{Pairs.Pair, Pairs.PairReply, Pairs.reading, Pairs.beginning, Pairs.script_calls, declared.fault.Fault.Fault}
 use Rattle.ord_script.specs.{Text.form_of, Text.reply_lines, Text.fault_line, declared.script_end.ScriptEnd.ScriptEnd, Devices.limit}
@@ -68,18 +68,23 @@ status_of ends.Memory = 4
 status_of ends.ReadFailed = 5
 status_of ends.WriteFailed = 6
 
--- the line that such a program writes to standard error, or nothing
+-- what such a program says on standard error, if anything
 abbrev pub message_of : ScriptEnd → List ℕ
 message_of ends.Done = []
 message_of (ends.Fault line kind) = []
-message_of ends.TooLong = codes "ordrun: input too long\n"
-message_of ends.Memory = codes "ordrun: out of memory\n"
-message_of ends.ReadFailed = codes "ordrun: read failed\n"
-message_of ends.WriteFailed = codes "ordrun: write failed\n"
+message_of ends.TooLong = codes "ordrun: input too long"
+message_of ends.Memory = codes "ordrun: out of memory"
+message_of ends.ReadFailed = codes "ordrun: read failed"
+message_of ends.WriteFailed = codes "ordrun: write failed"
 
--- The message was written, or a beginning of it if a write failed. A watched device has failed if this write failed or an earlier one
--- did.
+-- a text as a line, which ends with a line feed; an empty text has no line
+abbrev pub line_of : List ℕ → List ℕ
+line_of [] = []
+line_of (b ∷ text) = b ∷ text ++ 10 ∷ []
+
+-- The message was written as a line, or a beginning of that line if a write failed. A watched device has failed if this write failed or an
+-- earlier one did.
 pub record Reports (end : ScriptEnd) (old_failed new_failed : Bool) (contents contents' : Option (List ℕ)) : Type 0 where
   pub wrote : Result (Unit {0}) WriteFailed
-  pub writes : WritesAll wrote contents contents' (message_of end)
+  pub writes : WritesAll wrote contents contents' (line_of (message_of end))
   pub failed : new_failed ≡ (old_failed || is_err wrote)

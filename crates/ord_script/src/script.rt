@@ -1,5 +1,5 @@
 //! Reading a whole script.
-ghost use Rattle.std.specs.Prelude.{◌≡◌, IfOk};
+ghost use Rattle.std.specs.Prelude.{◌≡◌, ◌≢◌, [], IfOk, OnErr};
 ghost use Rattle.ord_script.specs.Script.{script_of};
 
 use crate::cutting::first_line;
@@ -24,9 +24,14 @@ impl<A: Allocator> Model for Script<A> {
     ghost view = { λ a. record { commands = a.commands.items; fault = a.fault } };
 }
 
-/// Parses the bytes of a script.
+/// Parses the bytes of a script, in O(n) for n bytes.
+///
+/// # Errors
+///
+/// `AllocError`: memory for the commands is refused. A script without a command takes none.
 pub fn parse<A: Allocator>(alloc: A, bytes: &[u8]) -> Result<Script<A>, AllocError>
-    ensures { IfOk result (λ script. script ≡ script_of bytes.now) }
+    ensures script { IfOk result (λ script. script ≡ script_of bytes.now) }
+    ensures memory { OnErr result ((script_of bytes.now).commands ≢ []) }
 {
     let mut commands = Vec::new(alloc);
     let mut rest = bytes;

@@ -1,10 +1,10 @@
 //! How a script ends.
-ghost use Rattle.std.specs.Prelude.{◌≡◌};
+ghost use Rattle.std.specs.Prelude.{◌≡◌, []};
 ghost use Rattle.ord_script.specs.Service.{status_of, message_of, Reports};
 
 use crate::fault::FaultKind;
 use crate::watched::Watched;
-use crate::writing::write_all;
+use crate::writing::write_line;
 use std::io::Write;
 
 /// How a script ended, and what was written.
@@ -39,28 +39,34 @@ impl ScriptEnd {
         }
     }
 
-    /// Returns the line for standard error; empty if there is none.
+    /// Returns what the program says on standard error at this end, without a line feed; the empty text if it says nothing.
     pub fn message(&self) -> &'static str
         ensures { result.now ≡ message_of self.now }
     {
         match self {
             ScriptEnd::Done | ScriptEnd::Fault(_, _) => "",
-            ScriptEnd::TooLong => "ordrun: input too long\n",
-            ScriptEnd::Memory => "ordrun: out of memory\n",
-            ScriptEnd::ReadFailed => "ordrun: read failed\n",
-            ScriptEnd::WriteFailed => "ordrun: write failed\n",
+            ScriptEnd::TooLong => "ordrun: input too long",
+            ScriptEnd::Memory => "ordrun: out of memory",
+            ScriptEnd::ReadFailed => "ordrun: read failed",
+            ScriptEnd::WriteFailed => "ordrun: write failed",
         }
     }
 
-    /// Writes the message of this end to standard error, or to a device in its place, and returns the exit status.
+    /// Writes the message of this end as a line to standard error, or to a device in its place, and returns the exit status.
     ///
-    /// If a write fails, the rest of the message is lost, and the status is the same.
+    /// The line is the message and a line feed; an empty message has no line, and then the device isn't asked. If a write fails, the rest of
+    /// the line is lost, and the status is the same.
     pub fn report<E: Write>(&self, errors: &mut Watched<E>) -> u8
         ensures status { result ≡ status_of self.now }
         ensures message { Reports self.now errors.old.failed errors.new.failed
             (E.contents errors.old.device) (E.contents errors.new.device) }
+        ensures quiet { message_of self.now ≡ [] → errors.new ≡ errors.old }
     {
-        let _ = write_all(errors, self.message().as_bytes());
+        let message = self.message();
+        if message.is_empty() {
+            return self.status();
+        }
+        let _ = write_line(errors, message);
         self.status()
     }
 }

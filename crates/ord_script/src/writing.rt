@@ -1,5 +1,5 @@
 //! Writing a whole text, without retries.
-ghost use Rattle.std.specs.Prelude.{◌≡◌, ◌||◌, is_err};
+ghost use Rattle.std.specs.Prelude.{◌≡◌, ◌||◌, ◌∷◌, ◌++◌, [], is_err};
 ghost use Rattle.ord_script.specs.Devices.{WritesAll};
 
 use crate::watched::Watched;
@@ -24,4 +24,15 @@ pub fn write_all<W: Write>(writer: &mut Watched<W>, bytes: &[u8]) -> Result<(), 
         }
     }
     Ok(())
+}
+
+/// Writes the text and a line feed, until the writer fails.
+pub fn write_line<W: Write>(writer: &mut Watched<W>, text: &str) -> Result<(), WriteFailed>
+    ensures bytes { WritesAll result
+        (W.contents writer.old.device) (W.contents writer.new.device) (text.now ++ 10 ∷ []) }
+    ensures failed { writer.new.failed ≡ (writer.old.failed || is_err result) }
+    ensures ended { writer.new.ended ≡ writer.old.ended }
+{
+    write_all(writer, text.as_bytes())?;
+    write_all(writer, b"\n")
 }

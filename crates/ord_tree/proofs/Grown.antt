@@ -3,10 +3,11 @@ use Rattle.std.proofs.Common.{◌≡◌, ◌≢◌, ℕ, ◌+◌, ◌<◌, ◌^�
 use Rattle.std.proofs.{lemmas.Grind.common_steps, lemmas.List.length-map, lemmas.Bool.eq-eqb}
 use Rattle.chain_base.specs.Chain.{Entry, Chain, entry_at, times as entry_times, IsFresh, IsSound, IsDistinct, inserted}
 use Rattle.chain_base.specs.{declared.chain.insert.LinkInsertKind.LinkInsertKind, Insert.placed, Insert.CanPlace, Insert.IsInsertion}
-use Rattle.ord_tree.specs.{LeafBranch.kind_at, LeafBranch.IsLeafBranch, LeafBranch.IsLeafBranchAt, Balance.IsBalanced}
+use Rattle.std.specs.declared.cmp.Ordering.{Ordering, TheVariants.Less, TheVariants.Equal, TheVariants.Greater}
+use Rattle.ord_tree.specs.{LeafBranch.kind_at, LeafBranch.sided, LeafBranch.IsLeafBranch, LeafBranch.IsLeafBranchAt, Balance.IsBalanced}
 use Rattle.ord_tree.specs.{Node.bare_entry, Node.bare, Node.links_in, Node.slots_of, Node.indexes, declared.tree_links.Branch.Branch, declared.tree_links.Side.Side}
 use Rattle.ord_tree.specs.{declared.node.SimpleOrdArenaNode.SimpleOrdArenaNode as Node, Shape.Shape, Shape.missing, Shape.node}
-use Rattle.ord_tree.specs.{Slots.Holds, Slots.times, Slots.IsOnce, Slots.shape_under, Tree.put_on, Tree.put_at, Tree.CanPutAt, Tree.IsGrown}
+use Rattle.ord_tree.specs.{Slots.Holds, Slots.times, Slots.IsOnce, Slots.shape_under, Tree.put_on, Tree.put_at, Tree.CanPutAt, Tree.insert_at, Tree.CanInsertAt, Tree.IsGrown}
 use Rattle.ord_tree.specs.{Leaf.beside, Leaf.leaf_links, Leaf.IsNewLeaf, Layout.shape_in, Layout.IsLaidOut, Promote.IsRepaired}
 use Rattle.ord_tree.specs.{Ranks.IsTight, Potential.potential, Account.IsSpelledWithin, Account.rank_in}
 use Rattle.ord_tree.proofs.{RankChanges.ChangesRanksWithin-spelled, Potentials.node_potential-full}
@@ -26,6 +27,20 @@ module _ (P G : Type 0) {T I : Type 0} (number : I → ℕ) where
   pub CanPlace-put : (at : Option (I × Side)) (c : Chain T) → CanPutAt number at c → CanPlace {P = P} {G = G} number (kind_at at) c
   CanPlace-put None c h = h
   CanPlace-put (Some at) c h = grind (arith, common_steps)
+
+-- a place that is named by an order, and the same place by its side
+module _ {T I : Type 0} (number : I → ℕ) where
+  pub CanPutAt-sided : (at : Option (I × Ordering)) (c : Chain T) → CanInsertAt number at c → CanPutAt number (sided at) c
+  CanPutAt-sided None c h = h
+  CanPutAt-sided (Some (i, Less)) c h = h
+  CanPutAt-sided (Some (i, Equal)) c h = absurd h
+  CanPutAt-sided (Some (i, Greater)) c h = h
+
+  pub put_at-sided : (at : Option (I × Ordering)) (c : Chain T) → CanInsertAt number at c → put_at number (sided at) c.entries ≡ insert_at number at c.entries
+  put_at-sided None c h = refl
+  put_at-sided (Some (i, Less)) c h = refl
+  put_at-sided (Some (i, Equal)) c h = absurd h
+  put_at-sided (Some (i, Greater)) c h = refl
 
 -- the chain after an insertion
 module _ {T : Type 0} where

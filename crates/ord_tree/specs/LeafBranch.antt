@@ -1,10 +1,18 @@
 -- The place of a new entry in the list and in the tree. No public clause cites this file.
 use Rattle.std.specs.Prelude.{◌≡◌, ℕ, ◌<◌, Option, None, Some, IsSomeAnd, List}
+use Rattle.std.specs.declared.cmp.Ordering.{Ordering, TheVariants.Less, TheVariants.Equal, TheVariants.Greater as IsGreater}
 use Rattle.chain_base.specs.declared.chain.insert.LinkInsertKind.TheVariants.{Disconnected, NextToInx, PrevToInx}
 use Rattle.chain_base.specs.declared.chain.insert.LinkInsertKind.{LinkInsertKind}
 use Rattle.ord_tree.specs.declared.tree_links.Side.TheVariants.{Lesser, Greater}
 use Rattle.ord_tree.specs.{declared.tree_links.TreeLinks.TreeLinks, declared.tree_links.Branch.Branch, declared.tree_links.Side.Side}
 use Rattle.ord_tree.specs.{Slots.Slots, Slots.times, TreeLinks.child_at, Leaf.beside}
+
+-- the place that an insertion names, with its side; an order that isn't `Less` counts as `Greater`
+abbrev pub sided : {I : Type 0} → Option (I × Ordering) → Option (I × Side)
+sided None = None
+sided (Some (i, Less)) = Some (i, Lesser)
+sided (Some (i, Equal)) = Some (i, Greater)
+sided (Some (i, IsGreater)) = Some (i, Greater)
 
 -- the place in the chain before or after an entry
 abbrev pub kind_on : {P I G : Type 0} → Side → I → LinkInsertKind P I G

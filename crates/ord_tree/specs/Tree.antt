@@ -1,5 +1,6 @@
 -- A tree as its users see it: a list of entries, with a shape.
 use Rattle.std.specs.Prelude.{◌≡◌, ◌<◌, ℕ, Bool, Option, None, Some, IsSome, Result, IfOk, OnOk, List, [], ◌∷◌, length, refl}
+use Rattle.std.specs.declared.cmp.Ordering.{Ordering, TheVariants.Less, TheVariants.Equal, TheVariants.Greater}
 use Rattle.std.specs.Coded.{Coded, code_by, coded×, coded_ℕ, coded_list, coded_option}
 use Rattle.chain_base.specs.{InvalidationOption.InvalidationOption, ArenaCompression.compressed_generation, ArenaCompression.compression_overflows}
 use Rattle.chain_base.specs.{Insert.IsInsertion, Link.Link, PlainArena.Arena, Invalidation.is_overflow}
@@ -68,6 +69,20 @@ put_at number (Some at) es new = put_on at.1 (number at.0) es new
 abbrev pub CanPutAt : {I T : Type 0} → (I → ℕ) → Option (I × Side) → Chain T → Type 0
 CanPutAt number None c = c.entries ≡ []
 CanPutAt number (Some at) c = IsOccupied c (number at.0)
+
+-- An insertion can go there: as the only entry of an empty list, else directly before (`Less`) or after (`Greater`) an entry.
+abbrev pub CanInsertAt : {I T : Type 0} → (I → ℕ) → Option (I × Ordering) → Chain T → Type 0
+CanInsertAt number None c = c.entries ≡ []
+CanInsertAt number (Some (i, Less)) c = IsOccupied c (number i)
+CanInsertAt number (Some (i, Equal)) c = ⊥
+CanInsertAt number (Some (i, Greater)) c = IsOccupied c (number i)
+
+-- the list with a new entry there; `Equal` names no place
+abbrev pub insert_at : {I T : Type 0} → (I → ℕ) → Option (I × Ordering) → List (Entry T) → Entry T → List (Entry T)
+insert_at number None es new = new ∷ es
+insert_at number (Some (i, Less)) es new = insert_before (number i) new es
+insert_at number (Some (i, Equal)) es new = es
+insert_at number (Some (i, Greater)) es new = insert_after (number i) new es
 
 -- A call that returns a number of the tree also says that its list and the tree are sound.
 pub record Measures {T : Type 0} (most : ℕ) (greatest : Option ℕ) (t : Tree T) (result measure : ℕ) : Type 0 where

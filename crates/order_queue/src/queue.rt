@@ -20,7 +20,7 @@ use std::marker::Model;
 /// [`len`](Self::len) promises what holds of every queue: the list is in order, no pointer names two orders, of each something is left, and
 /// all fit in the capacity.
 ///
-/// Only `put` and `reserve` take memory, and `offer` if the caller's list of trades grows. In the docs n is the number of orders.
+/// In the docs n is the number of orders.
 #[derive(Drop)]
 pub struct OrderQueue<A: Allocator = Global> {
     side: Side,

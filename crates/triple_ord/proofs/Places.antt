@@ -1,7 +1,7 @@
 -- The place of an insertion, from the answer of a search or from an index.
 use Rattle.triple_ord.proofs.Words.{◌≡◌, ◌≢◌, ◌==◌, if◌then◌else◌, IfNone, is_some, ℕ, ◌+◌, ◌≤◌, false, true, length, List, [], ◌∷◌, ◌++◌, Option, Some, None, IsSome, Result, Ok, Err, IfErr, refl, sym, ap, ◌∙◌, arith, append_assoc, eq-eqb}
 use Rattle.triple_ord.proofs.Words.{after, with_between, FindsSimilar, taken, Ties, Sought, Passed, Aim, alone, at_key, behind_key, beside, Place, into, over, nowhere, IsPlace, aim_of, Growth, Within, Reallocating, Side, Lesser, OnGreater, slice_get_cases}
-use Rattle.triple_ord.proofs.Words.{insert_after, insert_before, with_room_by, Entry, Chain, entry_at, next_index, IsDistinct, IsSound, IsInsertion, Tree, IsGrown, put_on, put_at, nat_tests, nil_from_length, IfSome_then, option_map, Ordering, Less, Equal}
+use Rattle.triple_ord.proofs.Words.{insert_after, insert_before, with_room_by, Entry, Chain, entry_at, next_index, IsDistinct, IsSound, IsInsertion, Tree, IsGrown, put_on, put_at, insert_at, nat_tests, nil_from_length, IfSome_then, option_map, Ordering, Less, Equal, ◌⊎◌, inl, inr}
 use Rattle.triple_ord.proofs.Words.{Greater, IsErrAnd, with_item, item_of, count, Updates, IsNearHint, IsWithinBounds, IsWithinHintedBounds, Gap, before, LacksSlot, IsRefused, InsertsBeside, OrdInsertKind, OrdInsertionError}
 use Rattle.triple_ord.proofs.Inserting.{last_of-append, stands, HasPlace, place-alone, similar-placed, similar-occupied, similar-here, similar-first, similar-seen, IsInsertion-same, put_before, put_after}
 use Rattle.triple_ord.proofs.{CallerLemmas.entries-with_room_by, CallerLemmas.updates-written, CallerLemmas.count-written, CallerLemmas.inserted-new, OrderLaws.taken-less, OrderLaws.taken-greater, OrderLaws.passed-unequal}
@@ -14,12 +14,16 @@ use Rattle.triple_ord.specs.{declared.error.OrdInsertionError.TheVariants.Beyond
 pub item_here : {T : Type 0} (t : Tree T) (i : ℕ) (x : ℕ × T) → entry_at t.list.entries i ≡ Some x → IsSome (item_of t (i, x.0))
 item_here t i x there = rw (there, eq-eqb x.0 x.0 refl) refl
 
--- the order that a side is named by
-pub side-order : (o : Ordering) (side : Side) → side_by o ≡ Some side → o ≡ order_on side
-side-order o side is = grind (arith, common_steps)
+-- an order that isn't `Equal` names a side
+pub side-named : (o : Ordering) → (o ≡ Less) ⊎ (o ≡ Greater) → (side : Side) × (o ≡ order_on side)
+side-named o (inl less) = (Lesser, less)
+side-named o (inr greater) = (OnGreater, greater)
 
-pub side-none : (o : Ordering) → side_by o ≡ None → o ≡ Equal
-side-none o is = grind (arith, common_steps)
+-- a place beside an entry by the order to it, and by the side
+module _ {T I : Type 0} (number : I → ℕ) where
+  pub insert_at-on : (i : I) (side : Side) (es : List (Entry T)) → insert_at number (Some (i, order_on side)) es ≡ put_on side (number i) es
+  insert_at-on i Lesser es = refl
+  insert_at-on i OnGreater es = refl
 
 -- a side of the entry with an index is a gap
 module _ {T K : Type 0} (key : T → K) (cmp : K → K → Ordering) (es : List (Entry T)) (i : ℕ) (there : IsSome (entry_at es i)) where

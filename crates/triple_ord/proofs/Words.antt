@@ -34,7 +34,7 @@ pub use Rattle.ord_tree.specs.{ChainCompression.rising_among, ChainCompression.e
 pub use Rattle.ord_tree.proofs.CallerLemmas.{entry_at-bare, times-bare, indexes-bare, size_of-walk, height-le-size}
 pub use Rattle.ord_tree.specs.{Numbers.fib, Numbers.IsTop, declared.node.SimpleOrdArenaNode.SimpleOrdArenaNode}
 pub use Rattle.ord_tree.specs.Shape.{Shape, missing, node, root_of, walk, size_of, rank_of, height}
-pub use Rattle.ord_tree.specs.Tree.{Tree, IsChainOf, IsSoundTree, IsGrown, with_item, put_on, put_at, IsShrunk}
+pub use Rattle.ord_tree.specs.Tree.{Tree, IsChainOf, IsSoundTree, IsGrown, with_item, put_on, put_at, insert_at, IsShrunk}
 pub use Rattle.triple_ord.specs.Arena.{item_of, items, count, Updates, Renews, FindsBy, IsOfGeneration, IsNumbered, FindsNothing}
 pub use Rattle.triple_ord.specs.ClosureSearch.{Shown, where_equal, FindsWith, entries_of, but_last, IsSearch, similar_of, FindsSimilarWith}
 pub use Rattle.triple_ord.specs.{ClosureSearch.Asks, Content.slots_from, Content.content_of}

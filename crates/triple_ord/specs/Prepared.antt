@@ -35,8 +35,13 @@ abbrev pub beside_by : {P : Type 0} → Option (P × Ordering) → Option (P × 
 beside_by None = None
 beside_by (Some a) = option_map (λ side. (a.0, side)) (side_by a.1)
 
+-- a place beside an entry, with the order to that entry in place of the side
+abbrev pub by_order : {P : Type 0} → Option (P × Side) → Option (P × Ordering)
+by_order None = None
+by_order (Some a) = Some (a.0, order_on a.1)
+
 -- a place beside an entry, with the number of the entry's name
-abbrev pub by_number : {I : Type 0} → (I → ℕ) → Option (I × Side) → Option (ℕ × Side)
+abbrev pub by_number : {I : Type 0} → (I → ℕ) → Option (I × Ordering) → Option (ℕ × Ordering)
 by_number number None = None
 by_number number (Some a) = Some (number a.0, a.1)
 

@@ -1,6 +1,6 @@
 //! The place of an insertion, before and after its pointer is known.
 ghost use Rattle.std.specs.Prelude.{◌≡◌};
-ghost use Rattle.triple_ord.specs.Prepared.{place_at, side_by};
+ghost use Rattle.triple_ord.specs.Prepared.{order_on, place_at, side_by};
 
 use crate::entry_kind::OrdEntryKind;
 use crate::visits::Visits;
@@ -35,6 +35,16 @@ pub(crate) fn side_by(order: Ordering) -> Option<Side>
         Ordering::Less => Some(Side::Lesser),
         Ordering::Equal => None,
         Ordering::Greater => Some(Side::Greater),
+    }
+}
+
+/// Returns the order to an entry of what stands on that side of it.
+pub(crate) fn order_on(side: Side) -> Ordering
+    ensures { result ≡ order_on side }
+{
+    match side {
+        Side::Lesser => Ordering::Less,
+        Side::Greater => Ordering::Greater,
     }
 }
 

@@ -8,7 +8,7 @@ ghost use Rattle.triple_ord.specs.Order.{IsInOrder};
 
 use std::alloc::Global;
 use triple_ord::order_laws::rekey_order_law;
-use triple_ord::{OrdInsertKind, OrdInsertionError, OrdPair, P0, SimpleOrdArena};
+use triple_ord::{Advancer, OrdInsertKind, OrdInsertionError, OrdPair, P0, SimpleOrdArena};
 
 /// Users by the deadline of their session. Sessions may end at the same time.
 pub type Sessions = SimpleOrdArena<P0, OrdPair<u64, u64>>;
@@ -73,6 +73,26 @@ pub fn shorten(sessions: &mut Sessions, token: P0, by: u64) -> bool
         *session = OrdPair::new(deadline, *session.v());
     }
     sessions.reposition(token)
+}
+
+/// Returns the token and the deadline of the last session whose deadline has come, in O(log n).
+pub fn last_due(sessions: &Sessions, now: u64) -> Option<(P0, u64)>
+    ensures due { IfSome result (λ last. last.1 ≤ now) }
+    ensures named { IfSome result
+        (λ last. option_map (λ s. s.0) (item_of sessions.now last.0) ≡ Some last.1) }
+{
+    let (beside, order) = sessions.find_behind_key(&now)?;
+    let mut back = sessions.advancer_ordered(beside, true)?;
+    let mut token = back.advance(sessions)?;
+    if order.is_lt() {
+        token = back.advance(sessions)?;
+    }
+    let deadline = *sessions.get(token)?.k();
+    if deadline <= now {
+        Some((token, deadline))
+    } else {
+        None
+    }
 }
 
 /// Ends the first session if its deadline has come, and returns its user.

@@ -3,6 +3,7 @@ use arena_base::{Advancer, BasePtr, InsertionError, ItemsMut, P0};
 use chain_base::ChainPtrAdvancer;
 use ord_tree::{OrdTree, Side};
 use std::alloc::{Allocator, Global};
+use std::cmp::Ordering;
 
 pub(super) type Keys<A = Global> = OrdTree<P0, u8, A>;
 
@@ -77,6 +78,11 @@ pub(super) fn insert_at<A: Allocator>(
     if !is_there {
         return None;
     }
+    let at = match at {
+        None => None,
+        Some((index, Side::Lesser)) => Some((index, Ordering::Less)),
+        Some((index, Side::Greater)) => Some((index, Ordering::Greater)),
+    };
     Some(tree.insert_reallocating(at, key))
 }
 

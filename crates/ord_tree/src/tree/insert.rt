@@ -9,9 +9,9 @@ ghost use Rattle.ord_tree.specs.Leaf.{neighbour_in, beside, IsNewLeaf};
 ghost use Rattle.ord_tree.specs.Potential.{potential};
 ghost use Rattle.ord_tree.specs.Promote.{IsRepaired};
 ghost use Rattle.ord_tree.specs.Account.{IsSpelledWithin, rank_in};
-ghost use Rattle.ord_tree.specs.Tree.{put_at, CanPutAt, InsertsItem};
+ghost use Rattle.ord_tree.specs.Tree.{put_at, insert_at, CanPutAt, CanInsertAt, InsertsItem};
 ghost use Rattle.ord_tree.specs.Layout.{IsLaidOut};
-ghost use Rattle.ord_tree.specs.LeafBranch.{kind_at, IsLeafBranch, IsLeafBranchAt};
+ghost use Rattle.ord_tree.specs.LeafBranch.{kind_at, sided, IsLeafBranch, IsLeafBranchAt};
 
 use super::OrdTree;
 use crate::leaf::add_leaf;
@@ -22,10 +22,11 @@ use crate::tree_links::{Branch, Side};
 use arena_base::{BasePtr, InsertionError};
 use chain_base::{ChainArena, LinkInsertKind};
 use std::alloc::Allocator;
+use std::cmp::Ordering;
 
 impl<P: BasePtr, T: Drop, A: Allocator> OrdTree<P, T, A> {
-    /// Inserts an item directly on a side of the entry at an index, or as the only entry (`None`), and returns
-    /// its pointer.
+    /// Inserts an item directly before (`Less`) or after (`Greater`) the entry at an index, or as the only entry (`None`), and returns its
+    /// pointer. The order is never `Equal`.
     ///
     /// It takes the slot freed last, or else the least one never used, and has the arena's generation. Takes no memory.
     ///
@@ -36,9 +37,21 @@ impl<P: BasePtr, T: Drop, A: Allocator> OrdTree<P, T, A> {
     #[inline(always)]
     pub fn insert_within_capacity(
         &mut self,
-        at: Option<(P::Inx, Side)>,
+        at: Option<(P::Inx, Ordering)>,
         t: T,
     ) -> Result<P, InsertionError>
+        requires { CanInsertAt P.Inx.number at self.old.list }
+        ensures { InsertsItem P.numbers self.old.list self.old self.new
+            (insert_at P.Inx.number at self.old.list.entries) t result
+            (FailsIfFull (length self.old.list.entries) self.old.list.capacity result
+            (self.new ≡ self.old)) }
+    {
+        self.put_within_capacity(sided(at), t)
+    }
+
+    // Inserts an item directly on a side of the entry at an index, or as the only entry.
+    #[inline(always)]
+    fn put_within_capacity(&mut self, at: Option<(P::Inx, Side)>, t: T) -> Result<P, InsertionError>
         requires { CanPutAt P.Inx.number at self.old.list }
         ensures { InsertsItem P.numbers self.old.list self.old self.new
             (put_at P.Inx.number at self.old.list.entries) t result
@@ -70,18 +83,30 @@ impl<P: BasePtr, T: Drop, A: Allocator> OrdTree<P, T, A> {
     /// - `AllocError`: growing failed.
     pub fn insert_reallocating(
         &mut self,
-        at: Option<(P::Inx, Side)>,
+        at: Option<(P::Inx, Ordering)>,
         t: T,
     ) -> Result<P, InsertionError>
-        requires { CanPutAt P.Inx.number at self.old.list }
+        requires { CanInsertAt P.Inx.number at self.old.list }
         ensures { InsertsItem P.numbers (with_room P.Inx.most self.old.list) self.old self.new
-            (put_at P.Inx.number at self.old.list.entries) t result
+            (insert_at P.Inx.number at self.old.list.entries) t result
             (FailsOnlyIfFull (length self.old.list.entries) self.old.list.capacity
             (chain_limit P.Inx.most self.old.list) result (self.new ≡ self.old)) }
     {
         self.make_room()?;
         self.insert_within_capacity(at, t)
     }
+}
+
+// The place with its side; an order that isn't `Less` counts as `Greater`.
+fn sided<I: Copy>(at: Option<(I, Ordering)>) -> Option<(I, Side)>
+    ensures { result ≡ sided at }
+{
+    let (i, order) = at?;
+    let side = match order {
+        Ordering::Less => Side::Lesser,
+        Ordering::Equal | Ordering::Greater => Side::Greater,
+    };
+    Some((i, side))
 }
 
 // The node of a branch.

@@ -5,7 +5,7 @@ ghost use Rattle.std.specs.declared.cmp.Ordering.TheVariants.{Equal};
 ghost use Rattle.ord_tree.specs.Chain.{IsOccupied};
 ghost use Rattle.triple_ord.specs.Arena.{entry_at, count, Updates};
 ghost use Rattle.ord_tree.specs.Insert.{IsInsertion};
-ghost use Rattle.ord_tree.specs.Tree.{CanPutAt, IsGrown, put_at};
+ghost use Rattle.ord_tree.specs.Tree.{CanInsertAt, IsGrown, insert_at};
 ghost use Rattle.triple_ord.specs.Insertion.{with_room_by, LacksSlot, InsertsByKey, InsertsBeside};
 ghost use Rattle.triple_ord.specs.declared.growth.Growth.TheVariants.{Within, Reallocating};
 
@@ -14,9 +14,7 @@ use crate::error::OrdInsertionError;
 use crate::growth::Growth;
 use crate::insert_kind::OrdInsertKind;
 use crate::item::SimpleOrdItem;
-use crate::prepared::side_by;
 use arena_base::BasePtr;
-use ord_tree::Side;
 use std::alloc::Allocator;
 use std::cmp::Ordering;
 
@@ -101,19 +99,21 @@ impl<P: BasePtr, T: Drop, A: Allocator> SimpleOrdArena<P, T, A> {
             ≡ (if is_some before then count self.old else count self.old + 1)) }
         ensures refused { OnErr result (self.new ≡ self.old) }
     {
-        let Some(side) = side_by(direction) else {
-            return Ok(Some(self.replace(p, t)));
-        };
-        self.put_growing((p, side), t)?;
-        Ok(None)
+        match direction {
+            Ordering::Equal => Ok(Some(self.replace(p, t))),
+            Ordering::Less | Ordering::Greater => {
+                self.put_growing((p, direction), t)?;
+                Ok(None)
+            }
+        }
     }
 
-    // Inserts a new entry directly beside another.
-    fn put_growing(&mut self, at: (P::Inx, Side), t: T) -> Result<P, OrdInsertionError>
-        requires { CanPutAt P.Inx.number (Some at) self.old.list }
+    // Inserts a new entry directly before or after another.
+    fn put_growing(&mut self, at: (P::Inx, Ordering), t: T) -> Result<P, OrdInsertionError>
+        requires { CanInsertAt P.Inx.number (Some at) self.old.list }
         ensures inserted { IfOk result
             (λ p. IsInsertion (with_room_by Reallocating P.Inx.most self.old.list) self.new.list
-            (put_at P.Inx.number (Some at) self.old.list.entries)
+            (insert_at P.Inx.number (Some at) self.old.list.entries)
             t (P.numbers p).0 (P.numbers p).1) }
         ensures grown { OnOk result (IsGrown self.old.shape self.new.shape) }
         ensures refused { IfErr result (LacksSlot Reallocating P.Inx.most self.old.list) }

@@ -10,7 +10,7 @@ ghost use Rattle.triple_ord.specs.EntryKind.{pointer_of_kind};
 ghost use Rattle.triple_ord.specs.Insertion.{IsRefused, MakesRoom};
 ghost use Rattle.triple_ord.specs.declared.growth.Growth.TheVariants.{Reallocating};
 ghost use Rattle.triple_ord.specs.Place.{aim_of, kind_now};
-ghost use Rattle.triple_ord.specs.Prepared.{HasRoomAt, IsReady, by_number};
+ghost use Rattle.triple_ord.specs.Prepared.{HasRoomAt, IsReady, by_order, by_number};
 
 use super::SimpleOrdArena;
 use crate::entry_kind::OrdEntryKind;
@@ -18,10 +18,11 @@ use crate::error::OrdInsertionError;
 use crate::growth::Growth;
 use crate::insert_kind::OrdInsertKind;
 use crate::item::SimpleOrdItem;
-use crate::prepared::{InsertPlace, Prepared};
+use crate::prepared::{InsertPlace, Prepared, order_on};
 use arena_base::{BasePtr, ItemsMut};
 use ord_tree::Side;
 use std::alloc::Allocator;
+use std::cmp::Ordering;
 use std::mem;
 
 // Inlined into `insert` and `entry_insert`, so that growth and kind are known, only one search remains, and the prepared place stays in
@@ -99,7 +100,7 @@ impl<P: BasePtr, T: Drop, A: Allocator> SimpleOrdArena<P, T, A> {
             t (P.numbers result).0 (P.numbers result).1 }
         ensures grown { IsGrown self.old.shape self.new.shape }
     {
-        let at = index_beside(at);
+        let at = place_beside(at);
         self.tree.insert_within_capacity(at, t).unwrap()
     }
 
@@ -134,12 +135,12 @@ impl<P: BasePtr, T: Drop, A: Allocator> SimpleOrdArena<P, T, A> {
     }
 }
 
-// The index of the entry beside which a new one goes, and the side.
-fn index_beside<P: BasePtr>(at: Option<(P, Side)>) -> Option<(P::Inx, Side)>
-    ensures { by_number P.Inx.number result ≡ by_number (λ p. (P.numbers p).0) at }
+// The index of the entry beside which a new one goes, and the order of the new one to it.
+fn place_beside<P: BasePtr>(at: Option<(P, Side)>) -> Option<(P::Inx, Ordering)>
+    ensures { by_number P.Inx.number result ≡ by_number (λ p. (P.numbers p).0) (by_order at) }
 {
     let (p, side) = at?;
-    Some((p.inx(), side))
+    Some((p.inx(), order_on(side)))
 }
 
 impl<P: BasePtr, T, A: Allocator> SimpleOrdArena<P, T, A> {

@@ -48,6 +48,19 @@ fn find_similar_key_compares(a: &CountingKeys, wanted: &Counting) -> Option<u128
     }
 }
 
+/// The same for a search for the place behind a key.
+fn find_behind_key_compares(a: &CountingKeys, wanted: &Counting) -> Option<u128> {
+    let (beside, visits) = a.find_behind_key_counted(wanted);
+    let compared = taken(wanted.comparisons);
+    let plain = a.find_behind_key(wanted);
+    let are_alike = plain == beside && taken(wanted.comparisons) == compared;
+    if are_alike && compared == visits.count() {
+        Some(compared)
+    } else {
+        None
+    }
+}
+
 #[test]
 fn searches_and_insertions_make_one_comparison_per_visit(rt: HostRuntime) {
     let made = Cell::new(0u128);
@@ -60,6 +73,7 @@ fn searches_and_insertions_make_one_comparison_per_visit(rt: HostRuntime) {
         };
         let visits = find_key_compares(&a, &wanted);
         assert!(rt; visits.is_some() && visits == find_similar_key_compares(&a, &wanted));
+        assert!(rt; find_behind_key_compares(&a, &wanted).is_some());
         assert!(rt; is_inserted(&mut a, wanted));
         assert!(rt; Some(taken(comparisons)) == visits);
     }

@@ -1,6 +1,11 @@
 //! Entries that move to the place of another key and keep their pointers.
-use super::support::{Keys, SmallKeys, at, five, grows_to, has_keys, write_key};
-use arena_base::{BasePtr, P0, P8};
+use super::support::{
+    Counting, Keys, SOUGHT, SmallKeys, Sole, at, five, five_counting_keys, grows_to, has_keys,
+    taken, write_key,
+};
+use arena_base::{BasePtr, P0, P8, PN};
+use std::alloc::Global;
+use std::cell::Cell;
 use triple_ord::{OrdPair, SimpleOrdArena};
 
 /// Gives an entry another key. Returns the old key, or the new one as `Err` if there is no entry.
@@ -27,6 +32,69 @@ fn an_entry_moves_to_the_place_of_its_new_key(rt: HostRuntime) {
     // behind an equal key
     assert!(rt; rekeyed(&mut a, at(5), 30) == Ok(80));
     assert!(rt; has_keys(&a, &[5, 30, 30, 60, 61]) && a.find_key(&30) == Some(at(2)));
+}
+
+/// The index of the entry with the least key.
+const FIRST: u32 = 5;
+
+/// The comparisons that `rekey_counted` makes for the entry at an index, if they are as many as its visits. The moved entry is visited too,
+/// and its predecessor's key is compared in place of its own; the first entry has none.
+fn rekey_counted_compares(alloc: Global, index: u32, wanted: Counting<'_>) -> Option<u128> {
+    let mut a = five_counting_keys(alloc, wanted.comparisons);
+    let p = PN::_from_raw(index, ());
+    let visits = match a.rekey_counted(p, Sole { key: wanted }) {
+        Ok((_before, visits)) => visits.count(),
+        Err(_) => return None,
+    };
+    let compared = taken(wanted.comparisons);
+    let is_one_fewer = index == FIRST && compared.saturating_add(1) == visits;
+    if compared == visits || is_one_fewer {
+        Some(compared)
+    } else {
+        None
+    }
+}
+
+/// The comparisons that `rekey` makes.
+fn rekey_compares(alloc: Global, index: u32, wanted: Counting<'_>) -> Option<u128> {
+    let mut a = five_counting_keys(alloc, wanted.comparisons);
+    match a.rekey(PN::_from_raw(index, ()), Sole { key: wanted }) {
+        Ok(_) => Some(taken(wanted.comparisons)),
+        Err(_) => None,
+    }
+}
+
+/// The comparisons that `reposition` makes after the key was written.
+fn reposition_compares(alloc: Global, index: u32, wanted: Counting<'_>) -> Option<u128> {
+    let mut a = five_counting_keys(alloc, wanted.comparisons);
+    let p = PN::_from_raw(index, ());
+    match a.get_mut(p) {
+        Some(item) => item.key = wanted,
+        None => return None,
+    }
+    if a.reposition(p) {
+        Some(taken(wanted.comparisons))
+    } else {
+        None
+    }
+}
+
+#[test]
+fn a_move_compares_only_what_its_search_visits(rt: HostRuntime) {
+    let made = Cell::new(0u128);
+    let comparisons = &made;
+    for key in &SOUGHT {
+        let wanted = Counting {
+            key: *key,
+            comparisons,
+        };
+        for index in 1..=5u32 {
+            let compared = rekey_counted_compares(rt.alloc(), index, wanted);
+            assert!(rt; compared.is_some());
+            assert!(rt; rekey_compares(rt.alloc(), index, wanted) == compared);
+            assert!(rt; reposition_compares(rt.alloc(), index, wanted) == compared);
+        }
+    }
 }
 
 /// A stale pointer, one that never named an entry, and the invalid one.
