@@ -205,7 +205,7 @@ module _ {P T U G F : Type 0} {numbers : P → ℕ × ℕ} {number : G → ℕ} 
 
     module _ (e : G) (u : U) (p : P) (item : T) (next : F) (there : get_or source i None ≡ Some (number e, u)) (p_index : (numbers p).0 ≡ i)
         (p_generation : (numbers p).1 ≡ number e) (called : step f p u item next) where
-      pub cloned-entry : ClonedBelow numbers number step first source next (slots ++ Occupied item e ∷ []) (i + 1)
+      pub cloned-entry : ClonedBelow numbers number step first source next (slots ++ Occupied e item ∷ []) (i + 1)
       cloned-entry =
           let at = opened (Some (number e, u)) there in
           record {
@@ -217,7 +217,7 @@ module _ {P T U G F : Type 0} {numbers : P → ℕ × ℕ} {number : G → ℕ} 
                 (record { pointer = p; item = item; index = p_index; generation = p_generation; called = called; behind = refl });
             shape = λ rest.
                 rw (append_assoc b.items (item ∷ []) rest)
-                (b.shape (item ∷ rest) ∙ rw at (behind (Occupied item e) (with_items (drop (i + 1) source) rest)));
+                (b.shape (item ∷ rest) ∙ rw at (behind (Occupied e item) (with_items (drop (i + 1) source) rest)));
           }
 
 module _ {P T U G F : Type 0} {numbers : P → ℕ × ℕ} {number : G → ℕ} {step : F → P → U → Result T AllocError → F → Type 0} {first : F}

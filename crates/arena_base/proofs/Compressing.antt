@@ -21,7 +21,7 @@ module _ {P T G F : Type 0} (numbers : P → ℕ × ℕ) (number : G → ℕ) (s
     pub answers : length items ≡ to
     pub visited : to + gap ≡ from
     pub within : length slots ≡ length old
-    pub shape : slots ≡ map (λ item. Occupied item generation) items ++ (replicate gap Vacant ++ drop from old)
+    pub shape : slots ≡ map (λ item. Occupied generation item) items ++ (replicate gap Vacant ++ drop from old)
     pub calls : (s : F × List T) → CallsAt (f, items) (from + 1) (drop from old) s → CallsAt (first, []) 1 old s
 
   pub compressed-begins : (f : F) (old : List (Slot T G)) → CompressedBelow f old f old 0 0
@@ -34,10 +34,10 @@ vacated (suc n) x rest = ap (λ xs. x ∷ xs) (vacated n x rest)
 module _ {P T G F : Type 0} {numbers : P → ℕ × ℕ} {number : G → ℕ} {step : F → P → T → P → T → F → Type 0} {generation : G} {first : F}
     {old : List (Slot T G)} {f : F} {slots : List (Slot T G)} {from to : ℕ} (b : CompressedBelow numbers number step generation first old f slots from to) where
   abbrev done : List (Slot T G)
-  done = map (λ item. Occupied item generation) b.items
+  done = map (λ item. Occupied generation item) b.items
 
   length-done : length done ≡ to
-  length-done = length-map b.items (λ item. Occupied item generation) ∙ b.answers
+  length-done = length-map b.items (λ item. Occupied generation item) ∙ b.answers
 
   pub compressed-ends : length old ≤ from → from ≤ length old → CompressesSlots numbers number step generation first old slots
   compressed-ends past upto =
@@ -91,11 +91,11 @@ module _ {P T G F : Type 0} {numbers : P → ℕ × ℕ} {number : G → ℕ} {s
           (old_pointer : record { index : (numbers p).0 ≡ from + 1; generation : (numbers p).1 ≡ number e })
           (new_pointer : record { index : (numbers q).0 ≡ to + 1; generation : (numbers q).1 ≡ number generation }) (called : step f p was q new next) where
         abbrev after : List (Slot T G)
-        after = set (set slots from Vacant) to (Occupied new generation)
+        after = set (set slots from Vacant) to (Occupied generation new)
 
         pub compressed-filled : CompressedBelow numbers number step generation first old next after (from + 1) (to + 1)
         compressed-filled =
-            let occupied : now ≡ Occupied was e = grind arith in
+            let occupied : now ≡ Occupied e was = grind arith in
             record {
               items = b.items ++ new ∷ [];
               gap = b.gap;
@@ -103,8 +103,8 @@ module _ {P T G F : Type 0} {numbers : P → ℕ × ℕ} {number : G → ℕ} {s
               visited = omega (arith, b.visited);
               within = rw (length-set, length-set) b.within;
               shape =
-                  rw (emptied, set_at done Vacant _ (Occupied new generation) to length-done, map_push)
-                  (sym (append_assoc done (Occupied new generation ∷ []) _));
+                  rw (emptied, set_at done Vacant _ (Occupied generation new) to length-done, map_push)
+                  (sym (append_assoc done (Occupied generation new ∷ []) _));
               calls = λ s c. b.calls s (rw (drop_more old from Vacant inside, at_from now read ∙ occupied) (
                 (next, b.items ++ new ∷ []),
                 record {
@@ -177,13 +177,13 @@ compressed-lawful greatest g (x ∷ items) now zero e is = lawful-some greatest 
 compressed-lawful greatest g (x ∷ items) now (suc k) e is = compressed-lawful greatest g items now k e is
 
 module _ {T Gen : Type 0} (number : Gen → ℕ) (n : ℕ) (next : List (Slot T Gen)) (generation : Gen) (items : List T)
-    (is : next ≡ map (λ item. Occupied item generation) items ++ replicate (n - length items) Vacant) (fits : length items ≤ n) where
+    (is : next ≡ map (λ item. Occupied generation item) items ++ replicate (n - length items) Vacant) (fits : length items ≤ n) where
   pub entries-compressed : entries number next ≡ resized n (map (λ item. Some (number generation, item)) items)
   entries-compressed =
-      let filled = map (λ item. Occupied item generation) items in
-      let long : length filled ≡ length items = length-map items (λ item. Occupied item generation) in
+      let filled = map (λ item. Occupied generation item) items in
+      let long : length filled ≡ length items = length-map items (λ item. Occupied generation item) in
       entries-padded number n filled next (rw (← long) at is) (omega arith)
-      ∙ ap (resized n) (map-map (entry_in number) (λ item. Occupied item generation) items)
+      ∙ ap (resized n) (map-map (entry_in number) (λ item. Occupied generation item) items)
 
 module _ {P T A Inx Gen F : Type 0} (numbers : P → ℕ × ℕ) (gen : Generations Gen) (inx : Indexes Inx)
     (step : F → P → T → P → T → F → Type 0) (s : Inside P T A Inx Gen) (next : List (Slot T Gen)) (listed : List Inx) (f : F)

@@ -100,7 +100,7 @@ module _ {T G : Type 0} where
   -- the first `full` slots are occupied, so the vacant ones are behind them
   pub vacant_slots-full : (from full : ℕ) (slots : List (Slot T G)) → ((k : ℕ) → k < full → get_or slots k Vacant ≢ Vacant)
       → vacant_slots from slots ≡ vacant_slots (from + full) (drop full slots)
-  vacant_slots-full from (suc full) (Occupied item era ∷ slots) occupied =
+  vacant_slots-full from (suc full) (Occupied era item ∷ slots) occupied =
       grind (arith, vacant_slots-full (from + 1) full slots (λ k below. occupied (suc k) (omega arith)))
   vacant_slots-full from full slots occupied = grind (arith, occupied 0)
 

@@ -182,11 +182,11 @@ module _ {P T A Inx Gen : Type 0} (gen : Generations Gen) (inx : Indexes Inx) (s
 
     -- an entry is put in its slot
     module _ (k : ℕ) (position : inx.number j ≡ k + 1) (item : T) where
-      pub put-sound : Sound (stored (set s.slots.items k (Occupied item s.generation)) below)
+      pub put-sound : Sound (stored (set s.slots.items k (Occupied s.generation item)) below)
       put-sound = rw map-set (sound-filled k (rw (top, map_push, reverse-append, position) at sound) item)
 
       pub insertion : (i g : ℕ) → i ≡ inx.number j → g ≡ gen.number s.generation
-          → IsInsertion a (stored (set s.slots.items k (Occupied item s.generation)) below) item i g
+          → IsInsertion a (stored (set s.slots.items k (Occupied s.generation item)) below) item i g
       insertion i g here now =
           rw (← view, here, now, top, map_push, reverse-append, position, map-set)
           (insertion-filled k (rw (top, map_push, reverse-append, position) at sound) item)
@@ -319,10 +319,10 @@ set-twice {X = X} xs p q a b c d = grind (arith, set-set {A = X}, set_comm {A = 
 -- a slot whose generation is known
 module _ {T G : Type 0} (xs : List (Slot T G)) (k : ℕ) (within : k < length xs) where
   occupied-by : (s : Slot T G) (era : G) → s ≡ get_or xs k s → option_map (λ e. e.0) (slot_entry s) ≡ Some era
-      → (item : T) × ((d : Slot T G) → get_or xs k d ≡ Occupied item era)
-  occupied-by (Occupied item old) era is at =
-      let same : Occupied item old ≡ Occupied item era = cc in
-      (item, λ d. get_or_default xs k d (Occupied item old) within ∙ (sym is ∙ same))
+      → (item : T) × ((d : Slot T G) → get_or xs k d ≡ Occupied era item)
+  occupied-by (Occupied old item) era is at =
+      let same : Occupied old item ≡ Occupied era item = cc in
+      (item, λ d. get_or_default xs k d (Occupied old item) within ∙ (sym is ∙ same))
   occupied-by Vacant era is at = cc
 
 -- Slots xs, with entries at p and q, become ys by a swap; then s1 is written to p, and s2 to q.
@@ -344,18 +344,18 @@ pub record IsExchange {T G : Type 0} (xs ys : List (Slot T G)) (p q : ℕ) (sp s
 
 module _ {T G : Type 0} {xs ys : List (Slot T G)} {p q : ℕ} {sp sq y1 y2 s1 s2 : Slot T G} {gp gq : G}
     (h : IsExchange xs ys p q sp sq y1 y2 s1 s2 gp gq) where
-  one : (item : T) × ((d : Slot T G) → get_or xs p d ≡ Occupied item gp)
+  one : (item : T) × ((d : Slot T G) → get_or xs p d ≡ Occupied gp item)
   one = occupied-by xs p h.p_within sp gp h.p_is h.p_era
 
-  other : (item : T) × ((d : Slot T G) → get_or xs q d ≡ Occupied item gq)
+  other : (item : T) × ((d : Slot T G) → get_or xs q d ≡ Occupied gq item)
   other = occupied-by xs q h.q_within sq gq h.q_is h.q_era
 
   -- each position has the other's item
-  exchanged : set (set ys p s1) q s2 ≡ set (set xs p (Occupied other.0 gp)) q (Occupied one.0 gq)
+  exchanged : set (set ys p s1) q s2 ≡ set (set xs p (Occupied gp other.0)) q (Occupied gq one.0)
   exchanged =
-      let first : s1 ≡ Occupied other.0 gp = h.first ∙ ap (λ s. with_slot_generation s gp) (h.first_old ∙ (h.p_after y1 ∙ other.1 y1)) in
+      let first : s1 ≡ Occupied gp other.0 = h.first ∙ ap (λ s. with_slot_generation s gp) (h.first_old ∙ (h.p_after y1 ∙ other.1 y1)) in
       let same = get_or-set_same ys p s1 y2 (omega (arith, h.p_within, h.same_len)) in
-      let second : s2 ≡ Occupied one.0 gq =
+      let second : s2 ≡ Occupied gq one.0 =
       grind (arith, h.second, h.second_old, same, get_or-set_other ys p q s1 y2, h.q_after y2, one.1 y2, other.1 y2) in
       cc (h.after sp, set-twice xs p q (get_or xs q sp) (get_or xs p sp) s1 s2, first, second)
 

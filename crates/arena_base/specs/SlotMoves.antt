@@ -31,4 +31,4 @@ module _ {P T G F : Type 0} (numbers : P → ℕ × ℕ) (number : G → ℕ) (s
     pub last : F
     pub calls : FoldsTo (CompressionStep numbers step (number generation)) (f, []) (entries_from 1 (map (entry_in number) old)) (last, items)
     pub fits : length items ≤ length old
-    pub after : new ≡ map (λ item. Occupied item generation) items ++ replicate (length old - length items) Vacant
+    pub after : new ≡ map (λ item. Occupied generation item) items ++ replicate (length old - length items) Vacant

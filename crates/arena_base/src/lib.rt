@@ -23,7 +23,7 @@ pub use invalidation::{InvalidationOption, InvalidationResult};
 pub use items_mut::ItemsMut;
 pub use map_entry::{Calls, MapEntry};
 pub use opt_inx::OptInx;
-pub use ptr::{BasePtr, BasePtrGen, BasePtrInx, P0, P8, PN, Ptr, PtrGen, PtrInx, Q0};
+pub use ptr::{BasePtr, BasePtrGen, BasePtrInx, P0, P8, P32, PN, Ptr, PtrGen, PtrInx, Q0};
 pub use recast::{Recast, Recaster};
 // A crate can name an arena in a contract only if the types of its fields are exported.
 #[doc(hidden)]

@@ -7,7 +7,7 @@ mod numbers;
 mod pointers;
 mod unit;
 
-pub use pointers::{P0, P8, PN, Q0};
+pub use pointers::{P0, P8, P32, PN, Q0};
 use std::fmt::Debug;
 use std::hash::Hash;
 
@@ -133,6 +133,6 @@ pub trait PtrGen: BasePtrGen + Debug {}
 
 /// A pointer to an entry of an arena, with an order, a hash and `Debug`.
 ///
-/// Its members are those of [`BasePtr`]. `P0`, `Q0`, `P8` and `PN` implement it. For a pointer type of your own, derive the other traits
+/// Its members are those of [`BasePtr`]. `P0`, `Q0`, `P32`, `P8` and `PN` implement it. For a pointer type of your own, derive the other traits
 /// and write `impl Ptr for` it.
 pub trait Ptr: BasePtr<Inx: PtrInx, Gen: PtrGen> + Ord + Hash + Debug {}

@@ -5,16 +5,18 @@ ghost use Rattle.std.specs.Borrow.{sem, Lends};
 
 use std::mem::{replace, size_of};
 
-/// An entry with its generation, or nothing. The item comes first, because searches read it.
+/// An entry with its generation, or nothing. The generation comes first: one of 32 bits fits into the word of the variant's tag.
 #[doc(hidden)]
 #[derive(Drop)]
 pub enum Slot<T, G> {
-    Occupied(T, G),
+    Occupied(G, T),
     Vacant,
 }
 
-// With an item and a generation of a word each, a slot takes three words.
+// With an item and a generation of a word each, a slot takes three words; with a generation of half a word, two.
 const _: () = prove!(size_of::<Slot<u64, u64>>() <= 24);
+
+const _: () = prove!(size_of::<Slot<u64, u32>>() <= 16);
 
 impl<T, G> Slot<T, G> {
     ghost use Rattle.arena_base.specs.Slot.{slot_entry, with_slot_item, with_slot_generation};
@@ -36,7 +38,7 @@ impl<T, G> Slot<T, G> {
         ensures after { self.new ≡ Slot.Vacant }
     {
         match replace(self, Slot::Vacant) {
-            Slot::Occupied(item, generation) => Some((generation, item)),
+            Slot::Occupied(generation, item) => Some((generation, item)),
             Slot::Vacant => None,
         }
     }
@@ -44,9 +46,9 @@ impl<T, G> Slot<T, G> {
     // Puts an entry into a vacant slot.
     pub(crate) fn fill(&mut self, item: T, generation: G)
         requires { self.old ≡ Slot.Vacant }
-        ensures { self.new ≡ Slot.Occupied item generation }
+        ensures { self.new ≡ Slot.Occupied generation item }
     {
-        match replace(self, Slot::Occupied(item, generation)) {
+        match replace(self, Slot::Occupied(generation, item)) {
             Slot::Vacant => {}
             Slot::Occupied(_, _) => unreachable!(),
         }
@@ -60,7 +62,7 @@ impl<T, G> Slot<T, G> {
         ensures value { option_map (λ e. e.1) (slot_entry self.old) ≡ Some result.now }
     {
         match self {
-            Slot::Occupied(item, _) => item,
+            Slot::Occupied(_, item) => item,
             Slot::Vacant => unreachable!(),
         }
     }
@@ -73,7 +75,7 @@ impl<T, G> Slot<T, G> {
         ensures { option_map (λ e. e.0) (slot_entry self.now) ≡ Some result }
     {
         match self {
-            Slot::Occupied(_, generation) => *generation,
+            Slot::Occupied(generation, _) => *generation,
             Slot::Vacant => unreachable!(),
         }
     }
@@ -84,7 +86,7 @@ impl<T, G> Slot<T, G> {
         G: Copy,
         ensures { self.new ≡ with_slot_generation self.old generation }
     {
-        if let Slot::Occupied(_, old) = self {
+        if let Slot::Occupied(old, _) = self {
             *old = generation;
         }
     }

@@ -177,7 +177,7 @@ fn clone_slots<P: BasePtr, T: Drop, A: Allocator, U, S: ArenaTrait<P, U>, M: Clo
         let i = inx_at(position);
         match source.get_inx(i) {
             Some(entry) => match map.clone_entry(P::_from_raw(i, entry.0), entry.1) {
-                Ok(item) => slots.push_reserved(Slot::Occupied(item, entry.0)),
+                Ok(item) => slots.push_reserved(Slot::Occupied(entry.0, item)),
                 Err(refusal) => {
                     slots.clear();
                     return Err(refusal);

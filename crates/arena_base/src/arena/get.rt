@@ -40,7 +40,7 @@ impl<P: BasePtr, T, A: Allocator> Arena<P, T, A> {
     {
         let position = self.position(i)?;
         match &self.slots[position] {
-            Slot::Occupied(item, generation) => Some((*generation, item)),
+            Slot::Occupied(generation, item) => Some((*generation, item)),
             Slot::Vacant => None,
         }
     }
@@ -52,7 +52,7 @@ impl<P: BasePtr, T, A: Allocator> Arena<P, T, A> {
         ensures sound { IsSound P.Inx.most P.Gen.greatest self.now }
     {
         match &self.slots[self.position_of_entry(i)] {
-            Slot::Occupied(item, generation) => (*generation, item),
+            Slot::Occupied(generation, item) => (*generation, item),
             Slot::Vacant => unreachable!(),
         }
     }
@@ -98,7 +98,7 @@ impl<P: BasePtr, T, A: Allocator> Arena<P, T, A> {
         ensures { option_map P.Gen.number result ≡ generation_at self.now (position + 1) }
     {
         match &self.slots[position] {
-            Slot::Occupied(_, generation) => Some(*generation),
+            Slot::Occupied(generation, _) => Some(*generation),
             Slot::Vacant => None,
         }
     }
@@ -109,8 +109,10 @@ impl<P: BasePtr, T, A: Allocator> Arena<P, T, A> {
         ensures within { IfSome result (λ position. position < arena_capacity self.now) }
         ensures none { IfNone result (slot self.now (P.Inx.number i) ≡ None) }
     {
+        // Read first, so that index 0 and an index beyond the end are one test.
+        let capacity = self.slots.len();
         match i.try_into_usize() {
-            Some(n) if n <= self.slots.len() => Some(n - 1),
+            Some(n) if n <= capacity => Some(n - 1),
             _ => None,
         }
     }

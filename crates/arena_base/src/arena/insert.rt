@@ -8,7 +8,6 @@ use super::get::position_at;
 use super::growth::doubled_capacity;
 use crate::error::InsertionError;
 use crate::ptr::{BasePtr, BasePtrInx};
-use crate::slot::Slot;
 use std::alloc::Allocator;
 
 impl<P: BasePtr, T: Drop, A: Allocator> Arena<P, T, A> {
@@ -70,6 +69,20 @@ impl<P: BasePtr, T: Drop, A: Allocator> Arena<P, T, A> {
             Err(_) => Err(InsertionError::AllocError),
         }
     }
+}
+
+impl<P: BasePtr, T, A: Allocator> Arena<P, T, A> {
+    /// Inserts `item`, as `insert_within_capacity` does, and returns its pointer. A slot must be vacant, so the call can't fail.
+    pub fn insert_reserved(&mut self, item: T) -> P
+        requires { arena_len self.old < arena_capacity self.old }
+        ensures inserted { IsInsertion self.old self.new item
+            (P.numbers result).0 (P.numbers result).1 }
+        ensures sound { IsSound P.Inx.most P.Gen.greatest self.new }
+    {
+        // For the prover: the arena is sound.
+        let _ = self.len();
+        self.insert_next(item)
+    }
 
     // Inserts an item into the first slot of the free list, which isn't empty.
     fn insert_next(&mut self, item: T) -> P
@@ -80,7 +93,8 @@ impl<P: BasePtr, T: Drop, A: Allocator> Arena<P, T, A> {
     {
         let generation = self.generation;
         let i = self.vacant.take_last();
-        self.slots[position_at(i)] = Slot::Occupied(item, generation);
+        let slot = &mut self.slots[position_at(i)];
+        slot.fill(item, generation);
         P::_from_raw(i, generation)
     }
 }

@@ -135,6 +135,76 @@ impl Recast<Q0> for Q0 {
     }
 }
 
+/// A pointer of eight bytes: an index and a generation of 32 bits each. Slots are 8 bytes smaller than with [`P0`].
+///
+/// An ordered arena of two words an entry takes 48 bytes a slot instead of 56, and is quicker where it exceeds the cache.
+///
+/// The generation overflows after 2^32 - 2 removals, which that removal reports, and begins again. A stale pointer that is kept for so
+/// long can then name a later entry at its index. Take this type if an arena removes fewer entries than that while a pointer is kept;
+/// otherwise take `P0`.
+#[derive(Clone, Copy, PartialEq, Eq, PartialOrd, Ord, Hash)]
+pub struct P32 {
+    inx: u32,
+    generation: u32,
+}
+
+impl Model for P32 {
+    ghost use Rattle.std.specs.Prelude.{ℕ};
+
+    ghost Value = { ℕ × ℕ };
+
+    ghost view = { λ p. (p.inx, p.generation) };
+
+    ghost inverse = { λ p. record { inx = p.0; generation = p.1 } };
+}
+
+impl BasePtr for P32 {
+    type Inx = u32;
+
+    type Gen = u32;
+
+    ghost numbers = { λ p. p };
+
+    ghost one_each = { λ p q e. e };
+
+    ghost eq_is = { λ p q. refl };
+
+    fn inx(self) -> u32 {
+        self.inx
+    }
+
+    fn generation(self) -> u32 {
+        self.generation
+    }
+
+    fn invalid() -> P32 {
+        P32 {
+            inx: u32::MAX,
+            generation: 1,
+        }
+    }
+
+    fn _from_raw(inx: u32, generation: u32) -> P32 {
+        P32 { inx, generation }
+    }
+}
+
+impl Ptr for P32 {}
+
+impl fmt::Debug for P32 {
+    fn fmt<W: fmt::Write>(&self, f: &mut fmt::Formatter<W>) -> fmt::Result {
+        write!(f, "P32[{}]({})", self.inx, self.generation)
+    }
+}
+
+impl Recast<P32> for P32 {
+    ghost recast_gives = { λ gives old result new. gives old result new };
+
+    fn recast<R: Recaster<Item = P32>>(&mut self, recaster: &R) -> Result<(), P32> {
+        recaster.recast_item(self)
+    }
+}
+
 /// A pointer of two bytes, for small arenas. Its generations overflow after 254 removals.
 #[derive(Clone, Copy, PartialEq, Eq, PartialOrd, Ord, Hash)]
 pub struct P8 {

@@ -1,9 +1,9 @@
 //! Insertions.
-ghost use Rattle.std.specs.Prelude.{◌≡◌, ◌≤◌, ◌++◌, ◌∷◌, [], length};
+ghost use Rattle.std.specs.Prelude.{◌≡◌, ◌<◌, ◌≤◌, ◌++◌, ◌∷◌, [], length};
 ghost use Rattle.std.specs.Option.{option_map};
 ghost use Rattle.arena_base.specs.Room.{FailsIfFull, FailsOnlyIfFull};
 ghost use Rattle.chain_base.specs.Chain.{chain_limit, with_room};
-ghost use Rattle.chain_base.specs.Insert.{placed, CanPlace, InsertsItem, PutsBetween};
+ghost use Rattle.chain_base.specs.Insert.{placed, CanPlace, InsertsItem, IsInsertion, PutsBetween};
 
 use super::ChainArena;
 use super::links::relink;
@@ -42,21 +42,10 @@ impl<P: BasePtr, T: Drop, A: Allocator> ChainArena<P, T, A> {
             (FailsIfFull (length self.old.entries) self.old.capacity result (self.new ≡ self.old))
             (self.new.capacity ≡ self.old.capacity) }
     {
-        let (prev, next) = self.neighbours(kind);
-        let p = self
-            .arena
-            .insert_within_capacity(LinkNoGen::new((prev, next), t))?;
-        let new = Some(p.inx());
-        relink(
-            &mut self.arena,
-            prev,
-            new,
-            new,
-            next,
-            &mut self.first,
-            &mut self.last,
-        );
-        Ok(p)
+        if self.len() == self.capacity() {
+            return Err(InsertionError::NotWithinCapacity);
+        }
+        Ok(self.insert_reserved(kind, t))
     }
 
     /// Inserts `t` behind the last entry, as `insert_within_capacity` does at a place, and returns its pointer.
@@ -110,7 +99,34 @@ impl<P: BasePtr, T: Drop, A: Allocator> ChainArena<P, T, A> {
             (self.old.capacity ≤ self.new.capacity) }
     {
         self.make_room()?;
-        self.insert_within_capacity(kind, t)
+        Ok(self.insert_reserved(kind, t))
+    }
+}
+
+impl<P: BasePtr, T, A: Allocator> ChainArena<P, T, A> {
+    /// Inserts `t` at the place that `kind` names, as `insert_within_capacity` does, and returns its pointer. A slot must be vacant, so
+    /// the call can't fail.
+    #[inline(always)]
+    pub fn insert_reserved(&mut self, kind: LinkInsertKind<P>, t: T) -> P
+        requires place { CanPlace P.Inx.number kind self.old }
+        requires vacant { length self.old.entries < self.old.capacity }
+        ensures inserted { IsInsertion self.old self.new
+            (placed P.Inx.number kind self.old.entries) t (P.numbers result).0 (P.numbers result).1 }
+        ensures capacity { self.new.capacity ≡ self.old.capacity }
+    {
+        let (prev, next) = self.neighbours(kind);
+        let p = self.arena.insert_reserved(LinkNoGen::new((prev, next), t));
+        let new = Some(p.inx());
+        relink(
+            &mut self.arena,
+            prev,
+            new,
+            new,
+            next,
+            &mut self.first,
+            &mut self.last,
+        );
+        p
     }
 
     // The neighbours of a new entry.
