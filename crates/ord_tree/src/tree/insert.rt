@@ -1,7 +1,8 @@
 //! Inserting entries.
 
-ghost use Rattle.std.specs.Prelude.{◌≡◌, ℕ, ◌+◌, List, Option, Some, option_map, IsSomeAnd, MatchOption, length};
+ghost use Rattle.std.specs.Prelude.{◌≡◌, ◌<◌, ℕ, ◌+◌, List, Option, Some, option_map, IsSomeAnd, MatchOption, length};
 ghost use Rattle.chain_base.specs.Chain.{IsDistinct, IsOccupied, chain_limit, with_room};
+ghost use Rattle.chain_base.specs.Insert.{IsInsertion};
 ghost use Rattle.chain_base.specs.Room.{FailsIfFull, FailsOnlyIfFull};
 ghost use Rattle.ord_tree.specs.Shape.{Shape};
 ghost use Rattle.ord_tree.specs.Node.{indexes, bare, slots_of};
@@ -9,7 +10,7 @@ ghost use Rattle.ord_tree.specs.Leaf.{neighbour_in, beside, IsNewLeaf};
 ghost use Rattle.ord_tree.specs.Potential.{potential};
 ghost use Rattle.ord_tree.specs.Promote.{IsRepaired};
 ghost use Rattle.ord_tree.specs.Account.{IsSpelledWithin, rank_in};
-ghost use Rattle.ord_tree.specs.Tree.{put_at, insert_at, CanPutAt, CanInsertAt, InsertsItem};
+ghost use Rattle.ord_tree.specs.Tree.{put_at, insert_at, CanPutAt, CanInsertAt, InsertsItem, IsGrown};
 ghost use Rattle.ord_tree.specs.Layout.{IsLaidOut};
 ghost use Rattle.ord_tree.specs.LeafBranch.{kind_at, sided, IsLeafBranch, IsLeafBranchAt};
 
@@ -46,30 +47,10 @@ impl<P: BasePtr, T: Drop, A: Allocator> OrdTree<P, T, A> {
             (FailsIfFull (length self.old.list.entries) self.old.list.capacity result
             (self.new ≡ self.old)) }
     {
-        self.put_within_capacity(sided(at), t)
-    }
-
-    // Inserts an item directly on a side of the entry at an index, or as the only entry.
-    #[inline(always)]
-    fn put_within_capacity(&mut self, at: Option<(P::Inx, Side)>, t: T) -> Result<P, InsertionError>
-        requires { CanPutAt P.Inx.number at self.old.list }
-        ensures { InsertsItem P.numbers self.old.list self.old self.new
-            (put_at P.Inx.number at self.old.list.entries) t result
-            (FailsIfFull (length self.old.list.entries) self.old.list.capacity result
-            (self.new ≡ self.old)) }
-    {
-        let branch = branch_at(&self.chain, at);
-        let node = SimpleOrdArenaNode::leaf(parent_in(branch), t);
-        let p = self.chain.insert_within_capacity(kind_of(at), node)?;
-        // For the prover: the list is sound.
-        prove!(self.chain.len() <= self.chain.capacity());
-        grow(
-            &mut self.chain,
-            &mut self.root,
-            branch,
-            NodeInx::new(p.inx()),
-        );
-        Ok(p)
+        if self.len() == self.chain.capacity() {
+            return Err(InsertionError::NotWithinCapacity);
+        }
+        Ok(self.insert_reserved(at, t))
     }
 
     /// Inserts an item as `insert_within_capacity` does, growing first if no slot is vacant.
@@ -93,7 +74,46 @@ impl<P: BasePtr, T: Drop, A: Allocator> OrdTree<P, T, A> {
             (chain_limit P.Inx.most self.old.list) result (self.new ≡ self.old)) }
     {
         self.make_room()?;
-        self.insert_within_capacity(at, t)
+        Ok(self.insert_reserved(at, t))
+    }
+}
+
+impl<P: BasePtr, T, A: Allocator> OrdTree<P, T, A> {
+    /// Inserts an item as `insert_within_capacity` does, and returns its pointer. A slot must be vacant, so the call can't fail.
+    #[inline(always)]
+    pub fn insert_reserved(&mut self, at: Option<(P::Inx, Ordering)>, t: T) -> P
+        requires place { CanInsertAt P.Inx.number at self.old.list }
+        requires vacant { length self.old.list.entries < self.old.list.capacity }
+        ensures inserted { IsInsertion self.old.list self.new.list
+            (insert_at P.Inx.number at self.old.list.entries) t
+            (P.numbers result).0 (P.numbers result).1 }
+        ensures grown { IsGrown self.old.shape self.new.shape }
+    {
+        self.put_reserved(sided(at), t)
+    }
+
+    // Inserts an item directly on a side of the entry at an index, or as the only entry. A slot is vacant.
+    #[inline(always)]
+    fn put_reserved(&mut self, at: Option<(P::Inx, Side)>, t: T) -> P
+        requires place { CanPutAt P.Inx.number at self.old.list }
+        requires vacant { length self.old.list.entries < self.old.list.capacity }
+        ensures inserted { IsInsertion self.old.list self.new.list
+            (put_at P.Inx.number at self.old.list.entries) t
+            (P.numbers result).0 (P.numbers result).1 }
+        ensures grown { IsGrown self.old.shape self.new.shape }
+    {
+        let branch = branch_at(&self.chain, at);
+        let node = SimpleOrdArenaNode::leaf(parent_in(branch), t);
+        let p = self.chain.insert_reserved(kind_of(at), node);
+        // For the prover: the list is sound.
+        prove!(self.chain.len() <= self.chain.capacity());
+        grow(
+            &mut self.chain,
+            &mut self.root,
+            branch,
+            NodeInx::new(p.inx()),
+        );
+        p
     }
 }
 
