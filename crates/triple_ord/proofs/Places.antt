@@ -2,13 +2,15 @@
 use Rattle.triple_ord.proofs.Words.{◌≡◌, ◌≢◌, ◌==◌, if◌then◌else◌, IfNone, is_some, ℕ, ◌+◌, ◌≤◌, false, true, length, List, [], ◌∷◌, ◌++◌, Option, Some, None, IsSome, Result, Ok, Err, IfErr, refl, sym, ap, ◌∙◌, arith, append_assoc, eq-eqb}
 use Rattle.triple_ord.proofs.Words.{after, with_between, FindsSimilar, taken, Ties, Sought, Passed, Aim, alone, at_key, behind_key, beside, Place, into, over, nowhere, IsPlace, aim_of, Growth, Within, Reallocating, Side, Lesser, OnGreater, slice_get_cases}
 use Rattle.triple_ord.proofs.Words.{insert_after, insert_before, with_room_by, Entry, Chain, entry_at, next_index, IsDistinct, IsSound, IsInsertion, Tree, IsGrown, put_on, put_at, insert_at, nat_tests, nil_from_length, IfSome_then, option_map, Ordering, Less, Equal, ◌⊎◌, inl, inr}
-use Rattle.triple_ord.proofs.Words.{Greater, IsErrAnd, with_item, item_of, count, Updates, IsNearHint, IsWithinBounds, IsWithinHintedBounds, Gap, before, LacksSlot, IsRefused, InsertsBeside, OrdInsertKind, OrdInsertionError}
+use Rattle.triple_ord.proofs.Words.{Greater, IsErrAnd, with_item, item_of, count, Updates, IsNearHint, IsWithinBounds, IsWithinHintedBounds, Gap, before, LacksSlot, IsRefused, InsertsBeside, OrdInsertKind, OrdInsertionError, after-insertion, ◌≢◌}
 use Rattle.triple_ord.proofs.Inserting.{last_of-append, stands, HasPlace, place-alone, similar-placed, similar-occupied, similar-here, similar-first, similar-seen, IsInsertion-same, put_before, put_after}
 use Rattle.triple_ord.proofs.{CallerLemmas.entries-with_room_by, CallerLemmas.updates-written, CallerLemmas.count-written, CallerLemmas.inserted-new, OrderLaws.taken-less, OrderLaws.taken-greater, OrderLaws.passed-unequal}
 use Rattle.std.specs.Prelude.{ok_or}
 use Rattle.triple_ord.proofs.Words.{NotWithinCapacity, common_steps}
 use Rattle.triple_ord.specs.declared.prepared.InsertPlace.{InsertPlace, TheVariants.New, TheVariants.Replacing}
 use Rattle.triple_ord.specs.Prepared.{Keeps, IsFoundPlace, IsPlaceBeside, IsPlaceFor, HasRoomAt, order_on, side_by, place_at, kind_by, kind_near}
+use Rattle.ord_tree.specs.Tree.{CanInsertAt}
+use Rattle.triple_ord.specs.Insertion.{PutsBeside}
 use Rattle.triple_ord.specs.{declared.error.OrdInsertionError.TheVariants.BeyondMaxCapacity, declared.error.OrdInsertionError.TheVariants.AllocError, EntryVisits.HasSeen}
 
 pub item_here : {T : Type 0} (t : Tree T) (i : ℕ) (x : ℕ × T) → entry_at t.list.entries i ≡ Some x → IsSome (item_of t (i, x.0))
@@ -19,11 +21,20 @@ pub side-named : (o : Ordering) → (o ≡ Less) ⊎ (o ≡ Greater) → (side :
 side-named o (inl less) = (Lesser, less)
 side-named o (inr greater) = (OnGreater, greater)
 
+pub side-unequal : (o : Ordering) → o ≢ Equal → (side : Side) × (o ≡ order_on side)
+side-unequal Less unequal = (Lesser, refl)
+side-unequal Equal unequal = absurd (unequal refl)
+side-unequal Greater unequal = (OnGreater, refl)
+
 -- a place beside an entry by the order to it, and by the side
 module _ {T I : Type 0} (number : I → ℕ) where
   pub insert_at-on : (i : I) (side : Side) (es : List (Entry T)) → insert_at number (Some (i, order_on side)) es ≡ put_on side (number i) es
   insert_at-on i Lesser es = refl
   insert_at-on i OnGreater es = refl
+
+  pub CanInsertAt-on : (i : I) (side : Side) (c : Chain T) → IsSome (entry_at c.entries (number i)) → CanInsertAt number (Some (i, order_on side)) c
+  CanInsertAt-on i Lesser c there = there
+  CanInsertAt-on i OnGreater c there = there
 
 -- a side of the entry with an index is a gap
 module _ {T K : Type 0} (key : T → K) (cmp : K → K → Ordering) (es : List (Entry T)) (i : ℕ) (there : IsSome (entry_at es i)) where
@@ -223,6 +234,26 @@ module _ {T : Type 0} (most : ℕ) (old new : Tree T) (item : T) (i : ℕ) where
         let there = IsInsertion-same _ _ _ _ item _ _ on.puts inserted in
         let done = inserted-new old new (with_room_by Reallocating most old.list) (entries-with_room_by Reallocating most old.list) on.gap item p there in
         record { inserts = (p, record { gap = on.gap; place = on.at; inserted = there; grown = grown }); updates = (p, done.1); counted = done.2 }
+
+    -- the same within the capacity
+    pub record IsPutBeside (p : ℕ × ℕ) : Type 0 where
+      pub inserts : PutsBeside most i (order_on side) old item p new
+      pub updates : Updates old new p (Some item)
+      pub counted : count new ≡ count old + 1
+      pub capacity : new.list.capacity ≡ old.list.capacity
+
+    pub beside-reserved : (p : ℕ × ℕ) → IsInsertion old.list new.list (put_on side i old.list.entries) item p.0 p.1
+        → IsGrown old.shape new.shape → IsPutBeside p
+    beside-reserved p inserted grown =
+        let there = IsInsertion-same _ _ _ _ item _ _ on.puts inserted in
+        let done = inserted-new old new old.list refl on.gap item p there in
+        let after = after-insertion old.list new.list (put_on side i old.list.entries) item p.0 p.1 inserted in
+        record {
+          inserts = record { gap = on.gap; place = on.at; inserted = there; grown = grown };
+          updates = done.1;
+          counted = done.2;
+          capacity = ap (λ (c : Chain T). c.capacity) after.1;
+        }
 
     module _ (f : OrdInsertionError) (lacks : LacksSlot Reallocating most old.list f) (same : new ≡ old) where
       pub beside-refused : (r : Result (Option T) OrdInsertionError) → IsErrAnd r (λ e. e ≡ f) → InsertsBeside most i (order_on side) old item r new

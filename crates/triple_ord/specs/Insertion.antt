@@ -96,3 +96,7 @@ module _ {T : Type 0} (most : ℕ) (i : ℕ) (order : Ordering) where
   InsertsBeside old item (Ok (Some before)) new =
       (p : ℕ × ℕ) × Replaces keyless alike most Reallocating (beside i order) old item p before new
   InsertsBeside old item (Err refusal) new = Refuses keyless alike most Reallocating (beside i order) old refusal new
+
+  -- An insertion directly before or after that entry, under the pointer p. A slot is vacant, so the arena doesn't grow.
+  abbrev pub PutsBeside : Tree T → T → ℕ × ℕ → Tree T → Type 0
+  PutsBeside old item p new = InsertsNew keyless alike most Within (beside i order) old item p new

@@ -1,5 +1,5 @@
 //! The descent from the root.
-ghost use Rattle.std.specs.Prelude.{◌≡◌, ℕ, Some, ◌^◌, ◌<◌, ◌≤◌};
+ghost use Rattle.std.specs.Prelude.{◌≡◌, ℕ, true, Some, None, ◌^◌, ◌<◌, ◌≤◌};
 ghost use Rattle.std.specs.Option.{option_map};
 ghost use Rattle.ord_tree.specs.Shape.{height};
 ghost use Rattle.triple_ord.specs.ClosureSearch.{Asks, FindsSimilarWith};
@@ -40,7 +40,11 @@ pub(crate) fn descend<P: BasePtr, T, F: FnMut(P, &T) -> Ordering, A: Allocator>(
         if order.is_eq() {
             return last;
         }
-        at = towards::<P>(order, node.p_tree0.get(), node.p_tree1.get());
+        let (next, is_end) = side_or_end::<P>(order, node.p_tree0.get(), node.p_tree1.get());
+        if is_end {
+            return last;
+        }
+        at = next;
     }
     last
 }
@@ -63,11 +67,14 @@ pub(crate) fn descend_by_key<P: BasePtr, T: SimpleOrdItem, A: Allocator>(
     let mut last = None;
     let mut at = probe.root();
     while let Some(i) = at {
-        let (p, order, next) = compare(probe, ties, k, i);
+        let (p, order, next, is_end) = compare(probe, ties, k, i);
         if order.is_eq() {
             return descend_in_group(probe, ties, k, p, next);
         }
         last = Some((p, order));
+        if is_end {
+            return last;
+        }
         at = next;
     }
     last
@@ -101,7 +108,7 @@ fn descend_in_group<P: BasePtr, T: SimpleOrdItem, A: Allocator>(
     let mut met = Some(p);
     let mut at = lesser;
     while let Some(i) = at {
-        let (p, order, next) = compare(probe, ties, k, i);
+        let (p, order, next, _is_end) = compare(probe, ties, k, i);
         last = Some((p, order));
         met = met_behind(met, p, order);
         at = next;
@@ -112,43 +119,46 @@ fn descend_in_group<P: BasePtr, T: SimpleOrdItem, A: Allocator>(
     }
 }
 
-// Compares a key with that of the entry at an index. Returns the entry's pointer, the order of the key, and where the search goes on.
+// Compares a key with that of the entry at an index. Returns the entry's pointer, the order of the key, where the search goes on, and
+// whether both sides of the entry are empty.
 #[inline(always)]
 fn compare<P: BasePtr, T: SimpleOrdItem, A: Allocator>(
     probe: &mut Probe<'_, P, T, A>,
     ties: Ties,
     k: &T::Key,
     i: P::Inx,
-) -> (P, Ordering, Option<P::Inx>)
+) -> (P, Ordering, Option<P::Inx>, bool)
     requires { CanShow probe.old.tree.now probe.old.visits (P.Inx.number i) }
-    ensures { ShowsEntry probe.old.tree.now probe.new.tree.now probe.old.visits probe.new.visits
+    ensures end { result.3 ≡ true → option_map P.Inx.number result.2 ≡ None }
+    ensures shows { ShowsEntry probe.old.tree.now probe.new.tree.now probe.old.visits probe.new.visits
         (IsCompared T.key_of (taken ties T.Key.cmp) probe.old.tree.now
         (P.Inx.number i) k.now (P.numbers result.0) result.1
         (option_map P.Inx.number result.2)) }
 {
     let (generation, node) = probe.show(i);
     let order = ties.order(k, node.t.key());
-    let next = towards::<P>(order, node.p_tree0.get(), node.p_tree1.get());
-    (P::_from_raw(i, generation), order, next)
+    let (next, is_end) = side_or_end::<P>(order, node.p_tree0.get(), node.p_tree1.get());
+    (P::_from_raw(i, generation), order, next, is_end)
 }
 
-// The side on which the search goes on: the greater one of an entry that was answered `Greater`, else the lesser one.
+// The side on which the search goes on, and whether both sides are empty: the greater side of an entry that was answered `Greater`, else the
+// lesser one.
 //
-// Both links of a node are read before one is chosen, so the choice is a conditional move and not a branch. The test for a leaf uses both
-// links. Without it the compiler selects the address first, and the read waits for the comparison of the keys.
+// Both links of a node are read before one is chosen, so the choice is a conditional move and not a branch. At an entry without links a
+// search ends by a branch of its own, which is foreseen; by the chosen link it would end only after the keys were compared.
 #[inline(always)]
-pub(crate) fn towards<P: BasePtr>(
+pub(crate) fn side_or_end<P: BasePtr>(
     order: Ordering,
     lesser: Option<P::Inx>,
     greater: Option<P::Inx>,
-) -> Option<P::Inx>
-    ensures { option_map P.Inx.number result
+) -> (Option<P::Inx>, bool)
+    ensures side { option_map P.Inx.number result.0
         ≡ side_of order (option_map P.Inx.number lesser) (option_map P.Inx.number greater) }
+    ensures end { result.1 ≡ true → option_map P.Inx.number result.0 ≡ None }
 {
-    if lesser.is_none() && greater.is_none() {
-        return None;
-    }
-    if order.is_gt() { greater } else { lesser }
+    let is_end = lesser.is_none() && greater.is_none();
+    let next = if order.is_gt() { greater } else { lesser };
+    (next, is_end)
 }
 
 // The equal entry after everything that is left, if any, after one more step. `Greater` keeps it: the shown entry is before what is left.

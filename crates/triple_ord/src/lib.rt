@@ -24,7 +24,7 @@ pub use arena::{
 };
 pub use arena_base::{
     Advancer, Arena, ArenaCloneFromWith, ArenaTrait, BasePtr, BasePtrGen, BasePtrInx,
-    CompactArenaTrait, InvalidationOption, InvalidationResult, ItemsMut, P0, P8, PN, Ptr,
+    CompactArenaTrait, InvalidationOption, InvalidationResult, ItemsMut, P0, P8, P32, PN, Ptr,
     PtrAdvancer, PtrGen, PtrInx, Q0, ReallocationError, Recast, Recaster, SetMaxCapacity,
 };
 pub use chain_base::{ChainArena, LinkNoGen};

@@ -1,12 +1,12 @@
 //! Inserting entries by key, and beside an entry.
-ghost use Rattle.std.specs.Prelude.{◌≡◌, ◌≢◌, ◌+◌, ℕ, Ok, Some, None, IfOk, OnOk, IfErr, OnErr, is_some, if◌then◌else◌};
+ghost use Rattle.std.specs.Prelude.{◌≡◌, ◌≢◌, ◌+◌, ◌<◌, ℕ, Ok, Some, None, IfOk, OnOk, IfErr, OnErr, is_some, if◌then◌else◌};
 ghost use Rattle.std.specs.Option.{option_map};
 ghost use Rattle.std.specs.declared.cmp.Ordering.TheVariants.{Equal};
 ghost use Rattle.ord_tree.specs.Chain.{IsOccupied};
 ghost use Rattle.triple_ord.specs.Arena.{entry_at, count, Updates};
 ghost use Rattle.ord_tree.specs.Insert.{IsInsertion};
 ghost use Rattle.ord_tree.specs.Tree.{CanInsertAt, IsGrown, insert_at};
-ghost use Rattle.triple_ord.specs.Insertion.{with_room_by, LacksSlot, InsertsByKey, InsertsBeside};
+ghost use Rattle.triple_ord.specs.Insertion.{with_room_by, LacksSlot, InsertsByKey, InsertsBeside, PutsBeside};
 ghost use Rattle.triple_ord.specs.declared.growth.Growth.TheVariants.{Within, Reallocating};
 
 use super::SimpleOrdArena;
@@ -121,5 +121,29 @@ impl<P: BasePtr, T: Drop, A: Allocator> SimpleOrdArena<P, T, A> {
     {
         let p = self.tree.insert_reallocating(Some(at), t)?;
         Ok(p)
+    }
+}
+
+impl<P: BasePtr, T, A: Allocator> SimpleOrdArena<P, T, A> {
+    /// Inserts an item directly before (`Less`) or directly after (`Greater`) the entry at an index, whatever the keys, and returns its
+    /// pointer. The direction is never `Equal`.
+    ///
+    /// A slot must be vacant, as after [`reserve`](Self::reserve), so the call can't fail and takes no memory. The new entry has the
+    /// arena's generation and takes the slot freed last, or else the least one never used.
+    ///
+    /// # Complexity
+    ///
+    /// Amortized O(1), at most O(log n). It changes the parent of at most five others.
+    pub fn insert_beside(&mut self, p: P::Inx, direction: Ordering, t: T) -> P
+        requires occupied { IsOccupied self.old.list (P.Inx.number p) }
+        requires direction { direction ≢ Equal }
+        requires vacant { count self.old < self.old.list.capacity }
+        ensures inserts { PutsBeside P.Inx.most
+            (P.Inx.number p) direction self.old t (P.numbers result) self.new }
+        ensures updates { Updates self.old self.new (P.numbers result) (Some t) }
+        ensures count { count self.new ≡ count self.old + 1 }
+        ensures capacity { self.new.list.capacity ≡ self.old.list.capacity }
+    {
+        self.tree.insert_reserved(Some((p, direction)), t)
     }
 }

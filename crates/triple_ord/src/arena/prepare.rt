@@ -101,7 +101,7 @@ impl<P: BasePtr, T: Drop, A: Allocator> SimpleOrdArena<P, T, A> {
         ensures grown { IsGrown self.old.shape self.new.shape }
     {
         let at = place_beside(at);
-        self.tree.insert_within_capacity(at, t).unwrap()
+        self.tree.insert_reserved(at, t)
     }
 
     // The pointer of the next new entry, which has a vacant slot.

@@ -19,10 +19,10 @@ compare_around-p-requires g c =
 pub loop-at-preserved : goal.loop-at-preserved
 loop-at-preserved g c =
     let d = rw c.in-Some.is at c.loop-at.invariant.descended in
-    let seen = rw c.loop-at.invariant.tree at c.compare_around-p.ensures.shown in
+    let seen = rw c.loop-at.invariant.tree at c.compare_around-p.ensures.shows.shown in
     record {
-      tree = c.compare_around-p.ensures.tree ∙ c.loop-at.invariant.tree;
-      descended = rw (seen.next_is, seen.pointer_is, c.compare_around-p.ensures.counted)
+      tree = c.compare_around-p.ensures.shows.tree ∙ c.loop-at.invariant.tree;
+      descended = rw (seen.next_is, seen.pointer_is, c.compare_around-p.ensures.shows.counted)
           (step-on _ c.args.probe.now.tree.now c.args.probe.now.distinct _ _ _ _ _ _ d _ _ _ _ seen.there c.compare_around-p.result.1 tt seen.answered seen.unequal);
     }
 
@@ -32,5 +32,17 @@ returns g c =
     record {
       found = descent-around _ _ _ c.args.probe.now.distinct _ _ _ _ _ _ (rw c.in_default.is at d);
       visits = within_bounds _ c.root-at.ensures.sound c.visits_law.ensures _ (omega (arith, d.descending.few, d.count));
+      distinct = c.args.probe.now.distinct;
+    }
+
+pub returns-then-is_end : goal.returns-then-is_end
+returns-then-is_end g c =
+    let d = rw c.in-Some.is at c.loop-at.invariant.descended in
+    let seen = rw c.loop-at.invariant.tree at c.compare_around-p.ensures.shows.shown in
+    let next = step-on _ c.args.probe.now.tree.now c.args.probe.now.distinct _ _ _ _ _ _ d _ _ _ _ seen.there c.compare_around-p.result.1 tt seen.answered seen.unequal in
+    let last = rw (← seen.next_is, c.compare_around-p.ensures.end c.if-is_end.true, ← seen.pointer_is, ← c.compare_around-p.ensures.shows.counted) at next in
+    record {
+      found = descent-around _ _ _ c.args.probe.now.distinct _ _ _ _ _ _ last;
+      visits = within_bounds _ c.root-at.ensures.sound c.visits_law.ensures _ (omega (arith, last.descending.few, last.count));
       distinct = c.args.probe.now.distinct;
     }

@@ -38,10 +38,25 @@ loop-at-preserved g c =
     record {
       callable = search of_calls;
       tree = c.show-generation.ensures.tree ∙ c.loop-at.invariant.tree;
-      descended = rw (c.towards-at.ensures, c.get-in-Some.ensures.value, c.get.ensures.value, c.show-generation.ensures.counted, c._from_raw-p.ensures)
+      descended = rw (c.side_or_end-next.ensures.side, c.get-in-Some.ensures.value, c.get.ensures.value, c.show-generation.ensures.counted, c._from_raw-p.ensures)
           (step-on _ c.args.probe.now.tree.now c.args.probe.now.distinct _ _ _ _ _ _ d _ _ _ _ shown c.f-order.result c.f-order.new.self
           (λ e is item. record { named = c._from_raw-p.result; item = _; names = c._from_raw-p.ensures ∙ sym is; shows = sym item; called = c.f-order.ensures })
           (sym c.is_eq.ensures ∙ c.if-is_eq.false));
+    }
+
+pub returns-then-is_end-clause-descends : goal.returns-then-is_end-clause-descends
+returns-then-is_end-clause-descends g c =
+    let d = rw c.in-Some.is at c.loop-at.invariant.descended in
+    let shown = rw c.loop-at.invariant.tree at c.show-generation.ensures.shown in
+    let end = sym c.side_or_end-next.ensures.side ∙ c.side_or_end-next.ensures.end c.if-is_end.true in
+    let next = step-on _ c.args.probe.now.tree.now c.args.probe.now.distinct _ _ _ _ _ _ d _ _ _ _ shown c.f-order.result c.f-order.new.self
+    (λ e is item. record { named = c._from_raw-p.result; item = _; names = c._from_raw-p.ensures ∙ sym is; shows = sym item; called = c.f-order.ensures })
+    (sym c.is_eq.ensures ∙ c.if-is_eq.false) in
+    let last = rw (rw (c.get-in-Some.ensures.value, c.get.ensures.value) at end) at next in
+    record {
+      found = rw (c.show-generation.ensures.counted, c._from_raw-p.ensures) (descent-ends _ c.args.probe.now.tree.now c.args.probe.now.distinct _ _ _ _ _ last);
+      visits = within_bounds _ c.root-at.ensures.sound c.visits_law.ensures _ (omega (arith, last.descending.few, last.count, c.show-generation.ensures.counted));
+      counted = omega (arith, last.count, c.show-generation.ensures.counted);
     }
 
 pub returns-clause-descends : goal.returns-clause-descends

@@ -13,18 +13,18 @@ compare-p-requires g c =
 pub loop-at-smaller : goal.loop-at-smaller
 loop-at-smaller g c =
     let d = rw c.in-Some.is at (c.loop-at.invariant.descended c.requires.descended.0 c.requires.descended.1) in
-    omega (arith, step-few c.args.probe.now.tree.now c.args.probe.now.distinct _ _ d.descending, d.count, c.requires.descended.1.count, c.compare-p.ensures.counted)
+    omega (arith, step-few c.args.probe.now.tree.now c.args.probe.now.distinct _ _ d.descending, d.count, c.requires.descended.1.count, c.compare-p.ensures.shows.counted)
 
 pub loop-at-preserved : goal.loop-at-preserved
 loop-at-preserved g c =
-    let seen = rw c.loop-at.invariant.tree at c.compare-p.ensures.shown in
+    let seen = rw c.loop-at.invariant.tree at c.compare-p.ensures.shows.shown in
     let met = ap (option_map g.P.BasePtr.numbers) c.met_behind-met.ensures ∙ met_next-map {Y = ℕ × ℕ} g.P.BasePtr.numbers c.loop-at.met c.compare-p.result.0 c.compare-p.result.1 in
     record {
-      tree = c.compare-p.ensures.tree ∙ c.loop-at.invariant.tree;
-      more = omega (arith, c.loop-at.invariant.more, c.compare-p.ensures.counted);
+      tree = c.compare-p.ensures.shows.tree ∙ c.loop-at.invariant.tree;
+      more = omega (arith, c.loop-at.invariant.more, c.compare-p.ensures.shows.counted);
       descended = λ before start.
           let d = rw c.in-Some.is at (c.loop-at.invariant.descended before start) in
-          rw (c.compare-p.ensures.counted, met) (by_key-step _ _ c.args.probe.now.tree.now c.args.probe.now.distinct _ _ _ _ _ _ d _ _ _ seen);
+          rw (c.compare-p.ensures.shows.counted, met) (by_key-step _ _ c.args.probe.now.tree.now c.args.probe.now.distinct _ _ _ _ _ _ d _ _ _ seen);
     }
 
 pub returns-in-Some-met-clause-ended : goal.returns-in-Some-met-clause-ended
