@@ -2,13 +2,34 @@
 use crate::store::Store;
 use crate::task::{Linked, Reached};
 use std::alloc::{AllocError, Global};
-use triple_ord::{BasePtr, OrdInsertKind, OrdPair, P0, SimpleOrdArena};
+use triple_ord::{BasePtr, OrdInsertKind, OrdPair, P0, P32, SimpleOrdArena};
 
-/// An ordered arena of pairs.
+/// An ordered arena of pairs, with the usual pointers.
 pub type Pairs = SimpleOrdArena<P0, OrdPair<u64, u64>>;
 
-impl Store for Pairs {
-    type Name = P0;
+/// An ordered arena of pairs, with generations of 32 bits.
+pub type SmallPairs = SimpleOrdArena<P32, OrdPair<u64, u64>>;
+
+/// A pointer with a generation that can be added up.
+pub trait Numbered: BasePtr<Inx = u32> {
+    /// Its generation as a number.
+    fn generation_number(self) -> u64;
+}
+
+impl Numbered for P0 {
+    fn generation_number(self) -> u64 {
+        self.generation()
+    }
+}
+
+impl Numbered for P32 {
+    fn generation_number(self) -> u64 {
+        u64::from(self.generation())
+    }
+}
+
+impl<P: Numbered> Store for SimpleOrdArena<P, OrdPair<u64, u64>> {
+    type Name = P;
 
     fn empty(alloc: Global) -> Self {
         SimpleOrdArena::new(alloc)
@@ -27,19 +48,19 @@ impl Store for Pairs {
 
     fn find(&self, key: u64) -> u64 {
         match self.find_key(&key) {
-            Some(p) => u64::from(p.inx()).wrapping_add(p.generation()),
+            Some(p) => u64::from(p.inx()).wrapping_add(p.generation_number()),
             None => 0,
         }
     }
 
-    fn take(&mut self, name: P0) -> u64 {
+    fn take(&mut self, name: P) -> u64 {
         match self.remove(name).allow() {
             Some(pair) => *pair.v(),
             None => 0,
         }
     }
 
-    fn names(&self, alloc: Global) -> Result<Vec<P0>, AllocError> {
+    fn names(&self, alloc: Global) -> Result<Vec<P>, AllocError> {
         let mut names = Vec::new(alloc);
         for (p, _) in self {
             names.push(p)?;
@@ -86,12 +107,12 @@ pub fn appended(alloc: Global, keys: &[u64]) -> Result<Pairs, AllocError> {
 
 /// An arena with pointers to its entries, in a random order.
 #[derive(Clone, Copy)]
-pub struct Pointed<'a> {
-    pub pairs: &'a Pairs,
-    pub pointers: &'a [P0],
+pub struct Pointed<'a, P: BasePtr = P0> {
+    pub pairs: &'a SimpleOrdArena<P, OrdPair<u64, u64>>,
+    pub pointers: &'a [P],
 }
 
-impl Reached for Pointed<'_> {
+impl<P: BasePtr> Reached for Pointed<'_, P> {
     fn get_all(&self) -> u64 {
         let mut sum = 0u64;
         for p in self.pointers {
@@ -103,7 +124,7 @@ impl Reached for Pointed<'_> {
     }
 }
 
-impl Linked for Pointed<'_> {
+impl<P: BasePtr<Inx = u32>> Linked for Pointed<'_, P> {
     fn neighbours_of_all(&self) -> u64 {
         let mut sum = 0u64;
         for p in self.pointers {

@@ -1,5 +1,5 @@
 //! The measures of the arena, each of it and of another structure in turn.
-use crate::arena::{Pairs, Pointed, appended};
+use crate::arena::{Pairs, Pointed, SmallPairs, appended};
 use crate::hints::{FromHints, FromTheRoot, hints_of};
 use crate::keys::{Keys, keys_of, pairs_of, shuffle};
 use crate::lap::{Lap, rounds};
@@ -17,21 +17,26 @@ pub fn run(rt: &HostRuntime, n: usize) -> Result<()> {
     let keys = keys_of(rt.alloc(), n)?;
     compare_changing(rt, &keys)?;
     compare_standing(rt, &keys)?;
-    compare_rebuilt(rt, &keys)
+    compare_rebuilt(rt, &keys)?;
+    compare_small(rt, &keys)
 }
 
 // Entries that come and go.
 fn compare_changing(rt: &HostRuntime, keys: &Keys) -> Result<()> {
-    let works = [
+    for (measure, work) in &changes(keys) {
+        compare_work::<Pairs, Map>(rt, MAP, measure, *work)?;
+    }
+    compare_appending(rt, &keys.ascending)
+}
+
+// What is done to structures whose entries come and go.
+fn changes(keys: &Keys) -> [(&'static str, Work<'_>); 4] {
+    [
         ("insert random keys", Work::Fill(&keys.random)),
         ("insert ascending keys", Work::Fill(&keys.ascending)),
         ("remove by pointer", Work::Remove(keys)),
         ("remove and insert", Work::Churn(keys)),
-    ];
-    for (measure, work) in &works {
-        compare_work(rt, measure, *work)?;
-    }
-    compare_appending(rt, &keys.ascending)
+    ]
 }
 
 // Entries that stay.
@@ -51,9 +56,9 @@ fn compare_standing(rt: &HostRuntime, keys: &Keys) -> Result<()> {
 // The arena of these keys beside a map of them.
 fn compare_with_map(rt: &HostRuntime, pairs: &Pairs, keys: &Keys) -> Result<()> {
     let map: Map = filled(rt.alloc(), &keys.random)?;
-    compare_finding(rt, "find hits", pairs, &map, &keys.hits)?;
-    compare_finding(rt, "find misses", pairs, &map, &keys.misses)?;
-    compare_walking(rt, "go through in order", pairs, &map)
+    compare_finding(rt, MAP, "find hits", pairs, &map, &keys.hits)?;
+    compare_finding(rt, MAP, "find misses", pairs, &map, &keys.misses)?;
+    compare_walking(rt, MAP, "go through in order", pairs, &map)
 }
 
 // The arena in the canonical order.
@@ -66,18 +71,75 @@ fn compare_rebuilt(rt: &HostRuntime, keys: &Keys) -> Result<()> {
     }
     let rebuilt = rebuilt_of(rt.alloc(), &keys.random)?;
     let map: Map = filled(rt.alloc(), &keys.random)?;
-    compare_walking(rt, "go through rebuilt", &rebuilt, &map)
+    compare_walking(rt, MAP, "go through rebuilt", &rebuilt, &map)
+}
+
+// The arena with generations of 32 bits, beside the usual one.
+fn compare_small(rt: &HostRuntime, keys: &Keys) -> Result<()> {
+    for (measure, work) in &changes(keys) {
+        compare_work::<SmallPairs, Pairs>(rt, SMALL, measure, *work)?;
+    }
+    let small: SmallPairs = filled(rt.alloc(), &keys.random)?;
+    let usual: Pairs = filled(rt.alloc(), &keys.random)?;
+    for (measure, keys) in &[("find hits", &keys.hits), ("find misses", &keys.misses)] {
+        compare_finding(rt, SMALL, measure, &small, &usual, keys)?;
+    }
+    compare_walking(rt, SMALL, "go through in order", &small, &usual)?;
+    compare_small_pointers(rt, &small, &usual)
+}
+
+// The names of the structures that are measured in turn.
+const MAP: (&str, &str) = ("arena", "BTreeMap");
+
+const SMALL: (&str, &str) = ("arena of P32", "arena");
+
+fn compare_small_pointers(rt: &HostRuntime, small: &SmallPairs, usual: &Pairs) -> Result<()> {
+    let mut small_names = small.names(rt.alloc())?;
+    shuffle(small_names.as_mut_slice());
+    let mut names = usual.names(rt.alloc())?;
+    shuffle(names.as_mut_slice());
+    let own = Pointed {
+        pairs: small,
+        pointers: small_names.as_slice(),
+    };
+    let other = Pointed {
+        pairs: usual,
+        pointers: names.as_slice(),
+    };
+    let measure = Measure {
+        n: usual.len(),
+        name: "get by pointer",
+        own_name: SMALL.0,
+        other_name: SMALL.1,
+    };
+    compare(rt, measure, &Getting(&own), &Getting(&other))?;
+    let neighbours = Measure {
+        name: "both neighbours",
+        ..measure
+    };
+    compare(rt, neighbours, &Neighbours(&own), &Neighbours(&other))
 }
 
 // Prints the best rounds of the arena and of a map.
 fn report(rt: &HostRuntime, n: usize, measure: &str, arena: Lap, map: Lap) -> Result<()> {
+    report_both(rt, MAP, n, measure, (arena, map))
+}
+
+// Prints the best rounds of two structures with these names.
+fn report_both(
+    rt: &HostRuntime,
+    names: (&str, &str),
+    n: usize,
+    measure: &str,
+    laps: (Lap, Lap),
+) -> Result<()> {
     let row = Row {
         n,
         measure,
-        name: "arena",
-        own: arena,
-        other: map,
-        other_name: "BTreeMap",
+        name: names.0,
+        own: laps.0,
+        other: laps.1,
+        other_name: names.1,
     };
     print(rt, row)?;
     Ok(())
@@ -137,14 +199,19 @@ fn churning<S: Store>(rt: &HostRuntime, keys: &Keys) -> Result<Lap> {
     Ok(Lap::since(rt, start, sum)?)
 }
 
-fn compare_work(rt: &HostRuntime, measure: &str, work: Work) -> Result<()> {
-    let mut arena = work.lap::<Pairs>(rt)?;
-    let mut map = work.lap::<Map>(rt)?;
+fn compare_work<S: Store, O: Store>(
+    rt: &HostRuntime,
+    names: (&str, &str),
+    measure: &str,
+    work: Work,
+) -> Result<()> {
+    let mut own = work.lap::<S>(rt)?;
+    let mut other = work.lap::<O>(rt)?;
     for _ in 1..rounds(work.size()) {
-        arena = arena.or_quicker(work.lap::<Pairs>(rt)?);
-        map = map.or_quicker(work.lap::<Map>(rt)?);
+        own = own.or_quicker(work.lap::<S>(rt)?);
+        other = other.or_quicker(work.lap::<O>(rt)?);
     }
-    report(rt, work.size(), measure, arena, map)
+    report_both(rt, names, work.size(), measure, (own, other))
 }
 
 fn appending(rt: &HostRuntime, keys: &[u64]) -> Result<Lap> {
@@ -163,21 +230,22 @@ fn compare_appending(rt: &HostRuntime, keys: &[u64]) -> Result<()> {
     report(rt, keys.len(), "append ascending keys", arena, map)
 }
 
-fn compare_finding(
+fn compare_finding<S: Store, O: Store>(
     rt: &HostRuntime,
+    names: (&str, &str),
     measure: &str,
-    pairs: &Pairs,
-    map: &Map,
+    own: &S,
+    other: &O,
     keys: &[u64],
 ) -> Result<()> {
     let measure = Measure {
         n: keys.len(),
         name: measure,
-        own_name: "arena",
-        other_name: "BTreeMap",
+        own_name: names.0,
+        other_name: names.1,
     };
-    let own = Finding { store: pairs, keys };
-    compare(rt, measure, &own, &Finding { store: map, keys })
+    let own = Finding { store: own, keys };
+    compare(rt, measure, &own, &Finding { store: other, keys })
 }
 
 fn compare_hints(rt: &HostRuntime, measure: &str, pairs: &Pairs, places: usize) -> Result<()> {
@@ -193,18 +261,24 @@ fn compare_hints(rt: &HostRuntime, measure: &str, pairs: &Pairs, places: usize) 
     compare(rt, measure, &own, &FromTheRoot { pairs, hints })
 }
 
-fn compare_walking(rt: &HostRuntime, measure: &str, pairs: &Pairs, map: &Map) -> Result<()> {
+fn compare_walking<S: Store, O: Store>(
+    rt: &HostRuntime,
+    names: (&str, &str),
+    measure: &str,
+    own: &S,
+    other: &O,
+) -> Result<()> {
     let measure = Measure {
-        n: pairs.len(),
+        n: own.size(),
         name: measure,
-        own_name: "arena",
-        other_name: "BTreeMap",
+        own_name: names.0,
+        other_name: names.1,
     };
     compare(
         rt,
         measure,
-        &Walking { store: pairs },
-        &Walking { store: map },
+        &Walking { store: own },
+        &Walking { store: other },
     )
 }
 

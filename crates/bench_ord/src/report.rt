@@ -41,7 +41,7 @@ fn print_table(rt: &HostRuntime, row: Row) -> io::Result<()> {
     let (other, other_tenth) = in_tenths(per_operation(row.other, n));
     let (ratio, hundredths) = ratio(row.own, row.other);
     eprintln!(rt;
-        "{n:>8} {measure:<22} {own:>5}.{own_tenth} {other:>5}.{other_tenth} {ratio:>3}.{hundredths:02} {other_name}"
+        "{n:>8} {name:<14} {measure:<22} {own:>5}.{own_tenth} {other:>5}.{other_tenth} {ratio:>3}.{hundredths:02} {other_name}"
     )
 }
 

@@ -15,5 +15,6 @@ pub use error::{RekeyUniqueError, SortedError, UniqueInsertionError};
 pub use parts::{Items, Keys, Values, ValuesDescending};
 pub use range::Range;
 pub use triple_ord::{
-    BasePtr, BasePtrGen, BasePtrInx, P0, P8, PN, Ptr, PtrGen, PtrInx, Q0, ReallocationError, Visits,
+    BasePtr, BasePtrGen, BasePtrInx, P0, P8, P32, PN, Ptr, PtrGen, PtrInx, Q0, ReallocationError,
+    Visits,
 };

@@ -1,6 +1,7 @@
 //! Arenas, pointers and errors, as printed.
 use arena_base::{
-    Arena, BasePtr, InsertionError, MaxCapacityReductionError, P0, P8, PN, Q0, ReallocationError,
+    Arena, BasePtr, InsertionError, MaxCapacityReductionError, P0, P8, P32, PN, Q0,
+    ReallocationError,
 };
 use std::alloc::Global;
 
@@ -34,16 +35,17 @@ fn an_arena_prints_as_a_map(rt: HostRuntime) {
     assert!(rt; is_text(text_of(rt.alloc(), &words(rt.alloc())), WORDS));
 }
 
-/// Returns the texts of pointers of four types.
+/// Returns the texts of pointers of five types.
 fn text_of_pointers(alloc: Global) -> Option<String> {
     let (p, q) = (P0::invalid(), Q0::_from_raw(7, 3));
     let (small, plain) = (P8::invalid(), PN::_from_raw(1, ()));
-    format!(in alloc; "{p:?} {q:#?} {small:?} {plain:?}").ok()
+    let middle = P32::_from_raw(7, 3);
+    format!(in alloc; "{p:?} {q:#?} {middle:?} {small:?} {plain:?}").ok()
 }
 
 #[test]
 fn pointers_print_their_index_and_generation(rt: HostRuntime) {
-    let wanted = "P0[4294967295](1) Q0[7](3) P8[255](1) PN[1](())";
+    let wanted = "P0[4294967295](1) Q0[7](3) P32[7](3) P8[255](1) PN[1](())";
     assert!(rt; is_text(text_of_pointers(rt.alloc()), wanted));
 }
 

@@ -1,6 +1,6 @@
 //! Removals, observed through the nodes.
 use super::support::{Keys, SmallKeys, at, five, has_keys, has_ranks, keys, remove_key, write_key};
-use arena_base::{BasePtr, InvalidationResult, P8};
+use arena_base::{BasePtr, InvalidationResult, P8, P32};
 use linked_list_allocator::LocalHeap;
 use std::alloc::Global;
 use triple_ord::{OrdInsertionError, OrdPair, SimpleOrdArena};
@@ -104,15 +104,15 @@ fn removals_take_no_memory(rt: HostRuntime) {
 }
 
 /// Inserts a key. Returns its pointer, or the invalid one on `Err`.
-fn put(a: &mut SmallKeys, key: u64) -> P8 {
+fn put<P: BasePtr>(a: &mut SimpleOrdArena<P, OrdPair<u64, ()>>, key: u64) -> P {
     match a.insert(OrdPair::new(key, ())) {
         Ok((p, _)) => p,
-        Err(_) => P8::invalid(),
+        Err(_) => P::invalid(),
     }
 }
 
 /// Removes an entry, and returns whether the generation overflows, `None` if there is no entry.
-fn begins_again(a: &mut SmallKeys, p: P8) -> Option<bool> {
+fn begins_again<P: BasePtr>(a: &mut SimpleOrdArena<P, OrdPair<u64, ()>>, p: P) -> Option<bool> {
     match a.remove(p) {
         InvalidationResult::Success(_) => Some(false),
         InvalidationResult::GenerationOverflow(_) => Some(true),
@@ -144,4 +144,20 @@ fn removed_pointers_stay_invalid_until_the_generation_overflows(rt: HostRuntime)
     assert!(rt; (a.generation(), a.len()) == (2, 1));
     // the next entry has the index and the generation of the first stale pointer
     assert!(rt; ended.first() == Some(&put(&mut a, 1)));
+}
+
+#[test]
+fn generations_of_32_bits_begin_again_after_the_greatest(rt: HostRuntime) {
+    let mut a: SimpleOrdArena<P32, OrdPair<u64, ()>> = SimpleOrdArena::new(rt.alloc());
+    let first = put(&mut a, 50);
+    let kept = put(&mut a, 30);
+    assert!(rt; begins_again(&mut a, first) == Some(false));
+    a.set_generation(u32::MAX);
+    let last = put(&mut a, 70);
+    assert!(rt; (last.inx(), last.generation()) == (1, u32::MAX));
+    assert!(rt; !a.contains(first) && a.contains(kept));
+    assert!(rt; begins_again(&mut a, last) == Some(true));
+    // the next entry has the index and the generation of the first pointer
+    assert!(rt; put(&mut a, 60) == first);
+    assert!(rt; a.find_key(&60) == Some(first));
 }
