@@ -8,4 +8,5 @@ pub mod Putting
 pub mod Moving
 pub mod Rekeying
 pub mod Ended
+pub mod Cloning
 pub mod CallerLemmas

@@ -1,5 +1,5 @@
 -- What an agenda is: one list of jobs, each with its ticket and its deadline, in the order in which they leave.
-use Rattle.std.specs.Prelude.{◌≡◌, ◌≢◌, ℕ, ◌+◌, ◌≤◌, ◌<◌, ◌==◌, ◌&&◌, leb, nat_lt, if◌then◌else◌, Bool, List, [], ◌∷◌, ◌++◌, length, Option, Some, None}
+use Rattle.std.specs.Prelude.{◌≡◌, ◌≢◌, ℕ, ◌+◌, ◌≤◌, ◌<◌, ◌==◌, ◌&&◌, leb, nat_lt, max, if◌then◌else◌, Bool, List, [], ◌∷◌, ◌++◌, length, Option, Some, None}
 use Rattle.std.specs.{Option.option_map, List.All, Borrow.Bor}
 use Rattle.triple_ord.specs.PlainArena.{doubled_capacity}
 -- how many jobs an agenda can have, the greatest generation of a ticket, and the generation after one
@@ -31,6 +31,11 @@ module _ {J : Type 0} where
   -- how many jobs there are
   abbrev pub count : Agenda J → ℕ
   count a = length a.jobs
+
+  -- the greatest index of a ticket, or 0 if there are no jobs
+  abbrev pub greatest_index : List (Scheduled J) → ℕ
+  greatest_index [] = 0
+  greatest_index (x ∷ xs) = max x.ticket.0 (greatest_index xs)
 
   -- so many more jobs fit without growing
   abbrev pub HasRoomFor : ℕ → Agenda J → Type 0

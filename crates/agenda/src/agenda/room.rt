@@ -2,7 +2,7 @@
 
 ghost use Rattle.std.specs.Prelude.{◌≡◌, ◌↔◌, ◌+◌, ◌<◌, [], Err, IfOk, IsOk, OnOk};
 ghost use Rattle.triple_ord.specs.PlainArena.{capacity_for};
-ghost use Rattle.agenda.specs.Agenda.{most_entries, count, with_left, HasRoomFor};
+ghost use Rattle.agenda.specs.Agenda.{most_entries, count, greatest_index, with_left, HasRoomFor};
 ghost use Rattle.agenda.specs.Tickets.{IsStep};
 ghost use Rattle.agenda.specs.Calls.{MayGrow};
 
@@ -49,6 +49,8 @@ impl<J: Drop, A: Allocator> Agenda<J, A> {
 impl<J: Clone + Drop, A: Allocator + Copy> Agenda<J, A> {
     /// Returns a clone on the same allocator: the same jobs under the same tickets. A clone of a job has to equal it. O(capacity).
     ///
+    /// The clone's capacity is the greatest index of a ticket, which is at least the number of jobs and at most this agenda's capacity.
+    ///
     /// # Errors
     ///
     /// `AllocError`: memory for the jobs, or for the clone of a job, is refused.
@@ -56,6 +58,7 @@ impl<J: Clone + Drop, A: Allocator + Copy> Agenda<J, A> {
         requires clones { (x y : J) → J.is_clone x y → y ≡ x }
         ensures jobs { IfOk result (λ a. a.jobs ≡ self.now.jobs) }
         ensures generation { IfOk result (λ a. a.generation ≡ self.now.generation) }
+        ensures capacity { IfOk result (λ a. a.capacity ≡ greatest_index self.now.jobs) }
         ensures none { count self.now ≡ 0 → IsOk result }
     {
         Ok(Agenda {
