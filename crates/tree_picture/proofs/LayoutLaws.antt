@@ -1,5 +1,5 @@
 -- The laws of every layout.
-use Rattle.std.proofs.Common.{◌≡◌, ℕ, zero, suc, ◌+◌, ◌<◌, Option, Some, None, List, [], ◌∷◌, ◌++◌, length, map, get_or, refl, sym, ap, ◌∙◌, arith, inl, inr, append_assoc, append-nil, length-append, max}
+use Rattle.std.proofs.Common.{◌≡◌, ℕ, zero, suc, ◌+◌, ◌<◌, nat_lt, Option, Some, None, List, [], ◌∷◌, ◌++◌, length, map, get_or, refl, sym, ap, ◌∙◌, arith, inl, inr, append_assoc, append-nil, length-append, max}
 use Rattle.std.specs.Prelude.{All, slice_get, IsSomeAnd, MatchOption, option_and_then}
 use Rattle.std.specs.List.{range_with_len}
 use Rattle.std.proofs.{Math.ListN.get_or-map, lemmas.List.map-append, lemmas.List.FromFn.get_or-range_with_len}
@@ -114,7 +114,7 @@ levels-within : (whole front back : List Place) (from depth : ℕ) (above : Opti
 levels-within whole front back from depth above missing cut starts below = All-nil _
 levels-within whole front back from depth above (node l i k r) cut starts below =
     let at = from + size_of l in
-    let place : Place = record { column = at; depth = depth; rank = k; kind = kind_of k (rank_of l) (rank_of r); parent = above } in
+    let place : Place = record { column = at; depth = depth; rank = k; kind = kind_of k (rank_of l) (rank_of r); parent = above; has_greater = nat_lt 0 (size_of r) } in
     let lesser = laid from (depth + 1) (Some at) l in
     let greater = laid (at + 1) (depth + 1) (Some at) r in
     let many : length lesser ≡ size_of l = length-laid from (depth + 1) (Some at) l in
@@ -147,7 +147,7 @@ shown-within whole front back from depth above over (node l i k r) cut starts li
     let at = from + size_of l in
     let many : length (walk l) ≡ size_of l = length-walk l in
     let here : slice_get whole at ≡ Some i = get-at whole front (walk l) i (walk r) back at cut (omega (arith, starts, many)) in
-    let place : Place = record { column = at; depth = depth; rank = k; kind = kind_of k (rank_of l) (rank_of r); parent = above } in
+    let place : Place = record { column = at; depth = depth; rank = k; kind = kind_of k (rank_of l) (rank_of r); parent = above; has_greater = nat_lt 0 (size_of r) } in
     let shown : ShowsIn whole over (node l i k r) place = rw here (inl (refl, refl), inl (refl, link)) in
     let in_all = ShowsAt whole over (node l i k r) in
     All-around (ShowsIn whole over (node l i k r)) (laid from (depth + 1) (Some at) l) place (laid (at + 1) (depth + 1) (Some at) r)

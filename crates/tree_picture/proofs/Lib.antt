@@ -4,3 +4,4 @@ pub mod LinkedParts
 pub mod LayoutLaws
 pub mod Laying
 pub mod Listing
+pub mod Widest

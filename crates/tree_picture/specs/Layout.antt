@@ -1,5 +1,5 @@
 -- Where the nodes of a tree stand in its picture.
-use Rattle.std.specs.Prelude.{ℕ, ◌+◌, ◌*◌, ◌==◌, ◌&&◌, if◌then◌else◌, min, max, Option, Some, List, [], ◌∷◌, ◌++◌, length}
+use Rattle.std.specs.Prelude.{ℕ, ◌+◌, ◌*◌, ◌==◌, ◌&&◌, nat_lt, if◌then◌else◌, min, max, Option, Some, List, [], ◌∷◌, ◌++◌, length}
 use Rattle.std.specs.Str.{chars}
 use Rattle.triple_ord.specs.Shape.{Shape, missing, node, rank_of, size_of}
 use Rattle.tree_picture.specs.declared.place.{Kind.Kind, Kind.TheVariants.Full, Kind.TheVariants.Uneven, Kind.TheVariants.Slack, Place.Place}
@@ -17,7 +17,7 @@ laid from depth above missing = []
 laid from depth above (node l i k r) =
     let at = from + size_of l in
     laid from (depth + 1) (Some at) l
-    ++ record { column = at; depth = depth; rank = k; kind = kind_of k (rank_of l) (rank_of r); parent = above }
+    ++ record { column = at; depth = depth; rank = k; kind = kind_of k (rank_of l) (rank_of r); parent = above; has_greater = nat_lt 0 (size_of r) }
     ∷ laid (at + 1) (depth + 1) (Some at) r
 
 -- where the box of a node in this column begins from the left, and of one at this depth from the top

@@ -1,6 +1,7 @@
 -- What public clauses cite.
 pub mod Layout
 pub mod Text
+pub mod Drawing
 pub mod Laws
 -- The parts of a shape. No public clause cites these files.
 pub mod Below

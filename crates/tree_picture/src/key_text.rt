@@ -1,5 +1,5 @@
 //! Keys and captions, cut to what fits.
-ghost use Rattle.std.specs.Prelude.{◌≡◌, ◌<◌, IfOk, string_bytes, length, take, encode_utf8, flat_map};
+ghost use Rattle.std.specs.Prelude.{◌≡◌, ◌<◌, IfOk, OnErr, string_bytes, length, take, encode_utf8, flat_map};
 ghost use Rattle.std.specs.Str.{chars};
 ghost use Rattle.tree_picture.specs.Text.{shortened_text};
 
@@ -28,11 +28,15 @@ fn beginning<A: Allocator>(alloc: A, text: &str, n: usize) -> Result<String<A>, 
 ///
 /// # Errors
 ///
-/// `AllocError`: memory is refused.
+/// `AllocError`: an allocation failed. The empty text needs none.
 pub fn shortened<A: Allocator>(alloc: A, text: &str, most: usize) -> Result<String<A>, AllocError>
     requires { 0 < most }
-    ensures { IfOk result (λ short. string_bytes short ≡ shortened_text most text.now) }
+    ensures value { IfOk result (λ short. string_bytes short ≡ shortened_text most text.now) }
+    ensures memory { OnErr result (0 < length text.now) }
 {
+    if text.is_empty() {
+        return Ok(String::new(alloc));
+    }
     if char_count(text) <= most {
         return String::from_str(alloc, text);
     }

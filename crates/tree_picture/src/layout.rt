@@ -61,6 +61,7 @@ fn lay<P: BasePtr, T, A: Allocator>(
         rank: branch.rank,
         kind: kind_of(branch.rank, lesser.rank, greater.rank),
         parent: above,
+        has_greater: greater.nodes > 0,
     };
     lay(arena, branch.lesser, depth + 1, Some(column), places)?;
     places.push(place)?;
@@ -122,15 +123,8 @@ where
     Ok(nodes)
 }
 
-/// Returns the picture of an arena's tree: the i-th node is the i-th entry of the list, in column i.
-///
-/// O(n log n), because the extent of each side is found on each level.
-///
-/// # Errors
-///
-/// - `TooLarge`: the arena has more than [`MOST_ENTRIES`] entries.
-/// - `AllocError`: memory is refused.
-pub fn picture_of<P: BasePtr, T: SimpleOrdItem, A: Allocator + Copy>(
+/// Returns the picture of an arena that has entries.
+fn picture_of_entries<P: BasePtr, T: SimpleOrdItem, A: Allocator + Copy>(
     alloc: A,
     arena: &SimpleOrdArena<P, T, A>,
 ) -> Result<Picture<P, A>, PictureError>
@@ -154,4 +148,58 @@ where
     let places = places_of(alloc, arena)?;
     let nodes = nodes_at(alloc, arena, &places)?;
     Ok(Picture { nodes, levels })
+}
+
+/// Returns the picture of an arena without entries.
+fn empty_picture<P: BasePtr, T: SimpleOrdItem, A: Allocator + Copy>(
+    alloc: A,
+    arena: &SimpleOrdArena<P, T, A>,
+) -> Picture<P, A>
+where
+    T::Key: Display,
+    requires { count arena.now ≡ 0 }
+    ensures places { map (λ n. n.place) result.nodes.items ≡ laid 0 0 None arena.now.shape }
+    ensures pointers { map (λ n. P.numbers n.pointer) result.nodes.items ≡ pointers arena.now }
+    ensures keys { ShowEach T.Key.output T.key_of arena.now.list.entries
+        (map (λ n. string_bytes n.key) result.nodes.items) }
+    ensures levels { result.levels ≡ height arena.now.shape }
+{
+    // For the prover: the list and the shape are sound.
+    let _ = arena.len();
+    Picture {
+        nodes: Vec::new(alloc),
+        levels: 0,
+    }
+}
+
+/// Returns the picture of an arena's tree: the i-th node is the i-th entry of the list, in column i.
+///
+/// O(n log n), because the extent of each side is found on each level.
+///
+/// # Errors
+///
+/// - `TooLarge`: the arena has more than [`MOST_ENTRIES`] entries.
+/// - `AllocError`: an allocation failed. An arena without entries needs none.
+pub fn picture_of<P: BasePtr, T: SimpleOrdItem, A: Allocator + Copy>(
+    alloc: A,
+    arena: &SimpleOrdArena<P, T, A>,
+) -> Result<Picture<P, A>, PictureError>
+where
+    T::Key: Display,
+    ensures places { IfOk result
+        (λ picture. map (λ n. n.place) picture.nodes.items ≡ laid 0 0 None arena.now.shape) }
+    ensures pointers { IfOk result
+        (λ picture. map (λ n. P.numbers n.pointer) picture.nodes.items ≡ pointers arena.now) }
+    ensures keys { IfOk result
+        (λ picture. ShowEach T.Key.output T.key_of arena.now.list.entries
+        (map (λ n. string_bytes n.key) picture.nodes.items)) }
+    ensures levels { IfOk result (λ picture. picture.levels ≡ height arena.now.shape) }
+    ensures too_large { IsErrOf result PictureError.TooLarge
+        ↔ (MOST_ENTRIES < count arena.now) }
+    ensures memory { IsErrOf result PictureError.AllocError → 0 < count arena.now }
+{
+    if arena.is_empty() {
+        return Ok(empty_picture(alloc, arena));
+    }
+    picture_of_entries(alloc, arena)
 }

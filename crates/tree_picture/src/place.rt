@@ -41,6 +41,8 @@ pub struct Place {
     pub kind: Kind,
     /// The column of the parent; `None` at the root.
     pub parent: Option<u16>,
+    /// Whether it has a greater side.
+    pub has_greater: bool,
 }
 
 impl Place {

@@ -1,5 +1,5 @@
 //! Pictures side by side.
-ghost use Rattle.std.specs.Prelude.{◌≡◌, ◌+◌, ◌<◌, ◌↔◌, ◌++◌, ◌∷◌, [], max, map, length, IsErrOf, OnOk, OnErr, string_bytes};
+ghost use Rattle.std.specs.Prelude.{◌≡◌, ◌+◌, ◌≤◌, ◌<◌, ◌↔◌, ◌⊎◌, ◌++◌, ◌∷◌, [], max, map, length, IsErrOf, OnOk, OnErr, string_bytes, vec_capacity, vec_len};
 ghost use Rattle.tree_picture.specs.Text.{shortened_text};
 ghost use Rattle.tree_picture.specs.Layout.{panel_width, height_of};
 
@@ -70,7 +70,7 @@ impl<P: Drop, A: Allocator + Copy> Sheet<P, A> {
     ///
     /// The sheet is unchanged and the picture is dropped.
     /// - `TooLarge`: the sheet would be wider than [`MOST_WIDTH`].
-    /// - `AllocError`: memory is refused.
+    /// - `AllocError`: an allocation failed. None is needed for an empty caption if the list of panels has room.
     pub fn push(
         &mut self,
         alloc: A,
@@ -90,6 +90,9 @@ impl<P: Drop, A: Allocator + Copy> Sheet<P, A> {
             ≡ max self.old.height (height_of picture.levels)) }
         ensures too_large { IsErrOf result PictureError.TooLarge
             ↔ (MOST_WIDTH < self.old.width + panel_width caption.now (length picture.nodes.items)) }
+        ensures memory { IsErrOf result PictureError.AllocError
+            → (vec_capacity self.old.panels ≤ vec_len self.old.panels)
+            ⊎ (0 < length caption.now) }
         ensures panels_err { OnErr result (self.new.panels.items ≡ self.old.panels.items) }
         ensures width_err { OnErr result (self.new.width ≡ self.old.width) }
         ensures height_err { OnErr result (self.new.height ≡ self.old.height) }

@@ -1,11 +1,18 @@
 //! A picture in box characters, for a terminal.
+ghost use Rattle.std.specs.Prelude.{◌≡◌, ◌/◌, true, false, [], ◌++◌, IfOk, IsOk, string_bytes, length};
+ghost use Rattle.std.specs.Str.{chars, trim_end};
+ghost use Rattle.tree_picture.specs.Drawing.{Adds, label_text, widest_label, stroke, half_up, label_cell, is_lesser, goes_on, parent_sign, child_sign, sign_at, level_cell, level_cells, branch_cells, line_of, line_unless_blank, level_lines, drawing};
+
 use crate::key_text::char_count;
 use crate::picture::{Node, Picture};
-use crate::place::Kind;
+use crate::place::{Kind, Place};
 use std::alloc::{AllocError, Allocator};
+use std::fmt::Write;
 
 /// Returns a node's key and rank, between brackets that show its kind.
-fn label<P, A: Allocator + Copy>(alloc: A, node: &Node<P, A>) -> Result<String<A>, AllocError> {
+fn label<P, A: Allocator + Copy>(alloc: A, node: &Node<P, A>) -> Result<String<A>, AllocError>
+    ensures { IfOk result (λ label. string_bytes label ≡ label_text node.now) }
+{
     let (key, rank) = (node.key.as_str(), node.place.rank);
     match node.place.kind {
         Kind::Full => format!(in alloc; "[{key}:{rank}]"),
@@ -14,121 +21,216 @@ fn label<P, A: Allocator + Copy>(alloc: A, node: &Node<P, A>) -> Result<String<A
     }
 }
 
-/// Returns the labels of the nodes.
-fn labels<P, A: Allocator + Copy>(
+/// Returns the number of characters of a node's label.
+fn label_width<P, A: Allocator + Copy>(alloc: A, node: &Node<P, A>) -> Result<usize, AllocError>
+    ensures { IfOk result (λ width. width ≡ length (chars (label_text node.now))) }
+{
+    let label = label(alloc, node)?;
+    Ok(char_count(label.as_str()))
+}
+
+/// Returns the number of characters of the widest label.
+#[tactic(auto, using(crate::proofs::Widest::widest_more))]
+fn widest_label<P, A: Allocator + Copy>(alloc: A, nodes: &[Node<P, A>]) -> Result<usize, AllocError>
+    ensures value { IfOk result (λ widest. widest ≡ widest_label nodes.now) }
+    ensures none { nodes.now ≡ [] → IsOk result }
+{
+    let mut widest = 0usize;
+    for node in nodes {
+        widest = widest.max(label_width(alloc, node)?);
+    }
+    Ok(widest)
+}
+
+/// Returns half of a number, rounded up.
+fn half_up(n: usize) -> usize
+    ensures { result ≡ half_up n }
+{
+    n - n / 2
+}
+
+/// Appends so many blanks, or dashes.
+fn push_stroke<A: Allocator + Copy>(
+    alloc: A,
+    row: &mut String<A>,
+    is_drawn: bool,
+    n: usize,
+) -> Result<(), AllocError>
+    ensures { Adds result row.old row.new (stroke is_drawn n) }
+{
+    if is_drawn {
+        row.push_str("─".repeat(alloc, n)?.as_str())
+    } else {
+        row.push_str(" ".repeat(alloc, n)?.as_str())
+    }
+}
+
+/// Appends a label in the middle of its column.
+fn push_label<A: Allocator + Copy>(
+    alloc: A,
+    row: &mut String<A>,
+    width: usize,
+    label: &str,
+) -> Result<(), AllocError>
+    ensures { Adds result row.old row.new (label_cell width label.now) }
+{
+    let blanks = width.saturating_sub(char_count(label));
+    push_stroke(alloc, row, false, half_up(blanks))?;
+    row.push_str(label)?;
+    push_stroke(alloc, row, false, blanks / 2)?;
+    row.push_str(" ")
+}
+
+/// Appends a node's column in the row of the level at a depth: its label if it is on that level, else blanks.
+fn push_level_cell<P, A: Allocator + Copy>(
+    alloc: A,
+    row: &mut String<A>,
+    node: &Node<P, A>,
+    width: usize,
+    depth: u16,
+) -> Result<(), AllocError>
+    ensures { Adds result row.old row.new (level_cell width depth node.now) }
+{
+    if node.place.depth == depth {
+        let label = label(alloc, node)?;
+        push_label(alloc, row, width, label.as_str())
+    } else {
+        push_stroke(alloc, row, false, width)?;
+        row.push_str(" ")
+    }
+}
+
+/// Returns the row of the level at a depth: each of its nodes is in its column.
+fn level_row<P, A: Allocator + Copy>(
     alloc: A,
     nodes: &[Node<P, A>],
-) -> Result<Vec<String<A>, A>, AllocError> {
-    let mut labels = Vec::with_capacity(alloc, nodes.len())?;
-    for node in nodes {
-        labels.push(label(alloc, node)?)?;
-    }
-    Ok(labels)
-}
-
-/// Returns the width of a column, in characters: that of the widest label, and a space.
-fn column_width<A: Allocator>(labels: &[String<A>]) -> usize {
-    let mut widest = 0usize;
-    for label in labels {
-        widest = widest.max(char_count(label.as_str()));
-    }
-    widest.saturating_add(1)
-}
-
-/// Writes a character into a row, if it has that place.
-fn put(row: &mut [char], at: usize, c: char) {
-    if let Some(place) = row.get_mut(at) {
-        *place = c;
-    }
-}
-
-/// Empties a row.
-fn clear(row: &mut [char]) {
-    for place in row.iter_mut() {
-        *place = ' ';
-    }
-}
-
-/// Writes a text into a row from a place on.
-fn put_text(row: &mut [char], at: usize, text: &str) {
-    let mut place = at;
-    for c in text.chars() {
-        put(row, place, c);
-        place = place.saturating_add(1);
-    }
-}
-
-/// Writes the labels of the nodes at a depth.
-fn put_labels<P, A: Allocator>(
-    row: &mut [char],
-    nodes: &[Node<P, A>],
-    labels: &[String<A>],
-    depth: u16,
     width: usize,
-) {
-    for (node, label) in nodes.iter().zip(labels) {
-        if node.place.depth == depth {
-            let text = label.as_str();
-            let indent = width.saturating_sub(char_count(text)) / 2;
-            let left = (node.place.column as usize).saturating_mul(width);
-            put_text(row, left.saturating_add(indent), text);
-        }
-    }
-}
-
-/// Draws the line from a child's middle to its parent's.
-fn put_branch(row: &mut [char], child: usize, parent: usize) {
-    let is_lesser = child < parent;
-    let (from, until) = if is_lesser {
-        (child, parent)
-    } else {
-        (parent, child)
-    };
-    let joins = row.get(parent).is_some_and(|c| *c != ' ');
-    for at in from..until {
-        put(row, at, '─');
-    }
-    put(row, child, if is_lesser { '┌' } else { '┐' });
-    let end = if is_lesser { '┘' } else { '└' };
-    put(row, parent, if joins { '┴' } else { end });
-}
-
-/// Draws the lines from the nodes below a depth to their parents.
-fn put_branches<P, A: Allocator>(row: &mut [char], nodes: &[Node<P, A>], depth: u16, width: usize) {
-    let middle = width / 2;
+    depth: u16,
+) -> Result<String<A>, AllocError>
+    ensures { IfOk result (λ row. string_bytes row ≡ level_cells width depth nodes.now) }
+{
+    let mut row = String::new(alloc);
     for node in nodes {
-        let place = &node.place;
-        if let Some(parent) = place.parent
-            && place.depth == depth.saturating_add(1)
-        {
-            let child_at = (place.column as usize)
-                .saturating_mul(width)
-                .saturating_add(middle);
-            let parent_at = (parent as usize)
-                .saturating_mul(width)
-                .saturating_add(middle);
-            put_branch(row, child_at, parent_at);
-        }
+        push_level_cell(alloc, &mut row, node, width, depth)?;
+    }
+    Ok(row)
+}
+
+/// Returns whether a node is its parent's lesser child.
+fn is_lesser(place: &Place) -> bool
+    ensures { result ≡ is_lesser place.now }
+{
+    match place.parent {
+        Some(above) => place.column < above,
+        None => false,
     }
 }
 
-/// Returns the number of characters up to the last that is no space.
-fn used_length(row: &[char]) -> usize {
-    let mut used = 0;
-    for (at, c) in row.iter().enumerate() {
-        if *c != ' ' {
-            used = at + 1;
-        }
+/// Returns whether the line below the level at `depth` goes on behind a node.
+fn goes_on(depth: u16, place: &Place, before: bool) -> bool
+    ensures { result ≡ goes_on depth place.now before }
+{
+    if place.depth == depth {
+        place.has_greater
+    } else if u32::from(place.depth) == u32::from(depth) + 1 {
+        is_lesser(place)
+    } else {
+        before
     }
-    used
 }
 
-/// Appends a row as a line, without the spaces at its end.
-fn push_row<A: Allocator>(text: &mut String<A>, row: &[char]) -> Result<(), AllocError> {
-    for c in row.iter().take(used_length(row)) {
-        text.push(*c)?;
+/// Returns the sign at a parent, by whether the line is drawn up to it and behind it.
+fn parent_sign(before: bool, behind: bool) -> char
+    ensures { result ≡ parent_sign before behind }
+{
+    match (before, behind) {
+        (true, true) => '┴',
+        (true, false) => '┘',
+        (false, true) => '└',
+        (false, false) => ' ',
     }
-    text.push('\n')
+}
+
+/// Returns the sign at a child, by whether the line is drawn behind it.
+fn child_sign(behind: bool) -> char
+    ensures { result ≡ child_sign behind }
+{
+    if behind { '┌' } else { '┐' }
+}
+
+/// Appends the sign of a node on the line below the level at `depth`.
+fn push_sign<A: Allocator + Copy>(
+    alloc: A,
+    row: &mut String<A>,
+    depth: u16,
+    place: &Place,
+    before: bool,
+    behind: bool,
+) -> Result<(), AllocError>
+    ensures { Adds result row.old row.new (sign_at depth place.now before behind) }
+{
+    if place.depth == depth {
+        row.push(parent_sign(before, behind))
+    } else if u32::from(place.depth) == u32::from(depth) + 1 {
+        row.push(child_sign(behind))
+    } else {
+        push_stroke(alloc, row, before, 1)
+    }
+}
+
+/// Returns the row below the level at a depth, which joins its nodes to their children.
+fn branch_row<P, A: Allocator + Copy>(
+    alloc: A,
+    nodes: &[Node<P, A>],
+    width: usize,
+    depth: u16,
+) -> Result<String<A>, AllocError>
+    ensures { IfOk result (λ row. string_bytes row ≡ branch_cells width depth false nodes.now) }
+{
+    let mut row = String::new(alloc);
+    let mut before = false;
+    for node in nodes {
+        let behind = goes_on(depth, &node.place, before);
+        push_stroke(alloc, &mut row, before, half_up(width))?;
+        push_sign(alloc, &mut row, depth, &node.place, before, behind)?;
+        push_stroke(alloc, &mut row, behind, width / 2)?;
+        before = behind;
+    }
+    Ok(row)
+}
+
+/// Appends a row as a line, without the blanks at its end.
+fn push_line<A: Allocator>(text: &mut String<A>, row: &str) -> Result<(), AllocError>
+    ensures { Adds result text.old text.new (line_of row.now) }
+{
+    text.push_str(row.trim_end())?;
+    text.push_str("\n")
+}
+
+/// Appends a row as a line, or nothing if it is blank.
+fn push_line_unless_blank<A: Allocator>(text: &mut String<A>, row: &str) -> Result<(), AllocError>
+    ensures { Adds result text.old text.new (line_unless_blank row.now) }
+{
+    if row.trim_end().is_empty() {
+        return Ok(());
+    }
+    push_line(text, row)
+}
+
+/// Appends the lines of a level: the level itself, and what joins it to the next one.
+fn push_level<P, A: Allocator + Copy>(
+    alloc: A,
+    text: &mut String<A>,
+    nodes: &[Node<P, A>],
+    width: usize,
+    depth: u16,
+) -> Result<(), AllocError>
+    ensures { Adds result text.old text.new (level_lines width nodes.now depth) }
+{
+    let level = level_row(alloc, nodes, width, depth)?;
+    push_line(text, level.as_str())?;
+    let branches = branch_row(alloc, nodes, width, depth)?;
+    push_line_unless_blank(text, branches.as_str())
 }
 
 /// Returns a picture as lines of text: a level a line, with lines between that join each node to its parent.
@@ -138,25 +240,19 @@ fn push_row<A: Allocator>(text: &mut String<A>, row: &[char]) -> Result<(), Allo
 ///
 /// # Errors
 ///
-/// `AllocError`: memory is refused.
+/// `AllocError`: an allocation failed. An empty picture needs none.
 pub fn text_of<P, A: Allocator + Copy>(
     alloc: A,
     picture: &Picture<P, A>,
-) -> Result<String<A>, AllocError> {
+) -> Result<String<A>, AllocError>
+    ensures value { IfOk result (λ text. string_bytes text ≡ drawing picture.now) }
+    ensures none { picture.now.nodes.items ≡ [] → picture.now.levels ≡ 0 → IsOk result }
+{
     let nodes = picture.nodes.as_slice();
-    let labels = labels(alloc, nodes)?;
-    let width = column_width(&labels);
-    let mut row = vec![in alloc; ' '; nodes.len().saturating_mul(width)]?;
+    let width = widest_label(alloc, nodes)?;
     let mut text = String::new(alloc);
     for depth in 0..picture.levels {
-        clear(&mut row);
-        put_labels(&mut row, nodes, &labels, depth, width);
-        push_row(&mut text, &row)?;
-        clear(&mut row);
-        put_branches(&mut row, nodes, depth, width);
-        if used_length(&row) > 0 {
-            push_row(&mut text, &row)?;
-        }
+        push_level(alloc, &mut text, nodes, width, depth)?;
     }
     Ok(text)
 }

@@ -1,4 +1,4 @@
-use Rattle.std.proofs.Common.{◌≡◌, ◌+◌, option_map, length, ap, arith, rules}
+use Rattle.std.proofs.Common.{◌≡◌, ◌+◌, nat_lt, option_map, length, ap, arith, rules}
 use Rattle.std.proofs.lemmas.Result.{on_ok_weaker}
 use Rattle.triple_ord.specs.Shape.{rank_of, size_of, height}
 use Rattle.tree_picture.specs.{Below.part_below, Layout.kind_of}
@@ -25,4 +25,5 @@ returns g t c =
     rw (c.in-Some.is, c.in-Some-branch_at.ensures)
     (on_ok_weaker c.lay-2.result
     (laid-node c.args.places.now.items c.lay.new.places.items c.push.new.self.items c.lay-2.new.places.items c.args.depth
-    (c.len.result + c.extent_below-lesser.result.nodes) (g.P.Inx.BasePtrInx.number c.in-Some.i) c.in-Some-branch_at.branch.rank c.args.above l r c.kind_of.result is c.in_ok-lay.ensures c.in_ok-push.ensures.items kind) c.lay-2.ensures)
+    (c.len.result + c.extent_below-lesser.result.nodes) (g.P.Inx.BasePtrInx.number c.in-Some.i) c.in-Some-branch_at.branch.rank c.args.above l r c.kind_of.result _ is c.in_ok-lay.ensures c.in_ok-push.ensures.items kind
+    (ap (λ n. nat_lt 0 n) c.extent_below-greater.ensures.nodes)) c.lay-2.ensures)

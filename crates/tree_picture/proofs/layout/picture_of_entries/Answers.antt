@@ -6,7 +6,7 @@ use Rattle.tree_picture.proofs.LayoutLaws.{length-laid}
 use Rattle.tree_picture.proofs.LinkedParts.{size-listed}
 use Rattle.tree_picture.proofs.Listing.{as-many}
 use Rattle.tree_picture.proofs.Parts.{whole-found}
-use Rattle.tree_picture.proofs.layout.picture_of.Goals as goal
+use Rattle.tree_picture.proofs.layout.picture_of_entries.Goals as goal
 
 pub nodes_at-requires : goal.nodes_at-requires
 nodes_at-requires g c =
