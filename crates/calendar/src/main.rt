@@ -6,7 +6,7 @@ mod command;
 
 use answers::{Calendar, obey};
 use command::Fault;
-use command_line::{Session, obey_arguments, serve};
+use command_line::{Failure, Session, ended, obey_arguments, serve};
 use std::alloc::Global;
 use std::io::{BufWriter, Write};
 use std::process::ExitCode;
@@ -66,9 +66,10 @@ impl Session for Clerk {
     }
 }
 
-/// Serves standard input, and writes the figures as the last line.
-fn run(rt: &(impl Input + Print + AllocGlobal)) -> io::Result<()> {
-    let mut out = BufWriter::new(rt.alloc(), io::writer(rt))?;
+/// Serves standard input, and writes the figures as the last line, unless reading or writing failed.
+fn run(rt: &(impl Input + Print + AllocGlobal)) -> Result<(), Failure> {
+    let writer = BufWriter::new(rt.alloc(), io::writer(rt));
+    let mut out = writer.map_err(Failure::writing)?;
     let mut clerk = Clerk {
         alloc: rt.alloc(),
         calendar: Timeline::new(rt.alloc()),
@@ -76,21 +77,27 @@ fn run(rt: &(impl Input + Print + AllocGlobal)) -> io::Result<()> {
         done: 0,
         bad: 0,
     };
-    let end = serve(rt, &mut out, &mut clerk);
+    serve(rt, &mut out, &mut clerk)?;
     let (lines, done, bad) = (clerk.lines, clerk.done, clerk.bad);
+    let changes = clerk.calendar.len();
     writeln!(
         out,
-        "lines {lines}, done {done}, bad {bad}, changes {}",
-        clerk.calendar.len()
-    )?;
-    out.flush()?;
-    end
+        "lines {lines}, done {done}, bad {bad}, changes {changes}"
+    )
+    .map_err(Failure::writing)?;
+    out.flush().map_err(Failure::writing)
 }
 
-fn main(rt: HostRuntime) -> io::Result<ExitCode> {
-    if let Some(status) = obey_arguments(&rt, "calendar", HELP)? {
+/// Does what the arguments ask for, or serves standard input.
+fn obey_or_run(rt: &HostRuntime) -> Result<ExitCode, Failure> {
+    if let Some(status) = obey_arguments(rt, "calendar", HELP)? {
         return Ok(status);
     }
-    run(&rt)?;
+    run(rt)?;
     Ok(ExitCode::SUCCESS)
+}
+
+fn main(rt: HostRuntime) -> ExitCode {
+    let outcome = obey_or_run(&rt);
+    ended(&rt, "calendar", outcome)
 }

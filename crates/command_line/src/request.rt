@@ -1,5 +1,6 @@
 //! The arguments: none, or `--help` alone.
 
+use crate::failure::Failure;
 use std::env::Env;
 use std::process::ExitCode;
 use std::{env, io};
@@ -25,29 +26,38 @@ enum Request {
 ///
 /// # Errors
 ///
-/// - Those of [`env::args`](std::env::args): an argument isn't text, or memory is refused.
-/// - Writing failed.
+/// - `Arguments`: an argument isn't text.
+/// - `Writing`: what is to be written couldn't be.
+/// - `Memory`: memory is refused.
 pub fn obey_arguments(
     rt: &(impl Env + Print + Eprint + AllocGlobal),
     program: &str,
     help: &str,
-) -> io::Result<Option<ExitCode>> {
+) -> Result<Option<ExitCode>, Failure> {
     match requested(rt)? {
         Request::Serve => Ok(None),
         Request::Help => {
-            print!(rt; "{help}")?;
+            print!(rt; "{help}").map_err(Failure::writing)?;
             Ok(Some(ExitCode::SUCCESS))
         }
         Request::Unknown(argument) => {
-            eprintln!(rt; "{program}: unknown argument {argument}; try {program} --help")?;
+            let _ = eprintln!(rt; "{program}: unknown argument {argument}; try {program} --help");
             Ok(Some(ExitCode::from(WRONG_USAGE)))
         }
     }
 }
 
+// The failure of reading the arguments.
+fn unread(error: io::Error) -> Failure {
+    match error.kind() {
+        io::ErrorKind::OutOfMemory => Failure::Memory,
+        _ => Failure::Arguments,
+    }
+}
+
 // What the arguments ask for.
-fn requested(rt: &(impl Env + AllocGlobal)) -> io::Result<Request> {
-    let mut arguments = env::args(rt)?.skip(1);
+fn requested(rt: &(impl Env + AllocGlobal)) -> Result<Request, Failure> {
+    let mut arguments = env::args(rt).map_err(unread)?.skip(1);
     let Some(first) = arguments.next() else {
         return Ok(Request::Serve);
     };

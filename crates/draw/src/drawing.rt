@@ -8,7 +8,7 @@ use std::str;
 use tree_picture::{Sheet, picture_of, svg_of, text_of};
 use triple_ord::{OrdInsertionError, P0, SimpleOrdArena};
 
-/// Returns the command on a line, if it is neither blank nor a comment.
+/// Returns the command on a line, if it is neither blank nor a comment. The line ends as it was read.
 fn command_on(alloc: Global, number: usize, line: &[u8]) -> Result<Option<PairCommand>, DrawError> {
     let mut script = parse(alloc, line)?;
     match script.fault {
@@ -59,7 +59,7 @@ fn add_picture(
 pub fn sheet_of(alloc: Global, script: &[u8], moment: Moment) -> Result<Sheet<P0>, DrawError> {
     let mut arena: PairArena<Global> = SimpleOrdArena::new(alloc);
     let mut sheet = Sheet::new(alloc);
-    for (index, line) in script.split(|b| *b == b'\n').enumerate() {
+    for (index, line) in script.split_inclusive(|b| *b == b'\n').enumerate() {
         if let Some(command) = command_on(alloc, index.saturating_add(1), line)? {
             obey(alloc, &mut arena, command)?;
             match moment {

@@ -8,7 +8,7 @@ mod exchange;
 
 use answers::{Figures, obey, report, write_totals};
 use command::Fault;
-use command_line::{Session, obey_arguments, serve};
+use command_line::{Failure, Session, ended, obey_arguments, serve};
 use exchange::Exchange;
 use std::alloc::Global;
 use std::io::{BufWriter, Write};
@@ -62,24 +62,30 @@ impl Session for Clerk {
     }
 }
 
-/// Serves standard input, and writes the totals as the last line.
-fn run(rt: &(impl Input + Print + AllocGlobal)) -> io::Result<()> {
-    let mut writer = BufWriter::new(rt.alloc(), io::writer(rt))?;
+/// Serves standard input, and writes the totals as the last line, unless reading or writing failed.
+fn run(rt: &(impl Input + Print + AllocGlobal)) -> Result<(), Failure> {
+    let writer = BufWriter::new(rt.alloc(), io::writer(rt));
+    let mut out = writer.map_err(Failure::writing)?;
     let mut clerk = Clerk {
         alloc: rt.alloc(),
         exchange: Exchange::new(rt.alloc()),
         figures: Figures::new(),
     };
-    let end = serve(rt, &mut writer, &mut clerk);
-    write_totals(&mut writer, &clerk.exchange, &clerk.figures)?;
-    writer.flush()?;
-    end
+    serve(rt, &mut out, &mut clerk)?;
+    write_totals(&mut out, &clerk.exchange, &clerk.figures).map_err(Failure::writing)?;
+    out.flush().map_err(Failure::writing)
 }
 
-fn main(rt: HostRuntime) -> io::Result<ExitCode> {
-    if let Some(status) = obey_arguments(&rt, "exchange", HELP)? {
+/// Does what the arguments ask for, or serves standard input.
+fn obey_or_run(rt: &HostRuntime) -> Result<ExitCode, Failure> {
+    if let Some(status) = obey_arguments(rt, "exchange", HELP)? {
         return Ok(status);
     }
-    run(&rt)?;
+    run(rt)?;
     Ok(ExitCode::SUCCESS)
+}
+
+fn main(rt: HostRuntime) -> ExitCode {
+    let outcome = obey_or_run(&rt);
+    ended(&rt, "exchange", outcome)
 }

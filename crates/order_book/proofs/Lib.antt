@@ -1,4 +1,5 @@
 pub mod Volumes
+pub mod Rooms
 pub mod Apart
 pub mod Pairs
 pub mod Deals

@@ -1,6 +1,6 @@
 //! `OrderBook`: bids and asks.
 
-ghost use Rattle.std.specs.Prelude.{◌≡◌, ◌≢◌, ◌↔◌, ◌+◌, ◌-◌, ◌<◌, ◌++◌, ◌⊎◌, ℕ, true, false, Ok, Err, Some, None, length, vec_capacity};
+ghost use Rattle.std.specs.Prelude.{◌≡◌, ◌≢◌, ◌↔◌, ◌+◌, ◌-◌, ◌≤◌, ◌<◌, ◌++◌, ◌⊎◌, ℕ, true, false, Ok, Err, Some, None, length, vec_capacity};
 ghost use Rattle.std.specs.Prelude.{IfOk, OnOk, OnErr, OnSome, IfSome, IfNone};
 ghost use Rattle.std.specs.Option.{option_map};
 ghost use Rattle.order_queue.specs.PlainArena.{capacity_for};
@@ -285,6 +285,10 @@ impl<A: Allocator> OrderBook<A> {
             (volume (trades_of self.old order) ≡ order.quantity) }
         ensures room { OnOk result ((n : ℕ) → HasRoomFor (n + 1) (queue self.old order.side)
             → HasRoomFor n (queue self.new order.side)) }
+        ensures other_room { OnOk result ((n : ℕ)
+            → HasRoomFor n (queue self.old (opposite order.side))
+            → HasRoomFor n (queue self.new (opposite order.side))) }
+        ensures kept_room { vec_capacity trades.old ≤ vec_capacity trades.new }
         ensures nothing { (result ≡ Err PlacingError.NoQuantity) ↔ (order.quantity ≡ 0) }
         ensures would_trade { (result ≡ Err PlacingError.WouldTrade)
             ↔ ((order.quantity ≢ 0) × (only_rests order.kind ≡ true)
@@ -356,6 +360,12 @@ impl<A: Allocator> OrderBook<A> {
             → IsUntraded other (trades_of (without self.old id)
             (replacement self.old id price quantity))
             → named self.new other ≡ named self.old other) }
+        ensures room { OnOk result ((n : ℕ) → HasRoomFor n (queue self.old id.side)
+            → HasRoomFor n (queue self.new id.side)) }
+        ensures other_room { OnOk result ((n : ℕ)
+            → HasRoomFor n (queue self.old (opposite id.side))
+            → HasRoomFor n (queue self.new (opposite id.side))) }
+        ensures kept_room { vec_capacity trades.old ≤ vec_capacity trades.new }
         ensures nothing { (result ≡ Err ReplacingError.NoQuantity) ↔ (quantity ≡ 0) }
         ensures unknown { (result ≡ Err ReplacingError.NoOrder)
             ↔ ((quantity ≢ 0) × (named self.old id ≡ None)) }

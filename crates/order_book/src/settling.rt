@@ -1,6 +1,6 @@
 //! What an order does to the two sides of a book.
 
-ghost use Rattle.std.specs.Prelude.{◌≡◌, ◌≢◌, ◌↔◌, ◌+◌, ◌<◌, ◌⊎◌, ℕ, Err, Some, None, length, vec_capacity, if◌then◌else◌};
+ghost use Rattle.std.specs.Prelude.{◌≡◌, ◌≢◌, ◌↔◌, ◌+◌, ◌≤◌, ◌<◌, ◌⊎◌, ℕ, Err, Some, None, length, vec_capacity, if◌then◌else◌};
 ghost use Rattle.std.specs.Prelude.{IfOk, OnOk, OnErr, IfSome, IsOk};
 ghost use Rattle.order_queue.specs.Queue.{most_entries, order_of, resting, with_left, HasRoomFor};
 ghost use Rattle.order_book.specs.Book.{limit_of, can_rest, dealt, deals, remainder, IsFull, LacksRoom, RestsOrNot};
@@ -65,6 +65,9 @@ pub(crate) fn settle<A: Allocator, B: Allocator>(
         → OnOk result (trades.new.items ≡ trades.old.items) }
     ensures room { OnOk result
         ((n : ℕ) → HasRoomFor (n + 1) own.old → HasRoomFor n own.new) }
+    ensures other_room { OnOk result
+        ((n : ℕ) → HasRoomFor n other.old → HasRoomFor n other.new) }
+    ensures kept_room { vec_capacity trades.old ≤ vec_capacity trades.new }
 {
     let price = order.kind.limit(order.side);
     // If the side is full, that is the refusal, also if the trades would be refused memory.
@@ -109,6 +112,11 @@ pub(crate) fn settle_anew<A: Allocator, B: Allocator>(
     ensures own_others { IfOk result (λ id. (p : ℕ × ℕ)
         → Some (record { side = own.old.side; pointer = p }) ≢ id → p ≢ pointer
         → order_of own.new.orders p ≡ order_of own.old.orders p) }
+    ensures room { OnOk result
+        ((n : ℕ) → HasRoomFor n own.old → HasRoomFor n own.new) }
+    ensures other_room { OnOk result
+        ((n : ℕ) → HasRoomFor n other.old → HasRoomFor n other.new) }
+    ensures kept_room { vec_capacity trades.old ≤ vec_capacity trades.new }
 {
     let price = order.kind.limit(order.side);
     let left = other.offer(price, order.quantity, trades)?;

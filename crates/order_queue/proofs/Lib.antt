@@ -6,5 +6,6 @@ pub mod Naming
 pub mod Putting
 pub mod Trading
 pub mod Taking
+pub mod Lasting
 pub mod Reducing
 pub mod Levels

@@ -53,16 +53,14 @@ impl OrderId {
         self.side
     }
 
-    /// Returns the index of the order on its side: from 1 to 4,294,967,294 if the name names an order.
-    ///
-    /// No two orders that rest on a side have the same index, and none is greater than the side's capacity.
+    /// Returns the index of the order's pointer.
     pub fn index(self) -> u32
         ensures { result ≡ self.pointer.0 }
     {
         self.pointer.inx()
     }
 
-    /// Returns the generation: at least 2 if the name names an order.
+    /// Returns the generation of the order's pointer.
     pub fn generation(self) -> u64
         ensures { result ≡ self.pointer.1 }
     {

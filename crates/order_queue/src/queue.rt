@@ -1,6 +1,6 @@
 //! `OrderQueue`: the resting orders of one side.
 
-ghost use Rattle.std.specs.Prelude.{◌≡◌, ◌↔◌, ◌+◌, ◌-◌, ◌≤◌, ◌<◌, [], ◌++◌, Err, Some, None, length, vec_capacity};
+ghost use Rattle.std.specs.Prelude.{◌≡◌, ◌↔◌, ◌+◌, ◌-◌, ◌≤◌, ◌<◌, [], ◌++◌, ℕ, Err, Some, None, length, vec_capacity};
 ghost use Rattle.std.specs.Prelude.{IfOk, OnOk, OnErr, OnSome, IfSome, IsOk};
 ghost use Rattle.std.specs.Option.{option_map};
 ghost use Rattle.sorted_arena.specs.PlainArena.{capacity_for};
@@ -250,7 +250,7 @@ impl<A: Allocator> OrderQueue<A> {
     }
 
     /// Appends the trades of an order of the other side with this limit and quantity, the first order's first, and returns what is left of
-    /// the quantity. The orders stay as they are. O(1) for each trade.
+    /// the quantity. The orders stay as they are, and the list's capacity never shrinks. O(1) for each trade.
     ///
     /// # Errors
     ///
@@ -267,6 +267,7 @@ impl<A: Allocator> OrderQueue<A> {
         ensures memory { OnErr result (vec_capacity trades.old < length trades.old.items
             + length (trades_of_first (traded self.now limit quantity) self.now.orders)) }
         ensures err { OnErr result (trades.new.items ≡ trades.old.items) }
+        ensures kept_room { vec_capacity trades.old ≤ vec_capacity trades.new }
         ensures sound { IsSound self.now }
     {
         let before = trades.len();
@@ -290,7 +291,8 @@ impl<A: Allocator> OrderQueue<A> {
 
     /// Takes so many units off, from the first order on. An order of which nothing is left leaves. O(log n) for each order that leaves.
     pub fn take(&mut self, quantity: u64)
-        ensures { self.new ≡ taken quantity self.old }
+        ensures after { self.new ≡ taken quantity self.old }
+        ensures room { (n : ℕ) → HasRoomFor n self.old → HasRoomFor n self.new }
     {
         let mut left = quantity;
         while left > 0 {

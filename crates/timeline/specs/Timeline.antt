@@ -76,7 +76,7 @@ module _ {V : Type 0} where
   HoldsRefusable is_infallible cs from until = (v : V) × (¬ (is_infallible v)) × ((t : ℕ) → from ≤ t → t ≤ until → value_at cs t ≡ Some v)
 
   -- A call that makes this the value from one time until another, or removes the values there. It needs room for two more changes, and
-  -- maybe a clone of the value that goes on at the end. If it fails, nothing changes.
+  -- maybe a clone of the value that goes on at the end. It takes the room of at most one setting. If it fails, nothing changes.
   pub record SetsStretch (is_infallible : V → Type 0) (old : Timeline V) (from until : ℕ) (value : Option V)
       (result : Result (Unit {0}) ReallocationError) (new : Timeline V) : Type 0 where
     pub set : OnOk result (IsSet old.changes from until value new.changes)
@@ -84,17 +84,19 @@ module _ {V : Type 0} where
     pub memory : result ≡ Err AllocError
         → (from < until) × ((old.capacity < length old.changes + 2) ⊎ HoldsRefusable is_infallible old.changes from until)
     pub capacity : OnOk result (new.capacity ≡ capacity_set old from until)
+    pub room : OnOk result ((n : ℕ) → HasRoomFor (n + 1) old → HasRoomFor n new)
     pub err : OnErr result (new ≡ old)
     pub lawful : IsTimeline new
 
-  -- A call that makes this the value from one time on, or removes the values from then on. It needs room for two more changes. If it fails,
-  -- nothing changes.
+  -- A call that makes this the value from one time on, or removes the values from then on. It needs room for two more changes, and takes
+  -- the room of at most one setting. If it fails, nothing changes.
   pub record SetsFrom (old : Timeline V) (from : ℕ) (value : Option V)
       (result : Result (Unit {0}) ReallocationError) (new : Timeline V) : Type 0 where
     pub set : OnOk result (IsSetFrom old.changes from value new.changes)
     pub full : (result ≡ Err BeyondMaxCapacity) ↔ (most_entries < length old.changes + 2)
     pub memory : result ≡ Err AllocError → old.capacity < length old.changes + 2
     pub capacity : OnOk result (new.capacity ≡ roomy_capacity old)
+    pub room : OnOk result ((n : ℕ) → HasRoomFor (n + 1) old → HasRoomFor n new)
     pub err : OnErr result (new ≡ old)
     pub lawful : IsTimeline new
 

@@ -196,6 +196,7 @@ fn finish<V: TimelineValue, A: Allocator>(
     ensures err { (at : IsAt changes.old.entries p)
         → OnErr result (changes.new.entries ≡ at.front ++ at.back) }
     ensures keeps { KeepsCapacity changes.old changes.new }
+    ensures count { length changes.new.entries ≤ length changes.old.entries + 1 }
 {
     let after = match end_value(changes, p, spare, taken) {
         Ok(after) => after,
@@ -231,6 +232,7 @@ pub(crate) fn paint<V: TimelineValue, A: Allocator>(
         ((spare ≡ None) × CannotEnd V.is_infallible (changes_of changes.old) from until) }
     ensures err { OnErr result (changes_of changes.new ≡ changes_of changes.old) }
     ensures keeps { KeepsCapacity changes.old changes.new }
+    ensures count { length changes.new.entries ≤ length changes.old.entries + 2 }
 {
     let p = insert_at(changes, from, value);
     let taken = take_over(changes, p, from, until);

@@ -1,6 +1,6 @@
 //! `Timeline`: the value that holds at each time.
 
-ghost use Rattle.std.specs.Prelude.{◌≡◌, true, false, ◌<◌, ◌+◌, ◌*◌, ◌↔◌, ◌⊎◌, [], Some, None, Err, OnOk, OnErr, IfSome, IfNone, length};
+ghost use Rattle.std.specs.Prelude.{◌≡◌, true, false, ◌<◌, ◌+◌, ◌*◌, ◌↔◌, ◌⊎◌, ℕ, [], Some, None, Err, OnOk, OnErr, IfSome, IfNone, length};
 ghost use Rattle.std.specs.Option.{option_copied};
 ghost use Rattle.sorted_arena.specs.PlainArena.{capacity_for};
 ghost use Rattle.timeline.specs.Timeline.{most_entries, value_at, shown_whole, AreChanges, IsTimeline, HasRoomFor};
@@ -119,7 +119,7 @@ impl<V, A: Allocator> Timeline<V, A> {
         Walk::new(&self.changes, from, until)
     }
 
-    /// Makes room for this many more settings: each takes two changes.
+    /// Makes room for this many more settings: each takes the room of two changes at most, so that so many of them never grow the timeline.
     ///
     /// O(n) if the timeline grows, else O(1). If it grows, its capacity at least doubles, up to the limit.
     ///
@@ -230,6 +230,7 @@ impl<V: TimelineValue, A: Allocator> Timeline<V, A> {
             → IfSome until (λ u. from < u) × ((self.old.capacity < length self.old.changes + 2)
             ⊎ CannotEnd V.is_infallible self.old.changes from until) }
         ensures capacity { OnOk result (self.new.capacity ≡ capacity_put self.old from until) }
+        ensures room { OnOk result ((n : ℕ) → HasRoomFor (n + 1) self.old → HasRoomFor n self.new) }
         ensures err { OnErr result (self.new ≡ self.old) }
         ensures lawful { IsTimeline self.new }
     {

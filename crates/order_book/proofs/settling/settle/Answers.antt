@@ -14,7 +14,7 @@ pub returns-in-Ok-rest-clause-settles : goal.returns-in-Ok-rest-clause-settles
 returns-in-Ok-rest-clause-settles g c =
     let q = c.args.other.now in
     let amount : c.args.order.quantity - c.in-Ok.left ≡ dealt q c.args.order = omega (arith, rw c.limit-price.ensures at c.in-Ok.ensures.left) in
-    deals-settle c.args.own.now q _ _ c.args.order _ _ c.in-Ok-rest.id c.offer.ensures.sound (grind (arith, common_steps)) (rw (c.take.ensures, amount) refl) (grind (arith, common_steps))
+    deals-settle c.args.own.now q _ _ c.args.order _ _ c.in-Ok-rest.id c.offer.ensures.sound (grind (arith, common_steps)) (rw (c.take.ensures.after, amount) refl) (grind (arith, common_steps))
 
 pub returns-in-Err-clause-full : goal.returns-in-Err-clause-full
 returns-in-Err-clause-full g c = grind (arith, common_steps)

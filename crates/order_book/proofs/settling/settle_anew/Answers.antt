@@ -21,4 +21,4 @@ pub returns-clause-settles : goal.returns-clause-settles
 returns-clause-settles g c =
     let q = c.args.other.now in
     let amount : c.args.order.quantity - c.in_ok-left.left ≡ dealt q c.args.order = omega (arith, rw c.limit-price.ensures at c.in_ok-left.ensures.left) in
-    deals-settle c.args.own.now q _ _ c.args.order _ _ c.in-Ok.id c.offer.ensures.sound (grind (arith, common_steps)) (rw (c.take.ensures, amount) refl) (grind (arith, common_steps))
+    deals-settle c.args.own.now q _ _ c.args.order _ _ c.in-Ok.id c.offer.ensures.sound (grind (arith, common_steps)) (rw (c.take.ensures.after, amount) refl) (grind (arith, common_steps))

@@ -1,4 +1,4 @@
-use Rattle.std.proofs.Common.{subst, rules, Option, ℕ, IfSome, ◌<◌}
+use Rattle.std.proofs.Common.{subst, rules, arith, Option, ℕ, IfSome, ◌<◌}
 use Rattle.timeline.specs.Layout.{changes_of}
 use Rattle.timeline.proofs.Painting.{IsCleared, at_put, cleared, painted-none, painted-some, painted-refused, painted-kept, stands}
 use Rattle.timeline.proofs.paint.paint.Given.{Over}
@@ -24,6 +24,7 @@ returns-in-Some g c =
       refused = painted-refused (changes_of c.args.changes.now) c.requires.rising c.args.from c.args.until c.args.value c.take_over-taken.result c.take_over-taken.new.changes.entries c.insert_at-p.result clear c.in-Some.until c.in-Some.is ordered g.V.Clone.is_infallible c.args.spare c.finish.result (c.finish.ensures.refused clear.at);
       err = painted-kept (changes_of c.args.changes.now) c.requires.rising c.args.from c.args.until c.args.value c.take_over-taken.result c.take_over-taken.new.changes.entries c.insert_at-p.result clear c.in-Some.until c.in-Some.is ordered g.V.Clone.is_infallible c.args.spare c.finish.new.changes.entries c.finish.result (c.finish.ensures.refused clear.at) (c.finish.ensures.err clear.at);
       keeps = record { capacity = search rules; sound = c.finish.ensures.keeps.sound };
+      count = omega (arith, c.insert_at-p.ensures.count, c.take_over-taken.ensures.count, c.finish.ensures.count);
     }
 
 pub returns-in-None-clause-painted : goal.returns-in-None-clause-painted

@@ -1,6 +1,8 @@
-use Rattle.std.proofs.Common.{sym, subst}
-use Rattle.order_book.specs.Book.{Book, IsBook}
+use Rattle.std.proofs.Common.{sym, subst, ap, ◌∙◌}
+use Rattle.order_queue.specs.declared.side.Side.TheVariants.{Buy, Sell}
+use Rattle.order_book.specs.Book.{Book, IsBook, opposite}
 use Rattle.order_book.proofs.Pairs.{pair-settled_bid, pair-settled_ask}
+use Rattle.order_book.proofs.Rooms.{granted, room-on}
 use Rattle.order_book.proofs.Names.{goes-own, goes-other, step-of}
 use Rattle.order_book.proofs.book.OrderBook.place.Goals.{in-Buy, in-Sell}
 use Rattle.order_book.proofs.book.OrderBook.place.Goals as goal
@@ -44,3 +46,17 @@ returns-in-Ok-clause-steps g c =
       err = tt;
       kept = tt;
     }
+
+pub returns-in-Ok-clause-other_room : goal.returns-in-Ok-clause-other_room
+returns-in-Ok-clause-other_room g c = elim c.match-order.branch [
+  | in-Buy w ↦
+      let settled = w.settle-settled in
+      room-on (opposite c.args.order.side) Sell c.args.self.now c.match-order.self c.self.inside.asks settled.new.other (ap opposite w.in-Buy.is)
+      (ap (λ (b : Book). b.asks) (sym c.self.view_is)) (ap (λ (b : Book). b.asks) w.self-is)
+      (granted settled.result _ (sym w.settled-is ∙ c.in-Ok.is) settled.ensures.other_room)
+  | in-Sell w ↦
+      let settled = w.settle-settled-in-Sell in
+      room-on (opposite c.args.order.side) Buy c.args.self.now c.match-order.self c.self.inside.bids settled.new.other (ap opposite w.in-Sell.is)
+      (ap (λ (b : Book). b.bids) (sym c.self.view_is)) (ap (λ (b : Book). b.bids) w.self-is)
+      (granted settled.result _ (sym w.settled-is ∙ c.in-Ok.is) settled.ensures.other_room)
+]

@@ -1,8 +1,10 @@
 use Rattle.order_queue.specs.Queue.{with_left}
 use Rattle.order_book.specs.declared.new_order.OrderKind.TheVariants.{Limit}
-use Rattle.std.proofs.Common.{sym, subst}
-use Rattle.order_book.specs.Book.{Book, IsBook}
+use Rattle.std.proofs.Common.{sym, subst, ap, ◌∙◌}
+use Rattle.order_queue.specs.declared.side.Side.TheVariants.{Buy, Sell}
+use Rattle.order_book.specs.Book.{Book, IsBook, opposite}
 use Rattle.order_book.proofs.Pairs.{pair-without_bid, pair-without_ask, pair-settled_bid, pair-settled_ask}
+use Rattle.order_book.proofs.Rooms.{granted, room-on}
 use Rattle.order_book.proofs.Names.{goes-own_anew, goes-other, step-of}
 use Rattle.order_book.proofs.book.OrderBook.replace.Goals.{in-Buy, in-Sell}
 use Rattle.order_book.proofs.book.OrderBook.replace.Goals as goal
@@ -46,3 +48,31 @@ returns-in-Ok-clause-steps g c =
       err = tt;
       kept = tt;
     }
+
+pub returns-in-Ok-clause-room : goal.returns-in-Ok-clause-room
+returns-in-Ok-clause-room g c = elim c.match-side.branch [
+  | in-Buy w ↦
+      let settled = w.settle_anew-settled in
+      room-on c.args.id.side Buy c.args.self.now c.match-side.self c.self.inside.bids settled.new.own (sym c.side-3.ensures ∙ w.in-Buy.is)
+      (ap (λ (b : Book). b.bids) (sym c.self.view_is)) (ap (λ (b : Book). b.bids) w.self-is)
+      (granted settled.result _ (sym w.settled-is ∙ c.in-Ok.is) settled.ensures.room)
+  | in-Sell w ↦
+      let settled = w.settle_anew-settled-in-Sell in
+      room-on c.args.id.side Sell c.args.self.now c.match-side.self c.self.inside.asks settled.new.own (sym c.side-3.ensures ∙ w.in-Sell.is)
+      (ap (λ (b : Book). b.asks) (sym c.self.view_is)) (ap (λ (b : Book). b.asks) w.self-is)
+      (granted settled.result _ (sym w.settled-is ∙ c.in-Ok.is) settled.ensures.room)
+]
+
+pub returns-in-Ok-clause-other_room : goal.returns-in-Ok-clause-other_room
+returns-in-Ok-clause-other_room g c = elim c.match-side.branch [
+  | in-Buy w ↦
+      let settled = w.settle_anew-settled in
+      room-on (opposite c.args.id.side) Sell c.args.self.now c.match-side.self c.self.inside.asks settled.new.other
+      (ap opposite (sym c.side-3.ensures ∙ w.in-Buy.is)) (ap (λ (b : Book). b.asks) (sym c.self.view_is)) (ap (λ (b : Book). b.asks) w.self-is)
+      (granted settled.result _ (sym w.settled-is ∙ c.in-Ok.is) settled.ensures.other_room)
+  | in-Sell w ↦
+      let settled = w.settle_anew-settled-in-Sell in
+      room-on (opposite c.args.id.side) Buy c.args.self.now c.match-side.self c.self.inside.bids settled.new.other
+      (ap opposite (sym c.side-3.ensures ∙ w.in-Sell.is)) (ap (λ (b : Book). b.bids) (sym c.self.view_is)) (ap (λ (b : Book). b.bids) w.self-is)
+      (granted settled.result _ (sym w.settled-is ∙ c.in-Ok.is) settled.ensures.other_room)
+]

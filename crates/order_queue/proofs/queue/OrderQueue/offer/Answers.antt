@@ -28,13 +28,13 @@ pub returns-in-None : goal.returns-in-None
 returns-in-None g c =
     let done = offer-done c.args.self.now c.args.limit c.args.quantity c.args.trades.now.items c.loop-order.left c.loop-order.trades.items c.loop-order.order-iterator c.loop-order.invariant.offering
     (done-ended c.args.self.now c.args.limit c.args.quantity c.args.trades.now.items c.loop-order.left c.loop-order.trades.items c.loop-order.order-iterator c.in-None.ensures.steps.0) in
-    record { left = done.0; trades = done.1; memory = tt; err = tt; sound = search rules }
+    record { left = done.0; trades = done.1; memory = tt; err = tt; kept_room = c.loop-order.invariant.room; sound = search rules }
 
 pub returns-then-left-eq0 : goal.returns-then-left-eq0
 returns-then-left-eq0 g c =
     let done = offer-done c.args.self.now c.args.limit c.args.quantity c.args.trades.now.items c.loop-order.left c.loop-order.trades.items c.loop-order.order-iterator c.loop-order.invariant.offering
     (done-filled c.args.self.now c.args.limit c.args.quantity c.args.trades.now.items c.loop-order.left c.loop-order.trades.items c.loop-order.order-iterator c.if-left-eq0.true) in
-    record { left = done.0; trades = done.1; memory = tt; err = tt; sound = search rules }
+    record { left = done.0; trades = done.1; memory = tt; err = tt; kept_room = c.loop-order.invariant.room; sound = search rules }
 
 pub returns-then-not-meets : goal.returns-then-not-meets
 returns-then-not-meets g c =
@@ -44,7 +44,7 @@ returns-then-not-meets g c =
     rw (c.self.view_is, ← c.in-Some.ensures.steps) c.loop-order.invariant.offering in
     let done = offer-done q c.args.limit c.args.quantity c.args.trades.now.items c.loop-order.left c.loop-order.trades.items (x ∷ c.next.new.self) now
     (done-missed q c.args.limit c.args.quantity c.args.trades.now.items c.loop-order.left c.loop-order.trades.items x c.next.new.self now (sym c.if-not-meets.ensures)) in
-    record { left = rw (← c.self.view_is) done.0; trades = rw (← c.self.view_is) done.1; memory = tt; err = tt; sound = search rules }
+    record { left = rw (← c.self.view_is) done.0; trades = rw (← c.self.view_is) done.1; memory = tt; err = tt; kept_room = c.loop-order.invariant.room; sound = search rules }
 
 pub loop-order-preserved : goal.loop-order-preserved
 loop-order-preserved g c =
