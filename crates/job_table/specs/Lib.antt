@@ -1,0 +1,5 @@
+pub mod Plan
+pub mod Table
+pub mod Entries
+pub mod Causes
+pub mod File

@@ -1,0 +1,11 @@
+mod Absent
+mod Answered
+mod Batches
+mod Building
+mod Entries
+mod First
+mod Histories
+mod Jobs
+mod Links
+mod Numbers
+mod Replying

@@ -1,0 +1,20 @@
+use Rattle.std.proofs.Common.{◌∙◌, ap, cond, Bool, Some}
+use Rattle.std.specs.BTreeMap as tree
+use Rattle.std.specs.Ordering.{nat_cmp}
+use Rattle.sql_agenda.specs.Planner.{ticket_at}
+use Rattle.sql_agenda.proofs.Jobs.{with_jobs}
+use Rattle.sql_agenda.proofs.Links.{inserted, put_is, alike}
+use Rattle.sql_agenda.proofs.planner.Planner.put.Goals as goal
+
+pub returns-clause-plan : goal.returns-clause-plan
+returns-clause-plan c =
+    let old = c.args.self.now in
+    let id = c.args.id in
+    let ticket = c.in-Ok.ticket in
+    let new = c.schedule.new.self in
+    record {
+      linked = inserted old c.requires.job.linked id ticket c.args.deadline c.args.attempts c.args.bytes (tree.get nat_cmp c.insert.new.self) new
+          c.requires.admitted c.requires.job.short c.in-Ok.ensures.ok
+          (λ n. c.in_ok-insert.ensures.updates.0 n ∙ ap (λ (b : Bool). cond b (Some ticket) (ticket_at old n)) (alike id n));
+      plan_is = ap (with_jobs old.next) (put_is ticket c.args.deadline id c.args.attempts c.args.bytes old.agenda new c.in-Ok.ensures.ok);
+    }
