@@ -1,4 +1,4 @@
--- How a write-ahead log ends. The log is SQLite's, as section 4 of its page on the file format describes it; `sqlite_wal` has the words for its header,
+-- How a write-ahead log ends. The log is SQLite's: its page "Database File Format" describes it under "The Write-Ahead Log"; `sqlite_wal` has the words for its header,
 -- its frames, and the frames that recovery takes (`Replays`): those up to the last commit before the first frame with a wrong salt or checksum.
 use Rattle.std.specs.Prelude.{◌≡◌, ◌⊎◌, ◌+◌, ◌<◌, ◌≤◌, ◌==◌, ℕ, if◌then◌else◌, List, length, slice_index}
 use Rattle.sqlite_wal.specs.Format.{IsSigned}

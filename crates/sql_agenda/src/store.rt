@@ -150,7 +150,7 @@ impl<S: Rows> Store<S> {
         }
     }
 
-    /// Schedules a job behind all whose deadline is at most its own, and returns its number.
+    /// Schedules a job after every job with a deadline at most its own, and returns its number.
     ///
     /// # Errors
     ///

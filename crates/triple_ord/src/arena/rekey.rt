@@ -29,8 +29,8 @@ impl<P: BasePtr, T: SimpleOrdItem, A: Allocator> SimpleOrdArena<P, T, A> {
     ///
     /// The entry keeps its pointer. It goes into a gap between the other entries, as a new entry of the kind `Nonhereditary` does: the one
     /// before it, if any, has a key of at most the new one, and the one after it, if any, a greater key. If the other entries are in the
-    /// order of their keys, this is behind all whose key is at most the new one, and all entries are in order afterwards, whatever key the
-    /// entry had before ([`rekey_order_law`](crate::order_laws::rekey_order_law)).
+    /// order of their keys, it comes after every other entry with a key at most the new one, and all entries are in order afterwards, whatever
+    /// key the entry had before ([`rekey_order_law`](crate::order_laws::rekey_order_law)).
     ///
     /// # Errors
     ///
