@@ -109,11 +109,12 @@ impl<P: BasePtr, T, A: Allocator> Arena<P, T, A> {
         ensures within { IfSome result (λ position. position < arena_capacity self.now) }
         ensures none { IfNone result (slot self.now (P.Inx.number i) ≡ None) }
     {
-        // Read first, so that index 0 and an index beyond the end are one test.
-        let capacity = self.slots.len();
-        match i.try_into_usize() {
-            Some(n) if n <= capacity => Some(n - 1),
-            _ => None,
+        // Index 0 becomes the greatest position, so that one comparison excludes it and what is beyond the end.
+        let position = i.try_into_usize().unwrap_or(0).wrapping_sub(1);
+        if position < self.slots.len() {
+            Some(position)
+        } else {
+            None
         }
     }
 

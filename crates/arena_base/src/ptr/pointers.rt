@@ -137,7 +137,7 @@ impl Recast<Q0> for Q0 {
 
 /// A pointer of eight bytes: an index and a generation of 32 bits each. Slots are 8 bytes smaller than with [`P0`].
 ///
-/// An ordered arena of two words an entry takes 48 bytes a slot instead of 56, and is quicker where it exceeds the cache.
+/// An ordered arena of two words an entry takes 48 bytes a slot instead of 56.
 ///
 /// The generation overflows after 2^32 - 2 removals, which that removal reports, and begins again. A stale pointer that is kept for so
 /// long can then name a later entry at its index. Take this type if an arena removes fewer entries than that while a pointer is kept;
