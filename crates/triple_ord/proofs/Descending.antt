@@ -3,9 +3,9 @@ use Rattle.std.proofs.{Common.Contains, Math.Pow.pow_mono}
 use Rattle.ord_tree.specs.Laws.{HeightLaw, RankSquareLaw, TightRankLaw, RebuiltHeightLaw}
 use Rattle.triple_ord.proofs.Words.{length-append, ◌≡◌, ◌≢◌, ℕ, false, ◌+◌, ◌-◌, ◌≤◌, List, [], ◌∷◌, ◌++◌, Option, Some, None, IsSome, IfSome, MatchOption, refl, sym, ap, subst, ◌∙◌, arith, inl, inr, max, map, length, append_assoc, Shape}
 use Rattle.triple_ord.proofs.Words.{missing, node, root_of, walk, height, Tree, Gap, first_of, last_of, order_to, pointer, StopsAt, is_eq, ordering_then, Ordering, Less, Equal, Greater, Entry, times, IsDistinct, entry_at, times-append}
-use Rattle.triple_ord.proofs.Words.{All-contains, before, after, present, met_next, IsCompared, HasDescendedByKey, zero, suc, ◌^◌, ◌<◌, length-map, IsSound, size_of, rank_of, fib, IsSoundTree, size_of-walk, height-le-size, common_steps}
+use Rattle.triple_ord.proofs.Words.{All-contains, before, after, present, met_next, found_where_ended, IsCompared, HasDescendedByKey, zero, suc, ◌^◌, ◌<◌, length-map, IsSound, size_of, rank_of, fib, IsSoundTree, size_of-walk, height-le-size, common_steps}
 use Rattle.triple_ord.proofs.Words.{FoldsTo-push, append-nil, length_push, map_push, All-nil, All-cons, All-head, All-tail, All-push, FindsSimilar, IsPart, Shown, entries_of, but_last, IsSearch, where_equal, similar_of, FindsWith}
-use Rattle.triple_ord.proofs.Words.{FindsSimilarWith, IsNodeAt, side_of, IsDescending, HasDescended, get_or, cases_eq, get_or_default, Contains-append_left, Contains-append_right, Contains-push, IfSome_then, All, FoldsTo, option_map}
+use Rattle.triple_ord.proofs.Words.{HasEndedByKey, FindsSimilarWith, IsNodeAt, side_of, IsDescending, HasDescended, get_or, cases_eq, get_or_default, Contains-append_left, Contains-append_right, Contains-push, IfSome_then, All, FoldsTo, option_map}
 use Rattle.triple_ord.proofs.{Inserting.last_of-append, Inserting.no_first, Inserting.no_last, Inserting.entry_at-here, Words.limit_of-below, Words.IsWithinBounds, Words.VisitsLaw}
 
 -- the sides of a part are parts
@@ -312,6 +312,16 @@ unmet x o test = grind (arith, common_steps)
 pub met_next-map : {X Y : Type 0} (f : X → Y) (met : Option X) (x : X) (o : Ordering) → option_map f (met_next met x o) ≡ met_next (option_map f met) (f x) o
 met_next-map f met x o = grind (arith, common_steps)
 
+found_where_ended-map : {X Y : Type 0} (f : X → Y) (met : Option X) (last : Option (X × Ordering))
+    → option_map (λ a. (f a.0, a.1)) (found_where_ended met last) ≡ found_where_ended (option_map f met) (option_map (λ a. (f a.0, a.1)) last)
+found_where_ended-map f None last = refl
+found_where_ended-map f (Some x) last = refl
+
+-- what a search answers where it ends, by the numbers of its pointers
+pub found_where_ended-by : {X Y : Type 0} (f : X → Y) (met : Option X) (last found : Option (X × Ordering)) → found ≡ found_where_ended met last
+    → option_map (λ a. (f a.0, a.1)) found ≡ found_where_ended (option_map f met) (option_map (λ a. (f a.0, a.1)) last)
+found_where_ended-by f met last found is = ap (option_map (λ a. (f a.0, a.1))) is ∙ found_where_ended-map f met last
+
 -- two entries got different answers
 module _ {T : Type 0} (shown : List (Shown T)) where
   pub neighbours_shown : (low high : Option (Entry T)) → IfSome low (λ e. Contains shown (e, Greater)) → IfSome high (λ e. Contains shown (e, Less))
@@ -411,6 +421,18 @@ module _ {T K : Type 0} (key : T → K) (cmp : K → K → Ordering) (t : Tree T
         go : (o : Option (Shown T)) → last_of None d.shown ≡ o → FindsSimilar key cmp t.list.entries k last (visits - start)
         go None none = rw (d.last_is, none) (descent-empty t.list.entries t.shape d.shown d.descending None none)
         go (Some s) some = rw (d.last_is, some) (s.0, refl, inr (end, stops, rw some at d.descending.last_beside))
+
+  pub by_key-ended : (visits : ℕ) (last : Option ((ℕ × ℕ) × Ordering)) (met : Option (ℕ × ℕ))
+      → HasDescendedByKey key cmp t.list.entries t.shape k start None visits last met
+      → HasEndedByKey key cmp t k start (found_where_ended met last) visits
+  by_key-ended visits last None d = record {
+    similar = by_key-other visits last None d refl;
+    few = omega (arith, d.descending.few, d.count);
+  }
+  by_key-ended visits last (Some p) d = record {
+    similar = by_key-equal visits last (Some p) d p refl;
+    few = omega (arith, d.descending.few, d.count);
+  }
 
 fib-step : (n : ℕ) → fib n ≤ fib (suc n)
 fib-step (suc (suc n)) = omega arith

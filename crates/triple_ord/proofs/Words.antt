@@ -40,7 +40,7 @@ pub use Rattle.triple_ord.specs.ClosureSearch.{Shown, where_equal, FindsWith, en
 pub use Rattle.triple_ord.specs.{ClosureSearch.Asks, Content.slots_from, Content.content_of}
 pub use Rattle.triple_ord.specs.ContentLaws.{slot_is, item_is, len_is, length-slots, slots-within, slots-beyond, outside, content_removed}
 pub use Rattle.triple_ord.specs.{ContentLaws.lawful_is, ContentLaws.capacity-within, Node.IsPart, Node.IsNodeIn, Order.IsInOrder}
-pub use Rattle.triple_ord.specs.Descent.{IsNodeAt, side_of, IsDescending, HasDescended, met_next, IsCompared, HasDescendedByKey}
+pub use Rattle.triple_ord.specs.Descent.{IsNodeAt, side_of, IsDescending, HasDescended, met_next, found_where_ended, IsCompared, HasDescendedByKey, HasEndedByKey}
 pub use Rattle.triple_ord.specs.Gap.{Gap, first_of, last_of, before, after, with_between, present}
 pub use Rattle.triple_ord.specs.Hint.{position_of, IsNearHint, way_length}
 pub use Rattle.triple_ord.specs.declared.growth.Growth.{Growth, TheVariants.Within, TheVariants.Reallocating}

@@ -49,6 +49,11 @@ met_next met x Less = None
 met_next met x Equal = Some x
 met_next met x Greater = met
 
+-- what a search by key answers where it ends: the equal entry directly after the gap, if any, else the entry shown last
+abbrev pub found_where_ended : {X : Type 0} → Option X → Option (X × Ordering) → Option (X × Ordering)
+found_where_ended (Some x) last = Some (x, Equal)
+found_where_ended None last = last
+
 module _ {T : Type 0} where
   -- A descent has come to this link after these answers. The part at the link is all that is left. The entry before it was answered
   -- `Greater` and the one after it `Less`, one of the two last. Nothing that is left has been shown yet.

@@ -3,7 +3,7 @@ ghost use Rattle.std.specs.Prelude.{◌≡◌, ℕ, true, Some, None, ◌^◌, �
 ghost use Rattle.std.specs.Option.{option_map};
 ghost use Rattle.ord_tree.specs.Shape.{height};
 ghost use Rattle.triple_ord.specs.ClosureSearch.{Asks, FindsSimilarWith};
-ghost use Rattle.triple_ord.specs.Descent.{met_next, side_of, CanShow, IsCompared, ShowsEntry, HasDescendedByKey, HasEndedByKey};
+ghost use Rattle.triple_ord.specs.Descent.{found_where_ended, met_next, side_of, CanShow, IsCompared, ShowsEntry, HasDescendedByKey, HasEndedByKey};
 ghost use Rattle.triple_ord.specs.Search.{FindsSimilar};
 ghost use Rattle.triple_ord.specs.Ties.{taken};
 ghost use Rattle.triple_ord.specs.VisitBounds.{IsBoundedDescent, VisitsLaw};
@@ -108,15 +108,15 @@ fn descend_in_group<P: BasePtr, T: SimpleOrdItem, A: Allocator>(
     let mut met = Some(p);
     let mut at = lesser;
     while let Some(i) = at {
-        let (p, order, next, _is_end) = compare(probe, ties, k, i);
+        let (p, order, next, is_end) = compare(probe, ties, k, i);
         last = Some((p, order));
         met = met_behind(met, p, order);
+        if is_end {
+            return found_at_end(met, last);
+        }
         at = next;
     }
-    match met {
-        Some(p) => Some((p, Ordering::Equal)),
-        None => last,
-    }
+    found_at_end(met, last)
 }
 
 // Compares a key with that of the entry at an index. Returns the entry's pointer, the order of the key, where the search goes on, and
@@ -169,6 +169,16 @@ fn met_behind<P: Copy>(met: Option<P>, p: P, order: Ordering) -> Option<P>
         Ordering::Less => None,
         Ordering::Equal => Some(p),
         Ordering::Greater => met,
+    }
+}
+
+// What a search by key answers where it ends: the equal entry after everything that is left, else the entry shown last.
+fn found_at_end<P: Copy>(met: Option<P>, last: Option<(P, Ordering)>) -> Option<(P, Ordering)>
+    ensures { result ≡ found_where_ended met last }
+{
+    match met {
+        Some(p) => Some((p, Ordering::Equal)),
+        None => last,
     }
 }
 
