@@ -1,12 +1,4 @@
--- Lemmas of this crate.
-pub mod Naming
-pub mod Room
-pub mod Steps
-pub mod Leaving
-pub mod Deadlines
-pub mod Putting
-pub mod Moving
-pub mod Rekeying
+-- That each call is a step of an agenda, and that tickets that ended stay so.
+pub mod Stepping
 pub mod Ended
-pub mod Cloning
 pub mod CallerLemmas

@@ -1,24 +1,24 @@
 //! `Agenda`: jobs by deadline.
 
-ghost use Rattle.std.specs.Prelude.{◌≡◌, ◌==◌, ◌↔◌, ◌+◌, ℕ, ◌≤◌, ◌<◌, [], Err, Some, None, IsOk, map};
-ghost use Rattle.std.specs.Prelude.{IfOk, OnOk, IfErr, IfSome, IfNone};
-ghost use Rattle.std.specs.{Prelude.is_some, Option.option_map, Bool.OnTrue, Bool.OnFalse};
-ghost use Rattle.agenda.specs.Agenda.{most_entries, count, job_of, without, first_deadline, first_due, behind_first};
-ghost use Rattle.agenda.specs.Agenda.{IsSound, IsInOrder, HasRoomFor, Schedules, Reschedules, MovesDeadline};
-ghost use Rattle.agenda.specs.Agenda.{Updates, Leaves, Moves};
-ghost use Rattle.agenda.specs.Layout.{scheduled};
-ghost use Rattle.agenda.specs.Tickets.{HasNoLaterTicket};
-ghost use Rattle.agenda.specs.Calls.{TakesOff, GivesDeadline, MayGrow};
+ghost use Rattle.std.specs.Prelude.{◌≡◌, ◌==◌, ◌↔◌, ◌+◌, ℕ, ◌≤◌, ◌<◌, [], Err, Some, None, IsOk};
+ghost use Rattle.std.specs.Prelude.{IfOk, OnOk, IfErr, OnErr, IfSome, IfNone, OnSome};
+ghost use Rattle.std.specs.{Prelude.is_some, Option.option_map, Ordering.nat_cmp};
+ghost use Rattle.agenda.specs.Agenda.{most_entries, greatest_generation, count, get, first_deadline, first_due};
+ghost use Rattle.agenda.specs.Agenda.{with_entry, with_key, without_entry, without_first, IsFree, IsSound, AreSorted, HasRoomFor, Leaves, Reschedules, Updates};
+ghost use Rattle.agenda.specs.Tickets.{HasNoLaterTicket, IsStep};
 
 mod debug;
 mod look;
 mod room;
 
-use crate::jobs::{Jobs, put, put_within};
 use crate::ticket::Ticket;
+use listing::{insert_behind, insert_behind_within};
 use std::alloc::{Allocator, Global};
 use std::marker::Model;
 use triple_ord::{Iter, OrdPair, P0, ReallocationError, SimpleOrdArena};
+
+// Jobs by deadline.
+type Jobs<J, A> = SimpleOrdArena<P0, OrdPair<u64, J>, A>;
 
 /// Jobs by deadline. Jobs with equal deadlines leave in the order of scheduling.
 ///
@@ -54,7 +54,7 @@ impl<J, A: Allocator> Agenda<J, A> {
     pub fn new(alloc: A) -> Self
     where
         A: Copy,
-        ensures jobs { result.jobs ≡ [] }
+        ensures jobs { result.entries ≡ [] }
         ensures generation { result.generation ≡ 2 }
         ensures capacity { result.capacity ≡ 0 }
         ensures tickets { HasNoLaterTicket result }
@@ -74,7 +74,7 @@ impl<J, A: Allocator> Agenda<J, A> {
     /// Returns the number of jobs.
     pub fn len(&self) -> usize
         ensures value { result ≡ count self.now }
-        ensures sound { IsSound self.now }
+        ensures sound { IsSound nat_cmp most_entries self.now }
     {
         self.jobs.len()
     }
@@ -88,15 +88,15 @@ impl<J, A: Allocator> Agenda<J, A> {
 
     // The entries of the ordered arena.
     pub(crate) fn entries(&self) -> Iter<'_, P0, OrdPair<u64, J>, A>
-        ensures value { map scheduled result ≡ self.now.jobs }
-        ensures in_order { IsInOrder self.now.jobs }
+        ensures value { result ≡ self.now.entries }
+        ensures in_order { AreSorted nat_cmp self.now.entries }
     {
         self.jobs.iter_ordered()
     }
 
     /// Returns the deadline of the first job, in O(1). `None` if there are no jobs.
     pub fn next_deadline(&self) -> Option<u64>
-        ensures value { result ≡ first_deadline self.now.jobs }
+        ensures value { result ≡ first_deadline self.now.entries }
         ensures none { IfNone result (count self.now ≡ 0) }
     {
         let first = self.jobs.first()?;
@@ -107,10 +107,16 @@ impl<J, A: Allocator> Agenda<J, A> {
     /// Removes the job of `ticket` and returns its deadline and the job, in O(log n).
     ///
     /// If the ticket names no job, returns `None` and nothing changes.
+    #[tactic(auto, using(listing::proofs::CallerLemmas::words))]
     pub fn cancel(&mut self, ticket: Ticket) -> Option<(u64, J)>
-        ensures takes { TakesOff (job_of self.old.jobs ticket) (without self.old.jobs ticket)
-            self.old result self.new }
+        ensures value { result ≡ get self.old ticket }
+        ensures after { self.new ≡ without_entry greatest_generation self.old ticket }
         ensures updates { Updates self.old self.new ticket None }
+        ensures count { OnSome result (count self.old ≡ count self.new + 1) }
+        ensures none { IfNone result (self.new ≡ self.old) }
+        ensures room { OnSome result (HasRoomFor 1 self.new) }
+        ensures sound { IsSound nat_cmp most_entries self.old }
+        ensures step { IsStep self.old self.new }
     {
         let pair = self.jobs.remove(ticket.pointer).allow()?;
         Some(pair.into_k_v())
@@ -120,10 +126,15 @@ impl<J, A: Allocator> Agenda<J, A> {
     ///
     /// If no job is due, returns `None` and nothing changes.
     pub fn pop_due(&mut self, now: u64) -> Option<(u64, J)>
-        ensures takes { TakesOff (first_due now self.old.jobs) (behind_first self.old.jobs)
-            self.old result self.new }
+        ensures value { result ≡ first_due now self.old.entries }
         ensures due { IfSome result (λ due. due.0 ≤ now) }
+        ensures gone { OnSome result (self.new ≡ without_first greatest_generation self.old) }
+        ensures count { OnSome result (count self.old ≡ count self.new + 1) }
+        ensures room { OnSome result (HasRoomFor 1 self.new) }
         ensures leaves { IfSome result (λ due. Leaves self.old self.new due) }
+        ensures none { IfNone result (self.new ≡ self.old) }
+        ensures sound { IsSound nat_cmp most_entries self.old }
+        ensures step { IsStep self.old self.new }
     {
         let first = self.jobs.first()?;
         let deadline = *self.jobs.get(first)?.k();
@@ -146,22 +157,28 @@ impl<J: Drop, A: Allocator> Agenda<J, A> {
     /// # Complexity
     ///
     /// O(log n), and one comparison if no deadline is later; plus O(n) when the agenda grows (amortized O(1)).
+    #[tactic(auto, using(listing::proofs::CallerLemmas::words))]
     pub fn schedule(&mut self, deadline: u64, job: J) -> Result<Ticket, (J, ReallocationError)>
-        ensures ok { IfOk result (λ ticket. Schedules self.old ticket deadline job self.new) }
+        ensures ok { IfOk result (λ ticket.
+            self.new ≡ with_entry nat_cmp most_entries self.old ticket (deadline, job)) }
+        ensures free { IfOk result (λ ticket. IsFree self.old ticket) }
         ensures updates { IfOk result
             (λ ticket. Updates self.old self.new ticket (Some (deadline, job))) }
         ensures count { OnOk result (count self.new ≡ count self.old + 1) }
+        ensures generation { self.new.generation ≡ self.old.generation }
         ensures back { IfErr result (λ e. e.0 ≡ job) }
+        ensures err { OnErr result (self.new ≡ self.old) }
         ensures full { (result ≡ Err (job, ReallocationError.BeyondMaxCapacity))
             ↔ (count self.old ≡ most_entries) }
         ensures memory { result ≡ Err (job, ReallocationError.AllocError)
             → count self.old ≡ self.old.capacity }
         ensures fits { count self.old < self.old.capacity → IsOk result }
-        ensures room { (n : ℕ) → HasRoomFor (n + 1) self.old → HasRoomFor n self.new }
-        ensures grows { MayGrow self.old result self.new }
+        ensures step { IsStep self.old self.new }
     {
-        let pointer = put(&mut self.jobs, deadline, job)?;
-        Ok(Ticket { pointer })
+        match insert_behind(&mut self.jobs, deadline, job) {
+            Ok(pointer) => Ok(Ticket { pointer }),
+            Err(((_, job), refusal)) => Err((job, refusal)),
+        }
     }
 
     /// Gives the job of `ticket` another deadline and returns whether there is such a job, in O(log n). The ticket stays valid.
@@ -169,13 +186,15 @@ impl<J: Drop, A: Allocator> Agenda<J, A> {
     /// The job counts as newly scheduled: it goes behind all other jobs whose deadline is at most its own, also if its deadline doesn't
     /// change. [`move_to`](Self::move_to) does the same and issues a new ticket. No memory is taken. If the ticket names no job, nothing
     /// changes.
+    #[tactic(auto, using(listing::proofs::CallerLemmas::words))]
     pub fn reschedule(&mut self, ticket: Ticket, deadline: u64) -> bool
-        ensures gives { GivesDeadline self.old ticket result self.new }
-        ensures moved { OnTrue result (MovesDeadline self.old ticket deadline self.new) }
+        ensures value { result ≡ is_some (get self.old ticket) }
+        ensures after { self.new ≡ with_key nat_cmp self.old ticket deadline }
         ensures updates { Updates self.old self.new ticket
-            (option_map (λ job. (deadline, job.1)) (job_of self.old.jobs ticket)) }
-        ensures none { OnFalse result (self.new ≡ self.old) }
-        ensures generation { self.new.generation ≡ self.old.generation }
+            (option_map (λ job. (deadline, job.1)) (get self.old ticket)) }
+        ensures count { count self.new ≡ count self.old }
+        ensures sound { IsSound nat_cmp most_entries self.old }
+        ensures step { IsStep self.old self.new }
     {
         self.jobs.rekey_pair(ticket.pointer, deadline).is_ok()
     }
@@ -185,15 +204,16 @@ impl<J: Drop, A: Allocator> Agenda<J, A> {
     /// The job counts as newly scheduled, as by [`reschedule`](Self::reschedule). No memory is taken. If the ticket names no job, returns
     /// `None` and nothing changes.
     pub fn move_to(&mut self, ticket: Ticket, deadline: u64) -> Option<Ticket>
-        ensures gives { GivesDeadline self.old ticket (is_some result) self.new }
+        ensures value { is_some result ≡ is_some (get self.old ticket) }
         ensures moved { IfSome result (λ new. Reschedules self.old ticket new deadline self.new) }
-        ensures moves { IfSome result (λ new. Moves self.old self.new ticket new deadline) }
         ensures none { IfNone result (self.new ≡ self.old) }
+        ensures sound { IsSound nat_cmp most_entries self.old }
+        ensures step { IsStep self.old self.new }
     {
         let moved = self.jobs.remove(ticket.pointer).allow()?;
         let (_, job) = moved.into_k_v();
         // the job that was taken out has left its slot
-        let pointer = put_within(&mut self.jobs, deadline, job);
+        let pointer = insert_behind_within(&mut self.jobs, deadline, job);
         Some(Ticket { pointer })
     }
 }

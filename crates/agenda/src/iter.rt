@@ -2,8 +2,9 @@
 
 ghost use Rattle.std.specs.Prelude.{◌≡◌};
 ghost use Rattle.std.specs.Iterator.{YieldsFirstBy, item_count};
-ghost use Rattle.agenda.specs.Agenda.{shown_job, IsInOrder};
-ghost use Rattle.triple_ord.specs.Walk.{IsExactHint};
+ghost use Rattle.agenda.specs.Agenda.{shown_job, AreSorted};
+ghost use Rattle.std.specs.Ordering.{nat_cmp};
+ghost use Rattle.listing.specs.Walk.{IsExactHint};
 
 use crate::agenda::Agenda;
 use crate::ticket::Ticket;
@@ -18,20 +19,19 @@ pub struct Iter<'a, J, A: Allocator = Global> {
 }
 
 impl<'a, J, A: Allocator> Model for Iter<'a, J, A> {
-    ghost use Rattle.std.specs.Prelude.{List, map};
-    ghost use Rattle.agenda.specs.Agenda.{Scheduled};
-    ghost use Rattle.agenda.specs.Layout.{scheduled};
+    ghost use Rattle.std.specs.Prelude.{List, ℕ};
+    ghost use Rattle.listing.specs.Chain.{Entry};
 
-    ghost Value = { List (Scheduled J) };
+    ghost Value = { List (Entry (ℕ × J)) };
 
-    ghost view = { λ i. map scheduled i.entries };
+    ghost view = { λ i. i.entries };
 }
 
 impl<J, A: Allocator> Agenda<J, A> {
     /// Returns an iterator over all jobs, in the order in which they leave.
     pub fn iter(&self) -> Iter<'_, J, A>
-        ensures value { result ≡ self.now.jobs }
-        ensures in_order { IsInOrder self.now.jobs }
+        ensures value { result ≡ self.now.entries }
+        ensures in_order { AreSorted nat_cmp self.now.entries }
     {
         Iter {
             entries: self.entries(),
@@ -68,7 +68,7 @@ impl<'a, J, A: Allocator> IntoIterator for &'a Agenda<J, A> {
 
     type IntoIter = Iter<'a, J, A>;
 
-    ghost into_iter_gives = { λ a i. i ≡ a.now.jobs };
+    ghost into_iter_gives = { λ a i. i ≡ a.now.entries };
 
     fn into_iter(self) -> Iter<'a, J, A> {
         self.iter()

@@ -2,6 +2,8 @@
 
 ghost use Rattle.agenda.specs.Tickets.{EndedTicketLaw};
 
+pub use listing::laws::kept_pointer_law;
+
 /// A ticket that has ended names no job again, however many calls follow, until the generations overflow.
 ///
 /// A ticket has ended if it names no job and its generation is below the agenda's. If no ticket has a generation above the agenda's, a

@@ -4,7 +4,6 @@
 
 mod agenda;
 mod iter;
-mod jobs;
 pub mod laws;
 mod ticket;
 

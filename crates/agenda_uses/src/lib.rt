@@ -1,5 +1,5 @@
 //! Uses of `agenda`, as a caller writes them: each with the clauses that its user wants, proved from the contracts alone.
-#![tactic(auto)]
+#![tactic(auto, using(agenda::proofs::CallerLemmas::words))]
 
 pub mod periodic;
 pub mod reminders;

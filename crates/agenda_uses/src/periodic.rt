@@ -2,7 +2,8 @@
 
 ghost use Rattle.std.specs.Prelude.{◌≡◌, ◌≢◌, ◌+◌, ◌^◌, ◌-◌, ℕ, min, Some, None, IfSome, IfNone, OnOk, OnErr};
 ghost use Rattle.std.specs.Option.{option_map};
-ghost use Rattle.agenda.specs.Agenda.{job_of, count, first_due, first_job, Updates};
+ghost use Rattle.agenda.specs.Gap.{first_of};
+ghost use Rattle.agenda.specs.Agenda.{get, count, key_of, value_of, first_due, Updates};
 
 use agenda::{Agenda, ReallocationError, Ticket};
 
@@ -12,8 +13,8 @@ pub type Rounds = Agenda<u64>;
 /// Takes the first job that is due, and schedules it again a period later, under a new ticket. Returns the job and its ticket.
 pub fn run_due(rounds: &mut Rounds, now: u64, period: u64) -> Option<(u64, Ticket)>
     ensures due { option_map (λ run. run.0) result
-        ≡ option_map (λ due. due.1) (first_due now rounds.old.jobs) }
-    ensures again { IfSome result (λ run. option_map (λ job. job.1) (job_of rounds.new.jobs run.1)
+        ≡ option_map (λ due. due.1) (first_due now rounds.old.entries) }
+    ensures again { IfSome result (λ run. option_map (λ job. job.1) (get rounds.new run.1)
         ≡ Some run.0) }
     ensures count { count rounds.new ≡ count rounds.old }
     ensures none { IfNone result (rounds.new ≡ rounds.old) }
@@ -30,7 +31,7 @@ pub fn run_due(rounds: &mut Rounds, now: u64, period: u64) -> Option<(u64, Ticke
 pub fn put_off_due(rounds: &mut Rounds, now: u64, period: u64) -> Option<(u64, Ticket)>
     ensures count { count rounds.new ≡ count rounds.old }
     ensures none { IfNone result (rounds.new ≡ rounds.old) }
-    ensures names { IfSome result (λ run. IfSome (job_of rounds.old.jobs run.1)
+    ensures names { IfSome result (λ run. IfSome (get rounds.old run.1)
         (λ job. Updates rounds.old rounds.new run.1 (Some (min (2 ^ 64 - 1) (job.0 + period), job.1)))) }
 {
     let (ticket, deadline, job) = match rounds.peek() {
@@ -68,7 +69,7 @@ pub fn schedule_both(
 
 /// Returns the number of the job that comes next, and its time.
 pub fn next_run(rounds: &Rounds) -> Option<(u64, u64)>
-    ensures { result ≡ option_map (λ next. (next.deadline, next.job)) (first_job rounds.now.jobs) }
+    ensures { result ≡ option_map (λ next. (key_of next, value_of next)) (first_of rounds.now.entries) }
 {
     match rounds.peek() {
         Some((_, deadline, job)) => Some((deadline, *job)),

@@ -3,7 +3,7 @@
 ghost use Rattle.std.specs.Prelude.{◌≡◌, ◌≢◌, ◌+◌, ◌-◌, ◌≤◌, ℕ};
 ghost use Rattle.std.specs.Prelude.{Some, None, IfOk, OnOk, IfErr, OnErr, IfSome, IfNone, OnSome, is_some};
 ghost use Rattle.std.specs.{Option.option_map, Bool.OnFalse};
-ghost use Rattle.agenda.specs.Agenda.{job_of, count, first_deadline, first_due};
+ghost use Rattle.agenda.specs.Agenda.{get, count, first_deadline, first_due};
 ghost use Rattle.agenda.specs.Tickets.{HasNoLaterTicket, HasEnded};
 
 use agenda::laws::ended_ticket_law;
@@ -14,11 +14,11 @@ pub type Reminders = Agenda<String>;
 
 /// Puts a note down for a time. One that is refused comes back.
 pub fn remind(reminders: &mut Reminders, time: u64, note: String) -> Result<Ticket, String>
-    ensures names { IfOk result (λ ticket. job_of reminders.new.jobs ticket
+    ensures names { IfOk result (λ ticket. get reminders.new ticket
         ≡ Some (time, note)) }
     ensures others { IfOk result (λ ticket. (t : ℕ × ℕ) → t ≢ ticket
-        → job_of reminders.new.jobs t ≡ job_of reminders.old.jobs t) }
-    ensures unused { IfOk result (λ ticket. job_of reminders.old.jobs ticket ≡ None) }
+        → get reminders.new t ≡ get reminders.old t) }
+    ensures unused { IfOk result (λ ticket. get reminders.old ticket ≡ None) }
     ensures count { OnOk result (count reminders.new ≡ count reminders.old + 1) }
     ensures back { IfErr result (λ refused. refused ≡ note) }
     ensures refused { OnErr result (reminders.new ≡ reminders.old) }
@@ -32,10 +32,10 @@ pub fn remind(reminders: &mut Reminders, time: u64, note: String) -> Result<Tick
 /// Takes a note off again. `None` where the ticket names none.
 pub fn forget(reminders: &mut Reminders, ticket: Ticket) -> Option<String>
     ensures note { result
-        ≡ option_map (λ reminder. reminder.1) (job_of reminders.old.jobs ticket) }
-    ensures gone { job_of reminders.new.jobs ticket ≡ None }
+        ≡ option_map (λ reminder. reminder.1) (get reminders.old ticket) }
+    ensures gone { get reminders.new ticket ≡ None }
     ensures others { (t : ℕ × ℕ) → t ≢ ticket
-        → job_of reminders.new.jobs t ≡ job_of reminders.old.jobs t }
+        → get reminders.new t ≡ get reminders.old t }
     ensures count { OnSome result (count reminders.old ≡ count reminders.new + 1) }
     ensures none { IfNone result (reminders.new ≡ reminders.old) }
 {
@@ -55,13 +55,13 @@ pub fn try_out(reminders: &mut Reminders, time: u64, note: String) -> Option<(u6
 
 /// Puts a note off to another time, and returns its new ticket. `None` where the ticket names none.
 pub fn put_off(reminders: &mut Reminders, ticket: Ticket, time: u64) -> Option<Ticket>
-    ensures named { is_some result ≡ is_some (job_of reminders.old.jobs ticket) }
-    ensures names { IfSome result (λ later. job_of reminders.new.jobs later
-        ≡ option_map (λ reminder. (time, reminder.1)) (job_of reminders.old.jobs ticket)) }
+    ensures named { is_some result ≡ is_some (get reminders.old ticket) }
+    ensures names { IfSome result (λ later. get reminders.new later
+        ≡ option_map (λ reminder. (time, reminder.1)) (get reminders.old ticket)) }
     ensures ended { IfSome result (λ later. later ≢ ticket
-        → job_of reminders.new.jobs ticket ≡ None) }
+        → get reminders.new ticket ≡ None) }
     ensures others { IfSome result (λ later. (t : ℕ × ℕ) → t ≢ ticket → t ≢ later
-        → job_of reminders.new.jobs t ≡ job_of reminders.old.jobs t) }
+        → get reminders.new t ≡ get reminders.old t) }
     ensures count { count reminders.new ≡ count reminders.old }
     ensures none { IfNone result (reminders.new ≡ reminders.old) }
 {
@@ -70,11 +70,11 @@ pub fn put_off(reminders: &mut Reminders, ticket: Ticket, time: u64) -> Option<T
 
 /// Puts a note off to another time. It keeps its ticket. Tells whether the ticket names a note.
 pub fn snooze(reminders: &mut Reminders, ticket: Ticket, time: u64) -> bool
-    ensures named { result ≡ is_some (job_of reminders.old.jobs ticket) }
-    ensures names { job_of reminders.new.jobs ticket
-        ≡ option_map (λ reminder. (time, reminder.1)) (job_of reminders.old.jobs ticket) }
+    ensures named { result ≡ is_some (get reminders.old ticket) }
+    ensures names { get reminders.new ticket
+        ≡ option_map (λ reminder. (time, reminder.1)) (get reminders.old ticket) }
     ensures others { (t : ℕ × ℕ) → t ≢ ticket
-        → job_of reminders.new.jobs t ≡ job_of reminders.old.jobs t }
+        → get reminders.new t ≡ get reminders.old t }
     ensures count { count reminders.new ≡ count reminders.old }
     ensures none { OnFalse result (reminders.new ≡ reminders.old) }
 {
@@ -85,8 +85,8 @@ pub fn snooze(reminders: &mut Reminders, ticket: Ticket, time: u64) -> bool
 pub fn next_due(reminders: &mut Reminders, now: u64) -> Option<(u64, String)>
     ensures due { IfSome result (λ reminder. reminder.0 ≤ now) }
     ensures gone { IfSome result (λ reminder. (ticket : ℕ × ℕ)
-        × (job_of reminders.old.jobs ticket ≡ Some reminder)
-        × (job_of reminders.new.jobs ticket ≡ None)) }
+        × (get reminders.old ticket ≡ Some reminder)
+        × (get reminders.new ticket ≡ None)) }
     ensures count { OnSome result (count reminders.old ≡ count reminders.new + 1) }
     ensures none { IfNone result (reminders.new ≡ reminders.old) }
 {
@@ -102,11 +102,11 @@ pub fn show_next(
     note: String,
 ) -> Result<(String, Ticket), String>
     ensures names { IfOk result
-        (λ shown. job_of reminders.new.jobs shown.1 ≡ Some (time, note)) }
+        (λ shown. get reminders.new shown.1 ≡ Some (time, note)) }
     ensures ended { HasNoLaterTicket reminders.old
         → reminders.old.generation ≤ reminders.new.generation
         → OnOk result ((ticket : ℕ × ℕ)
-        × (job_of reminders.old.jobs ticket ≡ first_due now reminders.old.jobs)
+        × (get reminders.old ticket ≡ first_due now reminders.old.entries)
         × HasEnded reminders.new ticket) }
     ensures no_later { HasNoLaterTicket reminders.old
         → reminders.old.generation ≤ reminders.new.generation
@@ -124,7 +124,7 @@ pub fn show_next(
 
 /// How long no note is to be shown: 0 where one is due, and `None` where there is none.
 pub fn idle_for(reminders: &Reminders, now: u64) -> Option<u64>
-    ensures wait { result ≡ option_map (λ time. time - now) (first_deadline reminders.now.jobs) }
+    ensures wait { result ≡ option_map (λ time. time - now) (first_deadline reminders.now.entries) }
     ensures none { IfNone result (count reminders.now ≡ 0) }
 {
     let time = reminders.next_deadline()?;

@@ -2,9 +2,11 @@
 use Rattle.std.proofs.Common.{◌≡◌, ℕ, ◌+◌, ◌-◌, ◌<◌, ◌≤◌, Bool, true, false, List, [], ◌∷◌, ◌++◌, Option, Some, None, refl, subst, arith, inl, inr, if◌then◌else◌}
 use Rattle.std.proofs.{lemmas.Bool.Decides.leb_tells, lemmas.Bool.Decides.nat_tests, lemmas.Bool.lt-ltb, lemmas.Bool.le-ltb}
 use Rattle.std.specs.{List.AllByRecursion, Prelude.IfSome}
-use Rattle.order_queue.specs.Queue.{Queue, IsInOrder, Rests, first_of, is_named_by, meets, within, traded, behind, without, with_quantity}
-use Rattle.order_queue.specs.{declared.side.Side.TheVariants.Buy, declared.side.Side.TheVariants.Sell, declared.order.Order.Order, declared.side.Side.Side, Id.Id}
-use Rattle.order_queue.proofs.CallerLemmas.{all-between, all-both, all-weaker, unmet-worse}
+use Rattle.order_book.specs.Queue.{Queue, IsInOrder, Rests, first_of, is_named_by, meets, within, traded, behind, without, with_quantity}
+use Rattle.order_book.specs.{declared.side.Side.TheVariants.Buy, declared.side.Side.TheVariants.Sell, declared.order.Order.Order, declared.side.Side.Side, Id.Id}
+use Rattle.sorted_arena.proofs.CallerLemmas.{all-between, all-both}
+use Rattle.sorted_arena.proofs.OrdLemmas.{recursion-map as all-weaker}
+use Rattle.order_book.proofs.Meeting.{unmet-worse}
 use Rattle.order_book.specs.Book.{RestsOrNot}
 
 -- what is true of the prices of orders is true of those that are left

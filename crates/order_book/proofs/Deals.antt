@@ -2,9 +2,10 @@
 use Rattle.std.proofs.Common.{◌≡◌, ◌≢◌, ℕ, ◌+◌, ◌-◌, ◌<◌, ◌≤◌, Bool, true, false, List, [], ◌∷◌, ◌++◌, Option, Some, None, Ok, OnSome, IfSome, IfNone, refl, sym, ap, ◌∙◌, arith, inl, inr, if◌then◌else◌}
 use Rattle.std.proofs.{lemmas.Bool.Decides.eqb_tells, lemmas.Bool.Decides.leb_tells, lemmas.Bool.lt-ltb, lemmas.Bool.le-ltb, lemmas.List.append-nil}
 use Rattle.std.specs.List.{AllByRecursion}
-use Rattle.order_queue.specs.Queue.{Queue, IsInOrder, IsSound, Rests, taken, is_named_by, meets, order_of, resting, traded, trades_of_first, within, with_left, behind}
-use Rattle.order_queue.specs.{declared.order.Order.Order, declared.order.Trade.Trade, declared.side.Side.Side, Id.Id}
-use Rattle.order_queue.proofs.CallerLemmas.{within-missed, trades-none, behind-none}
+use Rattle.order_book.specs.Queue.{Queue, IsInOrder, IsSound, Rests, taken, is_named_by, meets, order_of, resting, traded, trades_of_first, within, with_left, behind}
+use Rattle.order_book.specs.{declared.order.Order.Order, declared.order.Trade.Trade, declared.side.Side.Side, Id.Id}
+use Rattle.order_book.proofs.Trading.{within-missed, trades-none}
+use Rattle.order_book.proofs.Taking.{behind-none}
 use Rattle.order_book.specs.Book.{IsUntraded, RestsOrNot, limit_of, dealt, deals, remainder}
 use Rattle.order_book.specs.{Layout.Settles, declared.new_order.NewOrder.NewOrder}
 use Rattle.order_book.proofs.Volumes.{bought-traded, sold-traded}

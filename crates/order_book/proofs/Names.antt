@@ -2,8 +2,8 @@
 use Rattle.std.proofs.Common.{◌≡◌, ℕ, ◌+◌, ◌-◌, ◌<◌, ◌≤◌, ◌⊎◌, inl, inr, List, [], ◌∷◌, ◌++◌, length, Option, Some, None, IsSome, is_some, Result, Ok, Err, IfOk, OnOk, OnErr, true, false, refl, sym, ap, subst, ◌∙◌, arith, if◌then◌else◌}
 use Rattle.std.specs.Prelude.{Bool, nat_lt}
 use Rattle.std.proofs.{lemmas.Bool.Decides.eqb_tells}
-use Rattle.order_queue.specs.Queue.{Queue, most_entries, is_named_by, order_of, without, with_rest, generation_after, behind, generation_behind, taken, with_left, Rests}
-use Rattle.order_queue.specs.{Id.Id, declared.order.Order.Order, declared.side.Side.TheVariants.Buy, declared.side.Side.TheVariants.Sell}
+use Rattle.order_book.specs.Queue.{Queue, most_entries, is_named_by, order_of, without, with_rest, generation_after, behind, generation_behind, taken, with_left, Rests}
+use Rattle.order_book.specs.{Id.Id, declared.order.Order.Order, declared.side.Side.TheVariants.Buy, declared.side.Side.TheVariants.Sell}
 use Rattle.order_book.specs.Book.{Book, RestsOrNot, queue, named}
 use Rattle.order_book.specs.Names.{GoesOn, Counts, IsStep, IsRun, HasNoLaterName, HasEnded, EndedNameLaw}
 

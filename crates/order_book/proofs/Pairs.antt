@@ -1,6 +1,6 @@
 -- Bids and asks stay a pair of queues after each call.
 use Rattle.std.proofs.Common.{◌≡◌, ℕ, zero, suc, ◌≤◌, true, false, arith, if◌then◌else◌, Option, Some, None, Result, Ok, Err, IfOk, IfNone, IfSome, List, sym, ap, subst, ◌∙◌}
-use Rattle.order_queue.specs.{Queue.Queue, Queue.IsInOrder, Queue.taken, Queue.with_left, Queue.reduced, Id.Id, declared.order.Trade.Trade}
+use Rattle.order_book.specs.{Queue.Queue, Queue.IsInOrder, Queue.taken, Queue.with_left, Queue.reduced, Id.Id, declared.order.Trade.Trade}
 use Rattle.order_book.specs.{Layout.IsPairOfQueues, Layout.Settles, Book.RestsOrNot, Book.limit_of, Book.can_rest, Book.dealt, Book.undealt, Book.remainder, declared.new_order.NewOrder.NewOrder}
 use Rattle.order_book.proofs.Apart.{apart-asks_without, apart-bids_without, apart-ask_reduced, apart-bid_reduced, apart-bought, apart-sold}
 

@@ -1,7 +1,7 @@
 -- The room that is left on the sides of a book.
 use Rattle.std.proofs.Common.{◌≡◌, ℕ, Result, Ok, Err, OnOk, subst, sym}
-use Rattle.order_queue.specs.Queue.{Queue, HasRoomFor}
-use Rattle.order_queue.specs.declared.side.Side.{Side}
+use Rattle.order_book.specs.Queue.{Queue, HasRoomFor}
+use Rattle.order_book.specs.declared.side.Side.{Side}
 use Rattle.order_book.specs.Book.{Book, queue}
 
 -- what is said of a result that is `Ok`

@@ -1,9 +1,9 @@
 -- How much trades come to, and how much is left of the orders behind them.
 use Rattle.std.proofs.Common.{◌≡◌, ℕ, ◌+◌, ◌-◌, ◌≤◌, List, [], ◌∷◌, sym, arith, inl, inr}
 use Rattle.std.proofs.{lemmas.Bool.Decides.leb_tells, lemmas.Bool.Decides.eqb_tells, lemmas.Bool.lt-ltb, lemmas.Bool.le-ltb}
-use Rattle.order_queue.proofs.CallerLemmas.{within-most}
-use Rattle.order_queue.specs.Queue.{Queue, total, traded, trades_of_first, volume, behind, taken}
-use Rattle.order_queue.specs.declared.order.Order.{Order}
+use Rattle.order_book.proofs.Levels.{within-most}
+use Rattle.order_book.specs.Queue.{Queue, total, traded, trades_of_first, volume, behind, taken}
+use Rattle.order_book.specs.declared.order.Order.{Order}
 
 -- what is traded is at most all
 traded-total : (q : Queue) (limit quantity : ℕ) → traded q limit quantity ≤ total q.orders

@@ -1,9 +1,9 @@
 -- What an order book is: bids and asks that rest until they trade, and what an incoming order does to them.
 use Rattle.std.specs.Prelude.{◌≡◌, ◌≢◌, ℕ, ◌+◌, ◌-◌, ◌<◌, Bool, true, false, if◌then◌else◌, List, [], length, Option, Some, None}
 use Rattle.std.specs.List.{AllByRecursion}
-use Rattle.order_queue.specs.Queue.{Queue, IsSound, Rests, most_quantity, order_of, meets, traded, trades_of_first, taken, reduced, with_left}
-use Rattle.order_queue.specs.{declared.side.Side.TheVariants.Buy, declared.side.Side.TheVariants.Sell, declared.order.Order.Order, declared.order.Trade.Trade, Id.Id}
-use Rattle.order_queue.specs.declared.side.Side.{Side}
+use Rattle.order_book.specs.Queue.{Queue, IsSound, Rests, most_quantity, order_of, meets, traded, trades_of_first, taken, reduced, with_left}
+use Rattle.order_book.specs.{declared.side.Side.TheVariants.Buy, declared.side.Side.TheVariants.Sell, declared.order.Order.Order, declared.order.Trade.Trade, Id.Id}
+use Rattle.order_book.specs.declared.side.Side.{Side}
 use Rattle.order_book.specs.declared.new_order.OrderKind.TheVariants.{Limit, PostOnly, ImmediateOrCancel, FillOrKill, Market}
 use Rattle.order_book.specs.{declared.new_order.OrderKind.OrderKind, declared.new_order.NewOrder.NewOrder}
 

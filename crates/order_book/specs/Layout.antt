@@ -1,7 +1,7 @@
 -- How a book is made of two queues (layout), and what an order does to them.
 use Rattle.std.specs.Prelude.{◌≡◌, ◌+◌, ◌++◌, ℕ, List, Option, Some, Result, IfOk, OnOk, OnErr, IfSome}
-use Rattle.order_queue.specs.{declared.side.Side.TheVariants.Buy, declared.side.Side.TheVariants.Sell, declared.order.Trade.Trade, Id.Id}
-use Rattle.order_queue.specs.Queue.{Queue, order_of, resting, taken, total, volume}
+use Rattle.order_book.specs.{declared.side.Side.TheVariants.Buy, declared.side.Side.TheVariants.Sell, declared.order.Trade.Trade, Id.Id}
+use Rattle.order_book.specs.Queue.{Queue, order_of, resting, taken, total, volume}
 use Rattle.order_book.specs.Book.{IsUncrossed, IsUntraded, AreWithin, limit_of, dealt, deals, undealt, remainder}
 use Rattle.order_book.specs.declared.new_order.NewOrder.{NewOrder}
 

@@ -1,6 +1,9 @@
 -- What public clauses cite.
+pub mod Queue
+pub mod Id
 pub mod Book
 pub mod Names
 pub mod Words
--- How a book is made of two queues, and what an order does to them. No public clause cites these files.
+-- How a queue lies in its arena, how a book is made of two queues, and what an order does to them. No public clause cites these files.
+pub mod QueueLayout
 pub mod Layout

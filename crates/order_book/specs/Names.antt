@@ -1,7 +1,7 @@
 -- What becomes of names along the calls of a book: one that has ended names no order again, unless the generations of its side begin again.
 use Rattle.std.specs.Prelude.{◌≡◌, ◌⊎◌, ℕ, ◌<◌, ◌≤◌, List, [], ◌∷◌, Option, None, IsSome, IfNone, Result, OnErr}
-use Rattle.order_queue.specs.Queue.{Queue, order_of}
-use Rattle.order_queue.specs.{Id.Id, declared.order.Order.Order, declared.order.Trade.Trade}
+use Rattle.order_book.specs.Queue.{Queue, order_of}
+use Rattle.order_book.specs.{Id.Id, declared.order.Order.Order, declared.order.Trade.Trade}
 use Rattle.order_book.specs.Book.{Book, queue, named, Updates}
 
 -- How names go on from one moment of a side to a later one: what a pointer names now, it named before, or its generation is one from the

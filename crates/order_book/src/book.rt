@@ -3,17 +3,22 @@
 ghost use Rattle.std.specs.Prelude.{◌≡◌, ◌≢◌, ◌↔◌, ◌+◌, ◌-◌, ◌≤◌, ◌<◌, ◌++◌, ◌⊎◌, ℕ, true, false, Ok, Err, Some, None, length, vec_capacity};
 ghost use Rattle.std.specs.Prelude.{IfOk, OnOk, OnErr, OnSome, IfSome, IfNone};
 ghost use Rattle.std.specs.Option.{option_map};
-ghost use Rattle.order_queue.specs.PlainArena.{capacity_for};
-ghost use Rattle.order_queue.specs.Queue.{most_entries, first_of, first_levels, resting, traded, within, reduced_order, total, volume, HasRoomFor};
-ghost use Rattle.order_queue.specs.declared.side.Side.TheVariants.{Buy, Sell};
+ghost use Rattle.sorted_arena.specs.PlainArena.{capacity_for};
+ghost use Rattle.order_book.specs.Queue.{most_entries, first_of, first_levels, resting, traded, within, reduced_order, total, volume, HasRoomFor};
+ghost use Rattle.order_book.specs.declared.side.Side.TheVariants.{Buy, Sell};
 ghost use Rattle.order_book.specs.Book.{opposite, queue, empty_queue, named, limit_of, can_rest, only_rests, is_whole, without, with_less, replacement};
 ghost use Rattle.order_book.specs.Names.{IsStep, ChangesOrder, StepsOrRefuses};
 ghost use Rattle.order_book.specs.Book.{trades_for, trades_of, untraded, rest_of, AreWithin, IsBook, IsFull, IsUntraded, LacksRoom, Places};
 
 use crate::error::{PlacingError, ReplacingError};
+use crate::level::Depth;
 use crate::new_order::{NewOrder, OrderKind};
+use crate::order::{Order, OrderId, Trade};
+use crate::orders::Orders;
+use crate::queue::OrderQueue;
 use crate::settling::{settle, settle_anew};
-use order_queue::{Depth, Order, OrderId, OrderQueue, Orders, ReallocationError, Side, Trade};
+use crate::side::Side;
+use sorted_arena::ReallocationError;
 use std::alloc::{Allocator, Global};
 use std::marker::Model;
 

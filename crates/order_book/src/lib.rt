@@ -4,10 +4,20 @@
 mod book;
 mod error;
 pub mod laws;
+mod level;
 mod new_order;
+mod order;
+mod orders;
+mod queue;
 mod settling;
+mod side;
 
 pub use book::OrderBook;
 pub use error::{PlacingError, ReplacingError};
+pub use level::{Depth, Level};
 pub use new_order::{NewOrder, OrderKind};
-pub use order_queue::{Depth, Level, Order, OrderId, Orders, ReallocationError, Side, Trade};
+pub use order::{Order, OrderId, Trade};
+pub use orders::Orders;
+pub use queue::OrderQueue;
+pub use side::Side;
+pub use sorted_arena::ReallocationError;

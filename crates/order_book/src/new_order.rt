@@ -3,7 +3,7 @@
 ghost use Rattle.std.specs.Prelude.{◌≡◌};
 ghost use Rattle.order_book.specs.Book.{limit_of, can_rest, is_whole, only_rests};
 
-use order_queue::Side;
+use crate::side::Side;
 
 /// What an order does with its quantity, and up to which price.
 #[derive(Clone, Copy, PartialEq, Eq, Debug)]

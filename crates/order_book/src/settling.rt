@@ -2,12 +2,14 @@
 
 ghost use Rattle.std.specs.Prelude.{◌≡◌, ◌≢◌, ◌↔◌, ◌+◌, ◌≤◌, ◌<◌, ◌⊎◌, ℕ, Err, Some, None, length, vec_capacity, if◌then◌else◌};
 ghost use Rattle.std.specs.Prelude.{IfOk, OnOk, OnErr, IfSome, IsOk};
-ghost use Rattle.order_queue.specs.Queue.{most_entries, order_of, resting, with_left, HasRoomFor};
+ghost use Rattle.order_book.specs.Queue.{most_entries, order_of, resting, with_left, HasRoomFor};
 ghost use Rattle.order_book.specs.Book.{limit_of, can_rest, dealt, deals, remainder, IsFull, LacksRoom, RestsOrNot};
 ghost use Rattle.order_book.specs.Layout.{Settles};
 
 use crate::new_order::NewOrder;
-use order_queue::{OrderId, OrderQueue, P0, ReallocationError, Trade};
+use crate::order::{OrderId, Trade};
+use crate::queue::OrderQueue;
+use sorted_arena::{P0, ReallocationError};
 use std::alloc::{AllocError, Allocator};
 
 // Puts what is left of an order on its side.

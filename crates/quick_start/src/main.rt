@@ -1,5 +1,7 @@
 //! The example of the README: sessions by deadline, named by tokens.
-#![tactic(auto)]
+#![tactic(auto, using(sorted_arena::proofs::CallerLemmas::words))]
+
+mod sessions;
 
 use anyhow::Result;
 use sorted_arena::SortedArena;
@@ -22,6 +24,9 @@ fn main(rt: HostRuntime) -> Result<()> {
     for (deadline, user) in &ended {
         println!(rt; "{user} is logged out, as of {deadline}")?;
     }
+
+    // Ada gets another minute.
+    let _ = sessions::extend(&mut sessions, ada, 60);
     println!(rt; "Ada's session: {:?}", sessions.get(ada))?;
     Ok(())
 }

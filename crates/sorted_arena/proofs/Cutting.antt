@@ -3,12 +3,13 @@ use Rattle.std.proofs.Common.{◌≡◌, ◌≤◌, ◌≢◌, ℕ, ◌==◌, tr
 use Rattle.std.proofs.lemmas.{Grind.common_steps, List.append-nil, List.Elements.All-from_recursion, List.Elements.recursion_from_All, Bool.Decides.eqb_tells}
 use Rattle.std.specs.{List.AllByRecursion, List.All, Option.option_map, Ordering.is_eq, Ordering.is_le, Ordering.is_lt, Ordering.is_gt, Ordering.ordering_reverse, Ordering.ordering_then, Cmp.IsTotalOrder}
 use Rattle.std.specs.declared.cmp.Ordering.{Ordering, TheVariants.Less, TheVariants.Equal, TheVariants.Greater}
-use Rattle.triple_ord.specs.Chain.{Entry, times, entry_at, item_of, IsDistinct, link_at, first_pointer, last_pointer, without, with_item_among, pointed}
-use Rattle.triple_ord.specs.Link.{Link}
-use Rattle.triple_ord.specs.{Gap.Gap, Gap.before, Gap.after, Gap.first_of, Gap.last_of, Search.order_to, Search.FindsKey, Search.FindsSimilar, Order.IsInOrder, PastEquals.order_past_equals}
-use Rattle.triple_ord.proofs.CallerLemmas.{IsInOrder-rest, IsInOrder-back, in_order-one, in_order-more, all_greater, all_less, recursion-map}
-use Rattle.triple_ord.proofs.CallerLemmas.{ends, stands, not_before, entry_at-here, link-read, no_last}
-use Rattle.triple_ord.proofs.ChainLemmas.{entry_at-link}
+use Rattle.listing.specs.Chain.{Entry, times, entry_at, item_of, IsDistinct, link_at, first_pointer, last_pointer, without, with_item_among, pointed}
+use Rattle.listing.specs.Link.{Link}
+use Rattle.listing.specs.{Gap.Gap, Gap.before, Gap.after, Gap.first_of, Gap.last_of, Search.order_to, Search.FindsKey, Search.FindsSimilar, Order.IsInOrder, PastEquals.order_past_equals}
+use Rattle.listing.proofs.OrdLemmas.{IsInOrder-rest, IsInOrder-back, in_order-one, in_order-more, all_greater, all_less, recursion-map}
+use Rattle.listing.proofs.OrdLemmas.{ends, stands, not_before, entry_at-here, link-read, no_last}
+use Rattle.listing.proofs.ChainLemmas.{entry_at-link}
+use Rattle.listing.proofs.CallerLemmas.{distinct-rest, sorted-in_order}
 use Rattle.sorted_arena.specs.{Find.FindsFirst, Layout.item_key, Layout.pointer_among}
 use Rattle.sorted_arena.specs.Sorted.{Sorted, IsSound, key_of, first_item, pointer_of, first_where, next_of, prev_from, prev_of, last_item, before_last, AreSorted}
 use Rattle.sorted_arena.proofs.Elements.{all-at}
@@ -140,9 +141,6 @@ module _ {K V : Type 0} where
   prev-nowhere o [] p none = refl
   prev-nowhere o (e ∷ es) p none = grind (arith, common_steps, prev-nowhere (Some (pointer_of e)) es p)
 
-  pub distinct-rest : (e : Entry (K × V)) (es : List (Entry (K × V))) → IsDistinct (e ∷ es) → IsDistinct es
-  distinct-rest e es distinct i = omega (arith, distinct i)
-
   pub next-absent : (es : List (Entry (K × V))) (p : ℕ × ℕ) → IsDistinct es → item_of es p ≡ None → next_of es p ≡ None
   next-absent [] p distinct none = refl
   next-absent (e ∷ es) p distinct none = elim (eqb_tells e.index p.0) [
@@ -182,22 +180,6 @@ module _ {K V : Type 0} where
   without-behind : (front : List (Entry (K × V))) (e : Entry (K × V)) (back : List (Entry (K × V))) → times e.index front ≡ 0 → without e.index (front ++ e ∷ back) ≡ front ++ back
   without-behind [] e back none = grind (arith, common_steps)
   without-behind (f ∷ front) e back none = grind (arith, common_steps, without-behind front e back)
-
-  -- what is true of all entries is true of all but one
-  pub recursion-without : (P : Entry (K × V) → Type 0) (i : ℕ) (es : List (Entry (K × V))) → AllByRecursion P es → AllByRecursion P (without i es)
-  recursion-without P i [] all = tt
-  recursion-without P i (e ∷ es) all = elim (e.index == i) as (λ b. AllByRecursion P (if b then es else e ∷ without i es)) [
-    | true ↦ all.1
-    | false ↦ (all.0, recursion-without P i es all.1)
-  ]
-
-  pub fewer-without : (i j : ℕ) (es : List (Entry (K × V))) → times j (without i es) ≤ times j es
-  fewer-without i j [] = omega arith
-  fewer-without i j (e ∷ es) = grind (arith, common_steps, fewer-without i j es)
-
-  pub shorter-without : (i : ℕ) (es : List (Entry (K × V))) → length (without i es) ≤ length es
-  shorter-without i [] = omega arith
-  shorter-without i (e ∷ es) = grind (arith, common_steps, shorter-without i es)
 
   pub first-named : (es : List (Entry (K × V))) (p : ℕ × ℕ) → Some p ≡ first_pointer es → item_of es p ≡ first_item es
   first-named [] p first = absurd (cc)
@@ -330,19 +312,6 @@ not_greater-itself cmp total k is = let other : Greater ≡ Less = sym is ∙ to
 
 -- lists in the order of their keys
 module _ {K V : Type 0} (cmp : K → K → Ordering) where
-  pub sorted-in_order : (es : List (Entry (K × V))) → AreSorted cmp es → IsInOrder item_key cmp es
-  sorted-in_order [] sorted = λ front back e f cut. absurd (omega (arith, ap length cut, length-append front (e ∷ f ∷ back)))
-  sorted-in_order (e ∷ []) sorted = in_order-one item_key cmp e
-  sorted-in_order (e ∷ f ∷ es) sorted =
-      in_order-more item_key cmp e f es (recursion_from_All (λ x. cmp (key_of e) (key_of x) ≢ Greater) (f ∷ es) sorted.0).0 (sorted-in_order (f ∷ es) sorted.1)
-
-  pub sorted-without : (i : ℕ) (es : List (Entry (K × V))) → AreSorted cmp es → AreSorted cmp (without i es)
-  sorted-without i [] sorted = tt
-  sorted-without i (e ∷ es) sorted = elim (e.index == i) as (λ b. AreSorted cmp (if b then es else e ∷ without i es)) [
-    | true ↦ sorted.1
-    | false ↦ (All-from_recursion _ (without i es) (recursion-without (λ x. cmp (key_of e) (key_of x) ≢ Greater) i es (recursion_from_All _ es sorted.0)), sorted-without i es sorted.1)
-  ]
-
   -- lists of the same items are in order together
   recursion-items : (P : K × V → Type 0) (es fs : List (Entry (K × V))) → map (λ e. e.item) es ≡ map (λ e. e.item) fs → AllByRecursion (λ e. P e.item) fs → AllByRecursion (λ e. P e.item) es
   recursion-items P [] fs same all = tt
@@ -423,7 +392,7 @@ module _ {K V : Type 0} (cmp : K → K → Ordering) where
         let greater : cmp (key_of e) u ≡ Greater = subst (λ (x : K × V). cmp x.0 u ≡ Greater) same (gt_is (cmp k u) more) in
         let less : cmp u (key_of e) ≡ Less = total.antisymm u (key_of e) ∙ ap ordering_reverse greater in
         All-from_recursion _ (e ∷ es) (recursion-map (λ x. cmp u (key_of x) ≡ Less) (λ x. cmp (key_of x) u ≡ Greater)
-        (λ x is. total.antisymm (key_of x) u ∙ ap ordering_reverse is) (e ∷ es) (all_less item_key cmp total u (e ∷ es) (sorted-in_order (e ∷ es) sorted) less))
+        (λ x is. total.antisymm (key_of x) u ∙ ap ordering_reverse is) (e ∷ es) (all_less item_key cmp total u (e ∷ es) (sorted-in_order cmp (e ∷ es) sorted) less))
 
     -- the first key is the least
     pub first-least : {P : Type 0} (numbers : P → ℕ × ℕ) (o : Option P) (es : List (Entry (K × V))) → AreSorted cmp es → option_map numbers o ≡ first_pointer es

@@ -1,30 +1,48 @@
 -- Pairs that are inserted behind the last key.
-use Rattle.std.proofs.Common.{◌≡◌, ◌≢◌, ℕ, suc, slice_index_or, slice_get, ◌++◌, List, [], ◌∷◌, map, length, length-append, arith, ◌+◌, true, false, Option, Some, None, Err, IsSomeAnd, refl, sym, ap, subst, ◌∙◌, append_assoc, append-nil}
-use Rattle.std.proofs.{lemmas.List.map-append, lemmas.List.length-map, lemmas.List.Elements.recursion_from_All}
-use Rattle.std.specs.{Option.option_map_or, List.AllByRecursion, List.AllAdjacentBelow, Ordering.is_gt, Ordering.ordering_reverse, Cmp.IsTotalOrder}
-use Rattle.std.specs.declared.cmp.Ordering.{Ordering, TheVariants.Less, TheVariants.Greater}
-use Rattle.triple_ord.specs.{Chain.Entry, Gap.last_of, Order.IsInOrder}
+use Rattle.std.proofs.Common.{◌≡◌, ◌≢◌, ℕ, suc, slice_index_or, slice_get, ◌++◌, List, [], ◌∷◌, map, take, length, length-append, arith, ◌+◌, true, false, Option, Some, None, Err, IsSomeAnd, refl, sym, ap, subst, ◌∙◌, append_assoc, append-nil}
+use Rattle.std.proofs.{lemmas.Grind.common_steps, lemmas.List.map-append, lemmas.List.length-map, lemmas.List.Elements.recursion_from_All}
+use Rattle.std.specs.{Option.option_map_or, List.AllByRecursion, List.AllAdjacentBelow, Ordering.is_gt, Ordering.is_lt, Ordering.ordering_reverse, Cmp.IsTotalOrder}
+use Rattle.std.specs.declared.cmp.Ordering.{Ordering, TheVariants.Less, TheVariants.Equal, TheVariants.Greater}
+use Rattle.listing.specs.{Chain.Entry, Gap.last_of, Order.IsInOrder}
 use Rattle.sorted_arena.specs.{Change.ExtendsSorted, Layout.item_key}
 use Rattle.sorted_arena.specs.declared.error.SortedError.{SortedError, TheVariants.OutOfOrder, TheVariants.BeyondMaxCapacity, TheVariants.AllocError}
-use Rattle.sorted_arena.specs.Sorted.{Sorted, count, key_of, item_of, last_item, Inserts, Keeps, AreSorted, AreInOrder, IsOutOfOrder}
-use Rattle.triple_ord.proofs.CallerLemmas.{IsInOrder-rest, in_order-one, in_order-more}
-use Rattle.sorted_arena.proofs.Cutting.{gt_is, sorted-in_order, in_order-sorted, sorted-items}
+use Rattle.sorted_arena.specs.Sorted.{Sorted, count, key_of, pair_of, last_item, with_entry, Keeps, AreSorted, AreInOrder, IsOutOfOrder}
+use Rattle.listing.proofs.OrdLemmas.{IsInOrder-rest, in_order-one, in_order-more, all_less}
+use Rattle.listing.specs.Steps.{IsStep}
+use Rattle.sorted_arena.proofs.Merging.{inserts-item, with_item-last}
+use Rattle.sorted_arena.proofs.Cutting.{gt_is, in_order-sorted, sorted-items}
+use Rattle.listing.proofs.CallerLemmas.{sorted-in_order}
 
 module _ {X : Type 0} where
   pub cut_more : (all xs ys zs : List X) (x : X) → all ≡ xs ++ ys → ys ≡ x ∷ zs → all ≡ (xs ++ x ∷ []) ++ zs
   cut_more all xs ys zs x cut step = cut ∙ ap (λ l. xs ++ l) step ∙ sym (append_assoc xs (x ∷ []) zs)
 
+  pub taken-front : (all xs ys : List X) (n : ℕ) → all ≡ xs ++ ys → n ≡ length xs → xs ≡ take n all
+  taken-front all xs ys n cut is = rw (cut, is) (go xs)
+    where
+      go : (zs : List X) → zs ≡ take (length zs) (zs ++ ys)
+      go [] = grind (arith, common_steps)
+      go (z ∷ zs) = ap (λ (l : List X). z ∷ l) (go zs)
+
   pub cut_all : (all xs ys : List X) → all ≡ xs ++ ys → length ys ≡ 0 → xs ≡ all
   cut_all all xs [] cut none = sym (cut ∙ append-nil xs)
   cut_all all xs (y ∷ ys) cut none = absurd (omega arith)
 
+not_less : {K : Type 0} (cmp : K → K → Ordering) → IsTotalOrder cmp → (k l : K) → cmp l k ≢ Greater → is_lt (cmp k l) ≡ false
+not_less cmp total k l most = go (cmp k l) refl
+  where
+    go : (o : Ordering) → cmp k l ≡ o → is_lt (cmp k l) ≡ false
+    go Less is = absurd (most (total.antisymm l k ∙ ap ordering_reverse is))
+    go Equal is = ap is_lt is
+    go Greater is = ap is_lt is
+
 module _ {K V : Type 0} where
-  pub counted : (n before : ℕ) (es old : List (Entry (K × V))) (more : List (K × V)) → n ≡ length es → before ≡ length old → map item_of es ≡ map item_of old ++ more
+  pub counted : (n before : ℕ) (es old : List (Entry (K × V))) (more : List (K × V)) → n ≡ length es → before ≡ length old → map pair_of es ≡ map pair_of old ++ more
       → n ≡ before + length more
   counted n before es old more len was held =
-      omega (arith, len, was, ap length held, length-map es (item_of {K = K} {V = V}), length-map old (item_of {K = K} {V = V}), length-append (map item_of old) more)
+      omega (arith, len, was, ap length held, length-map es (pair_of {K = K} {V = V}), length-map old (pair_of {K = K} {V = V}), length-append (map pair_of old) more)
 
-  pub last-item : (es : List (Entry (K × V))) → last_of None (map item_of es) ≡ last_item es
+  pub last-item : (es : List (Entry (K × V))) → last_of None (map pair_of es) ≡ last_item es
   last-item [] = refl
   last-item (e ∷ []) = refl
   last-item (e ∷ f ∷ es) = last-item (f ∷ es)
@@ -32,44 +50,29 @@ module _ {K V : Type 0} where
   module _ (cmp : K → K → Ordering) (k : K) where
     -- the last key is greater
     pub last-greater : (es : List (Entry (K × V))) → option_map_or (λ x. is_gt (cmp x.0 k)) (last_item es) false ≡ true
-        → IsSomeAnd (last_of None (map item_of es)) (λ x. cmp x.0 k ≡ Greater)
+        → IsSomeAnd (last_of None (map pair_of es)) (λ x. cmp x.0 k ≡ Greater)
     last-greater es greater = rw (last-item es) (go (last_item es) greater)
       where
         go : (o : Option (K × V)) → option_map_or (λ x. is_gt (cmp x.0 k)) o false ≡ true → IsSomeAnd o (λ x. cmp x.0 k ≡ Greater)
         go None greater = absurd (cc)
         go (Some x) greater = gt_is (cmp x.0 k) greater
 
-    -- where it isn't, nothing stands behind a new entry
+    -- where it isn't, a new entry stands behind all others
     module _ (total : IsTotalOrder cmp) where
-      end-least : (back : List (Entry (K × V))) → AllByRecursion (λ e. cmp k (key_of e) ≡ Less) back → (o : Option (K × V)) → last_item back ≡ o
-          → option_map_or (λ x. is_gt (cmp x.0 k)) o false ≡ false → back ≡ []
-      end-least [] all o is most = refl
-      end-least (e ∷ []) all o is most =
-          let greater : cmp (key_of e) k ≡ Greater = total.antisymm (key_of e) k ∙ ap ordering_reverse all.0 in
-          absurd (let both : is_gt (cmp (key_of e) k) ≡ false = subst (λ (o : Option (K × V)). option_map_or (λ x. is_gt (cmp x.0 k)) o false ≡ false) (sym is) most in
-          let more : is_gt (cmp (key_of e) k) ≡ true = ap is_gt greater in cc)
-      end-least (e ∷ f ∷ back) all o is most = absurd (let none = end-least (f ∷ back) all.1 o is most in cc)
-
-      last-behind : (front back : List (Entry (K × V))) (e : Entry (K × V)) → last_item (front ++ e ∷ back) ≡ last_item (e ∷ back)
-      last-behind [] back e = refl
-      last-behind (x ∷ []) back e = refl
-      last-behind (x ∷ y ∷ front) back e = last-behind (y ∷ front) back e
-
-      pub appended : (most : ℕ) (old new : Sorted K V) (p : ℕ × ℕ) (v : V) → Inserts cmp most old p k v new
-          → option_map_or (λ x. is_gt (cmp x.0 k)) (last_item old.entries) false ≡ false → map item_of new.entries ≡ map item_of old.entries ++ (k, v) ∷ []
-      appended most old new p v h last =
-          let none = nothing h.back (recursion_from_All _ h.back h.greater_behind) (subst (λ (xs : List (Entry (K × V))). option_map_or (λ x. is_gt (cmp x.0 k)) (last_item xs) false ≡ false) h.before last) in
-          let entry : Entry (K × V) = record { index = p.0; generation = p.1; item = (k, v) } in
-          let front : old.entries ≡ h.front = h.before ∙ ap (λ (xs : List (Entry (K × V))). h.front ++ xs) none ∙ append-nil h.front in
-          ap (map item_of) h.after ∙ ap (λ (xs : List (Entry (K × V))). map item_of (h.front ++ entry ∷ xs)) none ∙ map-append item_of h.front (entry ∷ [])
-          ∙ ap (λ (xs : List (Entry (K × V))). map item_of xs ++ (k, v) ∷ []) (sym front)
+      all-not_less : (es : List (Entry (K × V))) → AreSorted cmp es → option_map_or (λ x. is_gt (cmp x.0 k)) (last_item es) false ≡ false → AllByRecursion (λ e. is_lt (cmp k (key_of e)) ≡ false) es
+      all-not_less [] sorted last = tt
+      all-not_less (e ∷ []) sorted last = (not_less cmp total k (key_of e) (λ more. let both : is_gt (cmp (key_of e) k) ≡ true = ap is_gt more in cc), tt)
+      all-not_less (e ∷ f ∷ es) sorted last = let rest = all-not_less (f ∷ es) sorted.1 last in (go (cmp k (key_of e)) refl rest.0, rest)
         where
-          nothing : (back : List (Entry (K × V))) → AllByRecursion (λ e. cmp k (key_of e) ≡ Less) back
-              → option_map_or (λ x. is_gt (cmp x.0 k)) (last_item (h.front ++ back)) false ≡ false → back ≡ []
-          nothing [] all last = refl
-          nothing (e ∷ back) all last =
-              end-least (e ∷ back) all (last_item (e ∷ back)) refl
-              (subst (λ (o : Option (K × V)). option_map_or (λ x. is_gt (cmp x.0 k)) o false ≡ false) (last-behind h.front back e) last)
+          go : (o : Ordering) → cmp k (key_of e) ≡ o → is_lt (cmp k (key_of f)) ≡ false → is_lt (cmp k (key_of e)) ≡ false
+          go Less is next = absurd (let less : cmp k (key_of f) ≡ Less = (all_less item_key cmp total k (e ∷ f ∷ es) (sorted-in_order cmp (e ∷ f ∷ es) sorted) is).1.0 in
+              let both : is_lt (cmp k (key_of f)) ≡ true = ap is_lt less in cc)
+          go Equal is next = ap is_lt is
+          go Greater is next = ap is_lt is
+
+      pub appended : (most : ℕ) (old new : Sorted K V) (p : ℕ × ℕ) (v : V) → new ≡ with_entry cmp most old p (k, v) → AreSorted cmp old.entries
+          → option_map_or (λ x. is_gt (cmp x.0 k)) (last_item old.entries) false ≡ false → map pair_of new.entries ≡ map pair_of old.entries ++ (k, v) ∷ []
+      appended most old new p v is sorted last = inserts-item cmp most old new p k v is ∙ with_item-last cmp k v old.entries (all-not_less old.entries sorted last)
 
 not_gt : (o : Ordering) → is_gt o ≡ false → o ≢ Greater
 not_gt o is greater = absurd (let both : is_gt o ≡ true = ap is_gt greater in cc)
@@ -108,7 +111,7 @@ module _ {K V : Type 0} (cmp : K → K → Ordering) where
     abbrev made : List (K × V) → List (Entry (K × V))
     made xs = map (λ x. record { index = 0; generation = 0; item = x }) xs
 
-    made-items : (xs : List (K × V)) → map item_of (made xs) ≡ xs
+    made-items : (xs : List (K × V)) → map pair_of (made xs) ≡ xs
     made-items [] = refl
     made-items (x ∷ xs) = ap (λ ys. x ∷ ys) (made-items xs)
 
@@ -128,27 +131,30 @@ module _ {K V : Type 0} (cmp : K → K → Ordering) where
         later [] on = tt
         later (x ∷ xs) on = on
 
-    pub continued : (es : List (Entry (K × V))) (xs : List (K × V)) → AreSorted cmp es → GoesOn es xs → Ascends xs → AreInOrder cmp (map item_of es ++ xs)
+    pub continued : (es : List (Entry (K × V))) (xs : List (K × V)) → AreSorted cmp es → GoesOn es xs → Ascends xs → AreInOrder cmp (map pair_of es ++ xs)
     continued es xs sorted on up = (
       es ++ made xs,
-      map-append item_of es (made xs) ∙ ap (λ ys. map item_of es ++ ys) (made-items xs),
+      map-append pair_of es (made xs) ∙ ap (λ ys. map pair_of es ++ ys) (made-items xs),
       in_order-sorted cmp total (es ++ made xs) (joined es xs (sorted-in_order cmp es sorted) on up),
     )
 
     -- entries with items that are in order
-    pub sorted-listed : (es : List (Entry (K × V))) (items : List (K × V)) → map item_of es ≡ items → AreInOrder cmp items → AreSorted cmp es
+    pub sorted-listed : (es : List (Entry (K × V))) (items : List (K × V)) → map pair_of es ≡ items → AreInOrder cmp items → AreSorted cmp es
     sorted-listed es items is order = sorted-items cmp es order.0 (is ∙ sym order.1) order.2
 
 -- pairs were inserted up to one that is refused
 module _ {K V : Type 0} (cmp : K → K → Ordering) (most : ℕ) (old now : Sorted K V) (pairs front back : List (K × V)) (cut : pairs ≡ front ++ back)
-    (held : map item_of now.entries ≡ map item_of old.entries ++ front) (keeps : Keeps old now) (generation : now.generation ≡ old.generation) where
-  pub stopped : (e : SortedError) → ((at : ℕ) → e ≡ OutOfOrder at → IsOutOfOrder cmp (map item_of old.entries) pairs at) → (e ≡ BeyondMaxCapacity → count now ≡ most)
+    (held : map pair_of now.entries ≡ map pair_of old.entries ++ front) (keeps : Keeps old now) (steps : IsStep old now) (generation : now.generation ≡ old.generation) where
+  pub stopped : (e : SortedError) → ((at : ℕ) → e ≡ OutOfOrder at → IsOutOfOrder cmp (map pair_of old.entries) pairs at)
+      → ((at : ℕ) → e ≡ OutOfOrder at → map pair_of now.entries ≡ map pair_of old.entries ++ take at pairs) → (e ≡ BeyondMaxCapacity → count now ≡ most)
       → (e ≡ AllocError → count now ≡ now.capacity) → ExtendsSorted cmp most old pairs (Err e) now
-  stopped e unsorted full memory = record {
+  stopped e unsorted before full memory = record {
     ok = tt;
     unsorted = λ at is. unsorted at (cc);
+    before = λ at is. before at (cc);
     part = (front, back, cut, held);
     kept = keeps;
+    step = steps;
     generation = generation;
     full = λ is. full (cc);
     memory = λ is. memory (cc);

@@ -2,8 +2,8 @@
 use Rattle.std.proofs.Common.{◌≡◌, ◌≢◌, ℕ, List, [], ◌∷◌, ◌++◌, append_assoc, Option, Some, None, IsSome, IsSomeAnd, is_some, refl, sym, ap, subst, ◌∙◌}
 use Rattle.std.proofs.lemmas.List.Elements.{recursion_from_All}
 use Rattle.std.specs.{Option.option_map, declared.cmp.Ordering.Ordering, declared.cmp.Ordering.TheVariants.Greater}
-use Rattle.triple_ord.specs.{Chain.Entry, Chain.IsDistinct, Chain.item_of, Gap.first_of, Gap.last_of}
-use Rattle.triple_ord.proofs.CallerLemmas.{ends}
+use Rattle.listing.specs.{Chain.Entry, Chain.IsDistinct, Chain.item_of, Gap.first_of, Gap.last_of}
+use Rattle.listing.proofs.OrdLemmas.{ends}
 use Rattle.sorted_arena.specs.Find.{FindsNeighbour}
 use Rattle.sorted_arena.specs.Sorted.{Sorted, key_of, pointer_of, next_of, prev_of, AreSorted, IsSound}
 use Rattle.sorted_arena.proofs.Cutting.{some-same, CutAt, cut-at, next-here, prev-here, next-absent, prev-absent, found-here}

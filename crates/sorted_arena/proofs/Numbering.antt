@@ -2,9 +2,9 @@
 use Rattle.std.proofs.Common.{◌≡◌, ◌≢◌, ℕ, zero, suc, ◌+◌, ◌-◌, ◌<◌, ◌≤◌, ◌==◌, Bool, true, false, if◌then◌else◌, List, [], ◌∷◌, ◌++◌, map, length, length-append, slice_get, take, drop, Some, refl, sym, ap, subst, ◌∙◌, arith, is_some, inl, inr}
 use Rattle.std.proofs.{lemmas.Bool.cases_eq, lemmas.Bool.cases_lt, lemmas.Bool.eq-eqb, lemmas.Bool.ne_eqb, Math.Seq.take-append_seam, Math.Seq.drop-append_seam}
 use Rattle.std.specs.{List.range_with_len, Option.option_map}
-use Rattle.triple_ord.specs.Chain.{Entry, Chain, times, entry_at, without, with_item_among, vacant_among, vacant_indexes, with_capacity, last_pointer, inserted_at, next_index, grown_capacity}
-use Rattle.triple_ord.specs.{ChainCompression.numbered, ChainCompression.canonical, Insert.IsInsertion, TreeAppend.Appends, Insertion.with_room_by}
-use Rattle.triple_ord.specs.declared.growth.Growth.{Growth, TheVariants.Within, TheVariants.Reallocating}
+use Rattle.listing.specs.Chain.{Entry, Chain, times, entry_at, without, with_item_among, vacant_among, vacant_indexes, with_capacity, last_pointer, inserted_at, next_index, grown_capacity}
+use Rattle.listing.specs.{ChainCompression.numbered, ChainCompression.canonical, Insert.IsInsertion, TreeAppend.Appends, Insertion.with_room_by}
+use Rattle.listing.specs.Growth.{Growth, TheVariants.Within, TheVariants.Reallocating}
 use Rattle.sorted_arena.specs.{Layout.AreNumbered, Layout.IsCompact, Place.position_of, Stretch.first_index}
 
 module _ {T : Type 0} where

@@ -1,20 +1,24 @@
 -- The entries whose keys are outside a range, and those in it, where a sorted list is cut at its ends.
-use Rattle.std.proofs.Common.{◌≡◌, true, false, Bool, not, ◌&&◌, filter, List, [], ◌∷◌, ◌++◌, refl, sym, ap, ◌∙◌}
+use Rattle.std.proofs.Common.{◌≡◌, ℕ, Option, true, false, Bool, not, ◌&&◌, filter, List, [], ◌∷◌, ◌++◌, refl, sym, ap, ◌∙◌}
 use Rattle.std.proofs.lemmas.List.Elements.{All-from_recursion, filter_agree}
-use Rattle.std.specs.{List.All, List.AllByRecursion, Ordering.is_le, Ordering.is_lt, Ordering.ordering_reverse, Cmp.IsTotalOrder}
+use Rattle.std.specs.{List.All, List.AllByRecursion, Ordering.is_le, Ordering.is_lt, Ordering.is_gt, Ordering.ordering_reverse, Cmp.IsTotalOrder}
 use Rattle.std.specs.declared.cmp.Ordering.{Ordering, TheVariants.Less, TheVariants.Equal, TheVariants.Greater}
 use Rattle.std.specs.declared.ops.Bound.{Bound, TheVariants.Included, TheVariants.Excluded, TheVariants.Unbounded}
 use Rattle.std.specs.BTreeMap.Range.{is_from_start, is_past_end}
-use Rattle.triple_ord.specs.Chain.{Entry}
-use Rattle.sorted_arena.specs.{Range.entries_between, Range.entries_outside, Sorted.key_of, Sorted.entries_until, Sorted.entries_above, Sorted.AreSorted}
-use Rattle.triple_ord.proofs.CallerLemmas.{recursion-map}
-use Rattle.sorted_arena.proofs.Cutting.{lt_is}
+use Rattle.listing.specs.Chain.{Entry}
+use Rattle.sorted_arena.specs.{Range.entries_between, Range.entries_outside, Range.is_outside, Sorted.Sorted, Sorted.key_of, Sorted.entries_until, Sorted.entries_above, Sorted.with_rest, Sorted.with_passing, Sorted.AreSorted}
+use Rattle.sorted_arena.proofs.Cutting.{gt_is}
 use Rattle.sorted_arena.proofs.Ranging.{Stays, inside, inside-in, inside-past, none-inside, from-stays, past-stays}
 
-turned : (o : Ordering) → is_le (ordering_reverse o) ≡ not (is_lt o)
-turned Less = refl
-turned Equal = refl
-turned Greater = refl
+at_most : (o : Ordering) → (true && not (is_lt (ordering_reverse o))) ≡ is_le o
+at_most Less = refl
+at_most Equal = refl
+at_most Greater = refl
+
+above : (o : Ordering) → not (true && not (is_lt (ordering_reverse o))) ≡ is_gt o
+above Less = refl
+above Equal = refl
+above Greater = refl
 
 -- a list is cut before and behind a part of it, and these are the others
 pub record IsPart {X : Type 0} (es middle others : List X) : Type 0 where
@@ -99,66 +103,24 @@ module _ {K V : Type 0} (cmp : K → K → Ordering) (k : K) where
       both false = refl
 
   module _ (total : IsTotalOrder cmp) where
-    at_most : (e : Entry (K × V)) → is_le (cmp (key_of e) k) ≡ not (is_lt (cmp k (key_of e)))
-    at_most e = ap is_le (total.antisymm (key_of e) k) ∙ turned (cmp k (key_of e))
+    -- up to a key, and above it
+    pub until-between : (es : List (Entry (K × V))) → entries_between cmp Unbounded (Included k) es ≡ entries_until cmp k es
+    until-between es = filter_agree _ _ (λ e. ap (λ o. true && not (is_lt o)) (total.antisymm k (key_of e)) ∙ at_most (cmp (key_of e) k)) es
 
-    abbrev later : Entry (K × V) → Bool
-    later e = is_lt (cmp k (key_of e))
+    pub outside-above : (greatest : Option ℕ) (a : Sorted K V)
+        → with_passing greatest a (is_outside cmp Unbounded (Included k)) ≡ with_passing greatest a (λ e. is_gt (cmp (key_of e) k))
+    unfolding with_passing
+    outside-above greatest a = ap (with_rest greatest a) (filter_agree _ _ (λ e. ap (λ o. not (true && not (is_lt o))) (total.antisymm k (key_of e)) ∙ above (cmp (key_of e) k)) a.entries)
 
-    -- up to a key in a sorted list are the entries before the first greater one
-    pub until-between : (es : List (Entry (K × V))) → AreSorted cmp es → entries_between cmp Unbounded (Included k) es ≡ entries_until cmp k es
-    until-between es sorted = go es (past-stays cmp total (Included k) es sorted)
-      where
-        go : (es : List (Entry (K × V))) → Stays later es → inside (λ e. true) later es ≡ entries_until cmp k es
-        go [] stays = refl
-        go (e ∷ es) stays = by (later e) refl (go es stays.1)
-          where
-            by : (b : Bool) → later e ≡ b → inside (λ e. true) later es ≡ entries_until cmp k es
-                → inside (λ e. true) later (e ∷ es) ≡ entries_until cmp k (e ∷ es)
-            by true is others =
-                let none : is_le (cmp (key_of e) k) ≡ false = at_most e ∙ ap not is in
-                let empty : entries_until cmp k (e ∷ es) ≡ [] = rw none refl in
-                inside-past (λ e. true) later e es is ∙ none-inside (λ e. true) later es (stays.0 is) ∙ sym empty
-            by false is others =
-                let some : is_le (cmp (key_of e) k) ≡ true = at_most e ∙ ap not is in
-                let more : entries_until cmp k (e ∷ es) ≡ e ∷ entries_until cmp k es = rw some refl in
-                inside-in (λ e. true) later e es refl is ∙ ap (λ xs. e ∷ xs) others ∙ sym more
-
-    -- above a key is what isn't up to it
-    pub outside-above : (es : List (Entry (K × V))) → AreSorted cmp es → entries_outside cmp Unbounded (Included k) es ≡ entries_above cmp k es
-    outside-above es sorted = go es (past-stays cmp total (Included k) es sorted)
-      where
-        go : (es : List (Entry (K × V))) → Stays later es → outside (λ e. true) later es ≡ entries_above cmp k es
-        go [] stays = refl
-        go (e ∷ es) stays = by (later e) refl (go es stays.1)
-          where
-            by : (b : Bool) → later e ≡ b → outside (λ e. true) later es ≡ entries_above cmp k es → outside (λ e. true) later (e ∷ es) ≡ entries_above cmp k (e ∷ es)
-            by true is rest =
-                let none : is_le (cmp (key_of e) k) ≡ false = at_most e ∙ ap not is in
-                let same : entries_above cmp k (e ∷ es) ≡ e ∷ es = rw none refl in
-                all-outside (λ e. true) later (e ∷ es) (is, stays.0 is) ∙ sym same
-            by false is rest =
-                let some : is_le (cmp (key_of e) k) ≡ true = at_most e ∙ ap not is in
-                let same : entries_above cmp k (e ∷ es) ≡ entries_above cmp k es = rw some refl in
-                outside-in (λ e. true) later e es refl is ∙ rest ∙ sym same
-
-    -- all keys above one are greater
-    pub above-greater : (es : List (Entry (K × V))) → AreSorted cmp es → All (λ e. cmp (key_of e) k ≡ Greater) (entries_above cmp k es)
-    above-greater es sorted = go es (past-stays cmp total (Included k) es sorted)
-      where
-        greater : (e : Entry (K × V)) → later e ≡ true → cmp (key_of e) k ≡ Greater
-        greater e is = total.antisymm (key_of e) k ∙ ap ordering_reverse (lt_is (cmp k (key_of e)) is)
-
-        go : (es : List (Entry (K × V))) → Stays later es → All (λ e. cmp (key_of e) k ≡ Greater) (entries_above cmp k es)
-        go [] stays = All-from_recursion _ [] tt
-        go (e ∷ es) stays = by (later e) refl (go es stays.1)
-          where
-            by : (b : Bool) → later e ≡ b → All (λ e. cmp (key_of e) k ≡ Greater) (entries_above cmp k es) → All (λ e. cmp (key_of e) k ≡ Greater) (entries_above cmp k (e ∷ es))
-            by true is rest =
-                let none : is_le (cmp (key_of e) k) ≡ false = at_most e ∙ ap not is in
-                let same : entries_above cmp k (e ∷ es) ≡ e ∷ es = rw none refl in
-                rw same (All-from_recursion _ (e ∷ es) (greater e is, recursion-map (λ x. later x ≡ true) (λ x. cmp (key_of x) k ≡ Greater) greater es (stays.0 is)))
-            by false is rest =
-                let some : is_le (cmp (key_of e) k) ≡ true = at_most e ∙ ap not is in
-                let same : entries_above cmp k (e ∷ es) ≡ entries_above cmp k es = rw some refl in
-                rw same rest
+  -- all keys above one are greater
+  pub above-greater : (es : List (Entry (K × V))) → All (λ e. cmp (key_of e) k ≡ Greater) (entries_above cmp k es)
+  above-greater es = All-from_recursion _ _ (go es)
+    where
+      go : (es : List (Entry (K × V))) → AllByRecursion (λ e. cmp (key_of e) k ≡ Greater) (entries_above cmp k es)
+      go [] = tt
+      go (e ∷ es) = by (is_gt (cmp (key_of e) k)) refl (go es)
+        where
+          by : (b : Bool) → is_gt (cmp (key_of e) k) ≡ b → AllByRecursion (λ x. cmp (key_of x) k ≡ Greater) (entries_above cmp k es)
+              → AllByRecursion (λ x. cmp (key_of x) k ≡ Greater) (entries_above cmp k (e ∷ es))
+          by true is rest = rw is (gt_is (cmp (key_of e) k) is, rest)
+          by false is rest = rw is rest

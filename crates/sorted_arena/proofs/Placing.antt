@@ -1,7 +1,7 @@
 -- Iterators over lists whose entries have the indexes from 1 on.
 use Rattle.std.proofs.Common.{◌≡◌, ◌≢◌, Bool, true, false, ℕ, zero, suc, ◌+◌, ◌-◌, ◌^◌, ◌<◌, ◌≤◌, List, [], ◌∷◌, ◌++◌, length, length-append, append_assoc, slice_get, take, drop, Option, Some, None, is_some, refl, sym, ap, subst, ◌∙◌, arith}
 use Rattle.std.specs.{Option.option_map, Iterator.YieldsFirstBy, Iterator.YieldsLastBy}
-use Rattle.triple_ord.specs.Chain.{Entry, entry_at}
+use Rattle.listing.specs.Chain.{Entry, entry_at}
 use Rattle.sorted_arena.specs.{Layout.AreNumbered, Place.position_of, Place.left_at, Place.IsPlace, Stretch.stretch, Stretch.first_index, Stretch.IsStretch}
 use Rattle.sorted_arena.proofs.{Numbering.position-cut, Numbering.found-numbered, Numbering.run-first, Numbering.run-last, Numbering.run-between, Stretching.stretch-middle}
 

@@ -7,8 +7,8 @@ use Rattle.std.proofs.lemmas.List.Elements.{recursion_from_All}
 use Rattle.std.specs.{List.AllByRecursion, Option.option_map, Option.option_and_then, Ordering.is_eq, Ordering.is_le, Ordering.is_lt, Cmp.IsTotalOrder}
 use Rattle.std.specs.declared.ops.Bound.{Bound, TheVariants.Included, TheVariants.Excluded, TheVariants.Unbounded}
 use Rattle.std.specs.BTreeMap.Range.{is_from_start, is_past_end}
-use Rattle.triple_ord.specs.{Chain.Entry, Chain.IsDistinct, Chain.item_of, Gap.first_of}
-use Rattle.triple_ord.proofs.CallerLemmas.{in_order-one, in_order-more, all_greater, all_less, recursion-map}
+use Rattle.listing.specs.{Chain.Entry, Chain.IsDistinct, Chain.item_of, Gap.first_of}
+use Rattle.listing.proofs.OrdLemmas.{in_order-one, in_order-more, all_greater, all_less, recursion-map}
 use Rattle.sorted_arena.specs.{Range.entries_between, Stretch.stretch, Stretch.IsStretch, Stretch.is_forward}
 use Rattle.sorted_arena.specs.Sorted.{key_of, pointer_of, first_where, AreSorted}
 use Rattle.sorted_arena.proofs.{Cutting.some-same, Cutting.index-pointer, Cutting.found-here, Cutting.lt_is, Cutting.not_le, Stretching.stretch-middle}

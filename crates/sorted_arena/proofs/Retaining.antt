@@ -2,7 +2,7 @@
 use Rattle.std.proofs.Common.{◌≡◌, ℕ, ◌+◌, ◌≤◌, ◌<◌, Bool, true, false, if◌then◌else◌, cond, length, append_assoc, List, [], ◌∷◌, ◌++◌, Option, Some, None, refl, sym, ap, subst, ◌∙◌, arith}
 use Rattle.std.proofs.lemmas.List.{append-nil}
 use Rattle.std.specs.{List.Retain.IsFiltered, Option.option_map}
-use Rattle.triple_ord.specs.{Chain.Entry, Chain.IsDistinct, Chain.first_pointer, Gap.first_of}
+use Rattle.listing.specs.{Chain.Entry, Chain.IsDistinct, Chain.first_pointer, Gap.first_of}
 use Rattle.sorted_arena.specs.{Stretch.stretch, Stretch.first_index, Sorted.Sorted, Sorted.count, Sorted.pointer_of, Sorted.with_left, Sorted.with_rest}
 use Rattle.sorted_arena.specs.Taking.{IsCutAt, AsksFor}
 use Rattle.sorted_arena.proofs.{Cutting.index-pointer, Removing.RemovesMany, Removing.removes-none, Removing.removes-more, Removing.removes-rest, Stretching.between-cuts}

@@ -1,11 +1,11 @@
 -- Stretches of a list: what a step of an iterator from either end gives, and where it stands then.
-use Rattle.std.proofs.Common.{◌≡◌, ◌≤◌, ℕ, length, length-append, List, [], ◌∷◌, ◌++◌, append_assoc, Option, Some, None, refl, sym, ap, subst, ◌∙◌, arith}
+use Rattle.std.proofs.Common.{◌≡◌, ◌≤◌, ℕ, length, length-append, List, [], ◌∷◌, ◌++◌, append_assoc, Option, Some, None, Bool, true, false, is_some, ◌==◌, refl, sym, ap, subst, ◌∙◌, arith}
 use Rattle.std.proofs.lemmas.{Grind.common_steps, List.append-nil}
 use Rattle.std.specs.Option.{option_map}
-use Rattle.triple_ord.specs.{Chain.Entry, Chain.times, Chain.IsDistinct, Chain.entry_at, Chain.from_index, Chain.link_at, Chain.first_pointer, Chain.last_pointer, Link.Link}
-use Rattle.triple_ord.proofs.ChainLemmas.{times-append, entry_at-link}
-use Rattle.triple_ord.specs.Gap.{last_of}
-use Rattle.triple_ord.proofs.CallerLemmas.{last_of-append, ends, no_last, link-read, not_before, entry_at-here, from_index-here}
+use Rattle.listing.specs.{Chain.Entry, Chain.times, Chain.IsDistinct, Chain.entry_at, Chain.item_of, Chain.from_index, Chain.link_at, Chain.first_pointer, Chain.last_pointer, Link.Link}
+use Rattle.listing.proofs.ChainLemmas.{times-append, entry_at-link}
+use Rattle.listing.specs.Gap.{last_of}
+use Rattle.listing.proofs.OrdLemmas.{last_of-append, ends, no_last, link-read, not_before, entry_at-here, from_index-here}
 use Rattle.sorted_arena.specs.Stretch.{before_index, stretch, first_index, IsStretch}
 use Rattle.sorted_arena.proofs.Cutting.{some-same}
 
@@ -215,3 +215,32 @@ module _ {T : Type 0} where
 
     pub whole-stretched : stretch es (option_map (λ p. p.0) (first_pointer es)) None ≡ es
     whole-stretched = subst (λ (f : Option ℕ). stretch es f None ≡ es) (first_whole es) (between-cuts es distinct [] es [] (sym (append-nil es)))
+
+-- from an entry that a pointer names on to the end
+module _ {T : Type 0} where
+  record FromThere (es : List (Entry T)) (i : ℕ) : Type 0 where
+    front : List (Entry T)
+    cut : es ≡ front ++ from_index es i
+    begins : first_index (from_index es i) ≡ Some i
+
+  from-there : (es : List (Entry T)) (i g : ℕ) → is_some (item_of es (i, g)) ≡ true → FromThere es i
+  from-there [] i g there = absurd (cc)
+  from-there (e ∷ es) i g there = go (e.index == i) refl (from-there es i g)
+    where
+      go : (b : Bool) → (e.index == i) ≡ b → (is_some (item_of es (i, g)) ≡ true → FromThere es i) → FromThere (e ∷ es) i
+      go true is rest = record { front = []; cut = rw is refl; begins = grind (arith, common_steps) }
+      go false is rest =
+          let later : is_some (item_of es (i, g)) ≡ true = grind (arith, common_steps) in let from = rest later in
+          record { front = e ∷ from.front; cut = rw is (ap (λ (zs : List (Entry T)). e ∷ zs) from.cut); begins = rw is from.begins }
+
+  pub tail-stretch : (es : List (Entry T)) (p : ℕ × ℕ) → IsDistinct es → is_some (item_of es p) ≡ true → IsStretch es (Some p.0) None
+  tail-stretch es p distinct there =
+      let from = from-there es p.0 p.1 there in record {
+        distinct = distinct;
+        front = from.front;
+        middle = from_index es p.0;
+        back = [];
+        cut = from.cut ∙ ap (λ (zs : List (Entry T)). from.front ++ zs) (sym (append-nil (from_index es p.0)));
+        begins = ap first_index (append-nil (from_index es p.0)) ∙ from.begins;
+        ends = refl;
+      }

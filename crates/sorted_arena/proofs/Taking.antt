@@ -2,8 +2,8 @@
 use Rattle.std.proofs.Common.{◌≡◌, ℕ, Bool, true, false, ◌+◌, ◌<◌, ◌++◌, length, length-append, append_assoc, List, [], ◌∷◌, Option, Some, refl, sym, ap, subst, ◌∙◌, arith}
 use Rattle.std.proofs.lemmas.List.{append-nil}
 use Rattle.std.specs.Option.{option_map}
-use Rattle.triple_ord.specs.{Chain.Entry, Chain.IsDistinct, Chain.without as without_index, Gap.first_of}
-use Rattle.sorted_arena.specs.Sorted.{Sorted, count, pointer_of, pair_of, next_of, with_left, with_rest, without}
+use Rattle.listing.specs.{Chain.Entry, Chain.IsDistinct, Chain.without as without_index, Gap.first_of}
+use Rattle.sorted_arena.specs.Sorted.{Sorted, count, pointer_of, get, next_of, with_left, with_rest, with_passing, without_entry}
 use Rattle.sorted_arena.specs.Taking.{IsCutAt, TakesOut, AsksFor}
 use Rattle.sorted_arena.proofs.{Cutting.next-here, Cutting.found-here, Cutting.without-here, Outside.IsPart}
 use Rattle.sorted_arena.proofs.Removing.{RemovesMany, removes-none, removes-more, removes-rest}
@@ -117,18 +117,19 @@ module _ {K V : Type 0} (greatest : Option ℕ) (old : Sorted K V) (distinct : I
   named : p ≡ pointer_of at.entry
   named = let both : Some p ≡ Some (pointer_of at.entry) = sym is ∙ at.named in cc
 
-  pub cut-found : pair_of old p ≡ Some at.entry.item
-  cut-found = ap (pair_of old) named ∙ found-here old.entries distinct at.front at.entry at.back at.cut
+  pub cut-found : get old p ≡ Some at.entry.item
+  cut-found = ap (get old) named ∙ found-here old.entries distinct at.front at.entry at.back at.cut
 
   cut-next_of : (after : Option (ℕ × ℕ)) → after ≡ next_of old.entries p → after ≡ option_map pointer_of (first_of at.back)
   cut-next_of after after_is = after_is ∙ ap (next_of old.entries) named ∙ next-here old.entries distinct at.front at.entry at.back at.cut
 
   -- it is removed
-  pub takes-out : (new : Sorted K V) (item : K × V) → Some item ≡ pair_of old p → new ≡ without greatest old p → (after : Option (ℕ × ℕ)) → after ≡ next_of old.entries p
+  pub takes-out : (new : Sorted K V) (item : K × V) → Some item ≡ get old p → new ≡ without_entry greatest old p → (after : Option (ℕ × ℕ)) → after ≡ next_of old.entries p
       → TakesOut greatest old next at item new after
+  unfolding without_entry
   takes-out new item item_is gone after after_is = record {
     item_is = let both : Some item ≡ Some at.entry.item = item_is ∙ cut-found in cc;
-    left = gone ∙ ap (with_left greatest old) (ap (λ (q : ℕ × ℕ). without_index q.0 old.entries) named ∙ without-here old.entries distinct at.front at.entry at.back at.cut);
+    left = gone ∙ rw (← item_is) (ap (with_left greatest old) (ap (λ (q : ℕ × ℕ). without_index q.0 old.entries) named ∙ without-here old.entries distinct at.front at.entry at.back at.cut));
     next_is = cut-next_of after after_is;
   }
 

@@ -2,7 +2,7 @@
 use Rattle.std.specs.Prelude.{◌≡◌, Bool}
 use Rattle.std.specs.{Fn.FnOnceReturns, Fn.Called, Borrow.Bor}
 use denote.Param.Members.{Once, Mut}
-use Rattle.triple_ord.specs.Chain.{Entry}
+use Rattle.listing.specs.Chain.{Entry}
 use Rattle.sorted_arena.specs.Sorted.{key_of, value_of}
 
 -- the closure may answer so for a reference to this key and one to this value

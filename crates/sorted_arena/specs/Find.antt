@@ -2,8 +2,8 @@
 use Rattle.std.specs.Prelude.{◌≡◌, ◌≢◌, ℕ, Bool, Option, IfSome, IfNone, IsSome, IsSomeAnd}
 use Rattle.std.specs.{List.All, Option.option_map, Ordering.is_eq, Ordering.is_le, Ordering.is_lt, declared.cmp.Ordering.Ordering}
 use Rattle.std.specs.declared.cmp.Ordering.TheVariants.{Equal, Less, Greater}
-use Rattle.triple_ord.specs.Chain.{first_pointer, last_pointer}
-use Rattle.sorted_arena.specs.Sorted.{Sorted, count, pair_of, first_where, key_of, IsSound, IsWithinRankedBound}
+use Rattle.listing.specs.Chain.{first_pointer, last_pointer}
+use Rattle.sorted_arena.specs.Sorted.{Sorted, count, get, first_where, key_of, IsSound, IsWithinRankedBound}
 
 -- Searches by key. The parameters: the order of keys, the greatest index of a pointer, the numbers of a pointer, the arena, and the key.
 module _ {K V P : Type 0} (cmp : K → K → Ordering) (most : ℕ) (numbers : P → ℕ × ℕ) (a : Sorted K V) (k : K) where
@@ -11,7 +11,7 @@ module _ {K V P : Type 0} (cmp : K → K → Ordering) (most : ℕ) (numbers : P
   -- doesn't.
   pub record FindsFirst (test : Ordering → Bool) (Passes Fails : Ordering → Type 0) (result : Option P) : Type 0 where
     pub value : option_map numbers result ≡ first_where (λ e. test (cmp k (key_of e))) a.entries
-    pub finds : IfSome result (λ p. IsSomeAnd (pair_of a (numbers p)) (λ e. Passes (cmp k e.0)))
+    pub finds : IfSome result (λ p. IsSomeAnd (get a (numbers p)) (λ e. Passes (cmp k e.0)))
     pub none : IfNone result (All (λ e. Fails (cmp k (key_of e))) a.entries)
     pub sound : IsSound cmp most a
 
@@ -36,20 +36,20 @@ module _ {K V P : Type 0} (cmp : K → K → Ordering) (most : ℕ) (numbers : P
   -- the first entry, whose key is at most each key
   pub record FindsLeast : Type 0 where
     pub value : option_map numbers result ≡ first_pointer a.entries
-    pub least : IfSome result (λ p. IsSomeAnd (pair_of a (numbers p)) (λ own. All (λ e. cmp own.0 (key_of e) ≢ Greater) a.entries))
+    pub least : IfSome result (λ p. IsSomeAnd (get a (numbers p)) (λ own. All (λ e. cmp own.0 (key_of e) ≢ Greater) a.entries))
     pub none : IfNone result (count a ≡ 0)
     pub sound : IsSound cmp most a
 
   -- the last entry, whose key is at least each key
   pub record FindsGreatest : Type 0 where
     pub value : option_map numbers result ≡ last_pointer a.entries
-    pub greatest : IfSome result (λ p. IsSomeAnd (pair_of a (numbers p)) (λ own. All (λ e. cmp (key_of e) own.0 ≢ Greater) a.entries))
+    pub greatest : IfSome result (λ p. IsSomeAnd (get a (numbers p)) (λ own. All (λ e. cmp (key_of e) own.0 ≢ Greater) a.entries))
     pub none : IfNone result (count a ≡ 0)
     pub sound : IsSound cmp most a
 
   -- The neighbour of a pointer's entry at a place, which has these numbers. The relation holds of the entry's key and the neighbour's.
   pub record FindsNeighbour (R : K → K → Type 0) (place : Option (ℕ × ℕ)) (p : ℕ × ℕ) : Type 0 where
     pub value : option_map numbers result ≡ place
-    pub named : IfSome result (λ q. IsSome (pair_of a (numbers q)))
-    pub in_order : IfSome result (λ q. IsSomeAnd (pair_of a p) (λ own. IsSomeAnd (pair_of a (numbers q)) (λ other. R own.0 other.0)))
+    pub named : IfSome result (λ q. IsSome (get a (numbers q)))
+    pub in_order : IfSome result (λ q. IsSomeAnd (get a p) (λ own. IsSomeAnd (get a (numbers q)) (λ other. R own.0 other.0)))
     pub sound : IsSound cmp most a

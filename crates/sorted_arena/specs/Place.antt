@@ -1,6 +1,6 @@
 -- Where an iterator over a sorted arena stands (layout).
 use Rattle.std.specs.Prelude.{ℕ, ◌+◌, ◌-◌, ◌≤◌, ◌<◌, ◌^◌, Bool, true, false, List, Option, Some, None, take, drop, length}
-use Rattle.triple_ord.specs.Chain.{Entry}
+use Rattle.listing.specs.Chain.{Entry}
 use Rattle.sorted_arena.specs.{Layout.AreNumbered, Stretch.stretch, Stretch.IsStretch}
 
 -- the position of the entry with this index in a list whose entries have the indexes from 1 on; the end of all, if there is none

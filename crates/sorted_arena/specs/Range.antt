@@ -1,17 +1,20 @@
 -- The entries whose keys are in a range, and what iterators over entries give.
-use Rattle.std.specs.Prelude.{◌≡◌, ℕ, ◌<◌, ◌^◌, List, filter, not, length}
+use Rattle.std.specs.Prelude.{◌≡◌, ℕ, ◌<◌, ◌^◌, Bool, List, filter, not, length}
 use Rattle.std.specs.{Borrow.Bor, declared.cmp.Ordering.Ordering, declared.ops.Bound.Bound, BTreeMap.Range.range_contains}
 use Rattle.std.specs.Iterator.{YieldsFirstBy, YieldsLastBy, Runs.EveryRun, Runs.ItemsMapTo, Runs.ItemsMapToReversed}
-use Rattle.triple_ord.specs.Chain.{Entry}
+use Rattle.listing.specs.Chain.{Entry}
 use Rattle.sorted_arena.specs.Sorted.{Sorted, key_of, IsSound}
 
 -- the entries whose keys are between two bounds, in order
 abbrev pub entries_between : {K V : Type 0} → (K → K → Ordering) → Bound K → Bound K → List (Entry (K × V)) → List (Entry (K × V))
 entries_between cmp from until es = filter (λ e. range_contains cmp from until (key_of e)) es
 
--- the entries whose keys are not in the range, in order
+-- whether the key of an entry is not in the range, and the entries for which it is so, in order
+abbrev pub is_outside : {K V : Type 0} → (K → K → Ordering) → Bound K → Bound K → Entry (K × V) → Bool
+is_outside cmp from until e = not (range_contains cmp from until (key_of e))
+
 abbrev pub entries_outside : {K V : Type 0} → (K → K → Ordering) → Bound K → Bound K → List (Entry (K × V)) → List (Entry (K × V))
-entries_outside cmp from until es = filter (λ e. not (range_contains cmp from until (key_of e))) es
+entries_outside cmp from until es = filter (is_outside cmp from until) es
 
 -- an entry as an iterator gives it: its pointer, and references to its key and its value
 abbrev pub shown_entry : {P K V : Type 0} → (P → ℕ × ℕ) → P × Bor K × Bor V → Entry (K × V)

@@ -1,7 +1,7 @@
 -- How an iterator over a sorted arena stands in its list (layout).
 use Rattle.std.specs.Prelude.{◌≡◌, ◌==◌, ℕ, Bool, true, if◌then◌else◌, List, [], ◌∷◌, ◌++◌, Option, Some, None}
 use Rattle.std.specs.{Option.option_map, declared.cmp.Ordering.Ordering, declared.ops.Bound.Bound, BTreeMap.Range.is_from_start}
-use Rattle.triple_ord.specs.{Chain.Entry, Chain.IsDistinct, Chain.from_index, Gap.first_of}
+use Rattle.listing.specs.{Chain.Entry, Chain.IsDistinct, Chain.from_index, Gap.first_of}
 
 module _ {T : Type 0} where
   -- the entries before the one with this index

@@ -1,7 +1,7 @@
 -- How entries are taken out of a sorted arena one after another (layout).
 use Rattle.std.specs.Prelude.{◌≡◌, ℕ, Bool, if◌then◌else◌, List, ◌∷◌, ◌++◌, Option, Some}
 use Rattle.std.specs.Option.{option_map}
-use Rattle.triple_ord.specs.{Chain.Entry, Gap.first_of}
+use Rattle.listing.specs.{Chain.Entry, Gap.first_of}
 use Rattle.sorted_arena.specs.Sorted.{Sorted, pointer_of, with_left}
 
 module _ {K V : Type 0} where

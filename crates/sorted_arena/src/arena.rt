@@ -1,12 +1,12 @@
 //! `SortedArena`: entries in the order of their keys.
 
-ghost use Rattle.std.specs.Prelude.{◌≡◌, ◌==◌, ◌↔◌, ◌+◌, ◌≤◌, ◌<◌, ℕ, true, [], map, slice_get, Err, OnOk, OnErr};
-ghost use Rattle.triple_ord.specs.PlainArena.{capacity_for};
-ghost use Rattle.triple_ord.specs.Generation.{first_generation, next_generation};
-ghost use Rattle.triple_ord.specs.Chain.{greatest_index};
+ghost use Rattle.std.specs.Prelude.{◌≡◌, ◌≢◌, ◌==◌, ◌↔◌, ◌+◌, ◌≤◌, ◌<◌, ℕ, true, [], map, slice_get, None, Err, OnOk, OnErr};
+ghost use Rattle.listing.specs.PlainArena.{capacity_for};
+ghost use Rattle.listing.specs.Generation.{first_generation, next_generation, IsLawfulGeneration};
+ghost use Rattle.listing.specs.Chain.{greatest_index};
 ghost use Rattle.sorted_arena.specs.Change.{ChangesCapacity};
 ghost use Rattle.sorted_arena.specs.Layout.{AreNumbered, LendsPairs};
-ghost use Rattle.sorted_arena.specs.Sorted.{IsSound, count, pair_of, item_of, with_left};
+ghost use Rattle.sorted_arena.specs.Sorted.{IsSound, count, get, pair_of, with_left, with_numbers};
 
 mod access;
 mod append;
@@ -132,6 +132,14 @@ impl<K: Ord, V, P: BasePtr, A: Allocator> SortedArena<K, V, P, A> {
         self.pairs.reserve(additional)
     }
 
+    /// Sets the generation of the next entry, which must be lawful. Entries keep theirs.
+    pub fn set_generation(&mut self, generation: P::Gen)
+        requires { IsLawfulGeneration P.Gen.greatest (P.Gen.number generation) }
+        ensures { self.new ≡ record self.old { generation = P.Gen.number generation } }
+    {
+        self.pairs.set_generation(generation);
+    }
+
     /// Gives back the memory that no entry needs: the capacity becomes the greatest index of an entry. O(capacity).
     pub fn shrink(&mut self)
         ensures kept { ChangesCapacity self.old self.new }
@@ -145,9 +153,11 @@ impl<K: Ord, V, P: BasePtr, A: Allocator> SortedArena<K, V, P, A> {
     /// Before a [`shrink`](Self::shrink), this leaves just as much capacity as there are entries. Iterators read no links afterwards, until
     /// an entry is inserted before another, one that isn't the last is removed, or one gets another key.
     pub fn compact(&mut self)
-        ensures items { map item_of self.new.entries ≡ map item_of self.old.entries }
-        ensures found { (i : ℕ) → pair_of self.new (i + 1, self.new.generation)
-            ≡ slice_get (map item_of self.old.entries) i }
+        ensures after { self.new ≡ with_numbers P.Gen.greatest self.old }
+        ensures items { map pair_of self.new.entries ≡ map pair_of self.old.entries }
+        ensures ended { (p : ℕ × ℕ) → p.1 ≢ self.new.generation → get self.new p ≡ None }
+        ensures found { (i : ℕ) → get self.new (i + 1, self.new.generation)
+            ≡ slice_get (map pair_of self.old.entries) i }
         ensures generation { self.new.generation
             ≡ next_generation P.Gen.greatest self.old.generation }
         ensures capacity { self.new.capacity ≡ self.old.capacity }

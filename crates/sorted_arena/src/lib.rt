@@ -12,6 +12,7 @@ mod range;
 
 pub use arena::SortedArena;
 pub use error::{RekeyUniqueError, SortedError, UniqueInsertionError};
+pub use listing::laws;
 pub use parts::{Items, Keys, Values, ValuesDescending};
 pub use range::Range;
 pub use triple_ord::{

@@ -1,14 +1,11 @@
-//! The ordered arena of a sorted one. A new entry goes behind all whose key is at most its own.
+//! The ordered arena of a sorted one.
 
-ghost use Rattle.std.specs.Prelude.{◌≡◌, ◌↔◌, ◌++◌, ℕ, true, List, Some, None, Err, IfOk, IfErr, OnErr, length};
+ghost use Rattle.std.specs.Prelude.{◌≡◌, ◌++◌, ℕ, true, List, Some, None, length};
 ghost use Rattle.std.specs.Option.{option_map};
 ghost use Rattle.std.specs.Ordering.{is_le, is_lt};
-ghost use Rattle.triple_ord.specs.Chain.{Entry, last_pointer, chain_limit, IsDistinct, IsSound as IsSoundChain};
-ghost use Rattle.triple_ord.specs.Gap.{last_of};
-ghost use Rattle.triple_ord.specs.Insertion.{InsertsNew};
-ghost use Rattle.triple_ord.specs.declared.growth.Growth.TheVariants.{Reallocating};
-ghost use Rattle.triple_ord.specs.{PastEquals.order_past_equals, Search.FindsSimilar};
-ghost use Rattle.triple_ord.specs.Place.{aim_of, behind_key, kind_now};
+ghost use Rattle.listing.specs.Chain.{Entry, last_pointer, IsDistinct};
+ghost use Rattle.listing.specs.Gap.{last_of};
+ghost use Rattle.listing.specs.{PastEquals.order_past_equals, Search.FindsSimilar};
 ghost use Rattle.sorted_arena.specs.Find.{IsCountedSearch};
 ghost use Rattle.sorted_arena.specs.Layout.{item_key, pointer_among, sorted_of};
 ghost use Rattle.sorted_arena.specs.Stretch.{first_index};
@@ -16,64 +13,10 @@ ghost use Rattle.sorted_arena.specs.Sorted.{key_of, first_where, next_of, prev_o
 
 use std::alloc::Allocator;
 use std::cmp::Ordering;
-use triple_ord::{
-    BasePtr, OrdInsertKind, OrdInsertionError, OrdPair, ReallocationError, SimpleOrdArena, Visits,
-};
+use triple_ord::{BasePtr, OrdPair, SimpleOrdArena, Visits};
 
 /// Pairs by their keys.
 pub(crate) type Pairs<K, V, P, A> = SimpleOrdArena<P, OrdPair<K, V>, A>;
-
-// Behind all keys that are at most this one. The search compares the last key first, and ends there if the new key is not smaller.
-#[inline(always)]
-fn kind_behind<'k, K: Ord, V, P: BasePtr, A: Allocator>(
-    pairs: &Pairs<K, V, P, A>,
-    k: &'k K,
-) -> OrdInsertKind<P, &'k K>
-    ensures aim { aim_of P.Inx.number (kind_now result) ≡ behind_key k.now }
-    ensures sound { IsSoundChain P.Inx.most P.Gen.greatest pairs.now.list }
-{
-    match pairs.last() {
-        Some(last) => OrdInsertKind::NonhereditaryLinear {
-            p_init: last.inx(),
-            num: 1,
-            k,
-        },
-        None => OrdInsertKind::Nonhereditary(k),
-    }
-}
-
-/// Inserts a pair. The arena grows if it has no vacant slot. On `Err` the pair comes back.
-pub(crate) fn put<K: Ord + Drop, V: Drop, P: BasePtr, A: Allocator>(
-    pairs: &mut Pairs<K, V, P, A>,
-    k: K,
-    v: V,
-) -> Result<P, ((K, V), ReallocationError)>
-    ensures ok { IfOk result (λ p. InsertsNew item_key K.cmp P.Inx.most Reallocating
-        (behind_key k) pairs.old (k, v) (P.numbers p) pairs.new) }
-    ensures back { IfErr result (λ e. e.0 ≡ (k, v)) }
-    ensures full { (result ≡ Err ((k, v), ReallocationError.BeyondMaxCapacity))
-        ↔ (length pairs.old.list.entries ≡ chain_limit P.Inx.most pairs.old.list) }
-    ensures memory { result ≡ Err ((k, v), ReallocationError.AllocError)
-        → length pairs.old.list.entries ≡ pairs.old.list.capacity }
-    ensures err { OnErr result (pairs.new ≡ pairs.old) }
-    ensures sound { IsSoundChain P.Inx.most P.Gen.greatest pairs.old.list }
-    ensures still_sound { IsSoundChain P.Inx.most P.Gen.greatest pairs.new.list }
-{
-    let kind = kind_behind(pairs, &k);
-    match pairs.entry_insert(kind) {
-        Ok(entry) => {
-            let p = entry.ptr().any();
-            let _ = entry.insert(OrdPair::new(k, v));
-            Ok(p)
-        }
-        Err(OrdInsertionError::BeyondMaxCapacity) => {
-            Err(((k, v), ReallocationError::BeyondMaxCapacity))
-        }
-        Err(OrdInsertionError::AllocError) => Err(((k, v), ReallocationError::AllocError)),
-        // a key has a place, and the arena may grow
-        Err(_) => unreachable!(),
-    }
-}
 
 /// Whether the entry at `p` is the last one.
 pub(crate) fn is_last_in<K: Ord, V, P: BasePtr, A: Allocator>(

@@ -2,7 +2,7 @@
 ghost use Rattle.std.specs.Prelude.{◌≡◌, map, reverse, length};
 ghost use Rattle.std.specs.Iterator.{YieldsFirstBy, YieldsLastBy, item_count};
 ghost use Rattle.sorted_arena.specs.Range.{shown_item, target_of, GivesInOrder, IsChainable, IsChainableAs};
-ghost use Rattle.sorted_arena.specs.Sorted.{key_of, value_of, item_of};
+ghost use Rattle.sorted_arena.specs.Sorted.{key_of, value_of, pair_of};
 
 use crate::arena::SortedArena;
 use crate::range::Range;
@@ -54,11 +54,11 @@ impl<'a, K: Ord, V, P: BasePtr, A: Allocator> Model for Values<'a, K, V, P, A> {
 
 impl<'a, K: Ord, V, P: BasePtr, A: Allocator> Model for Items<'a, K, V, P, A> {
     ghost use Rattle.std.specs.Prelude.{List, map};
-    ghost use Rattle.sorted_arena.specs.Sorted.{item_of};
+    ghost use Rattle.sorted_arena.specs.Sorted.{pair_of};
 
     ghost Value = { List (K × V) };
 
-    ghost view = { λ i. map item_of i.range };
+    ghost view = { λ i. map pair_of i.range };
 }
 
 impl<'a, K: Ord, V, P: BasePtr, A: Allocator> Model for ValuesDescending<'a, K, V, P, A> {
@@ -89,7 +89,7 @@ impl<'a, K: Ord, V, P: BasePtr, A: Allocator> Range<'a, K, V, P, A> {
 
     /// Returns an iterator over the keys and the values of these entries.
     pub fn items(self) -> Items<'a, K, V, P, A>
-        ensures items { result ≡ map item_of self.entry }
+        ensures items { result ≡ map pair_of self.entry }
         ensures chains { IsChainableAs (shown_item {K = K} {V = V}) self.entry result }
     {
         Items { range: self }

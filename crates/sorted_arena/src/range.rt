@@ -1,11 +1,12 @@
 //! `Range`: entries in order, from both ends.
-ghost use Rattle.std.specs.Prelude.{◌≡◌, ◌<◌, ◌≤◌, ◌^◌, true, false, Some, length, slice_get};
+ghost use Rattle.std.specs.Prelude.{◌≡◌, ◌<◌, ◌≤◌, ◌^◌, true, false, Some, None, IsSome, IfSome, IfNone, length, slice_get};
+ghost use Rattle.listing.specs.Chain.{from_index};
 ghost use Rattle.std.specs.Iterator.{YieldsFirstBy, YieldsLastBy, item_count};
 ghost use Rattle.std.specs.{Option.option_map, Option.option_and_then, Range.Bound.bound_map};
 ghost use Rattle.std.specs.BTreeMap.Range.{is_from_start, is_past_end};
 ghost use Rattle.std.specs.declared.ops.Bound.TheVariants.{Included, Unbounded};
 ghost use Rattle.sorted_arena.specs.Range.{entries_between, shown_entry, IteratesOver};
-ghost use Rattle.sorted_arena.specs.Sorted.{pair_of, first_where, key_of, IsSound};
+ghost use Rattle.sorted_arena.specs.Sorted.{get, first_where, key_of, IsSound};
 ghost use Rattle.sorted_arena.specs.Stretch.{stretch, is_forward, IsStretch};
 ghost use Rattle.sorted_arena.specs.{Layout.AreNumbered, Place.position_of};
 
@@ -34,7 +35,7 @@ pub struct Range<'a, K: Ord, V, P: BasePtr = P0, A: Allocator = Global> {
 impl<'a, K: Ord, V, P: BasePtr, A: Allocator> Model for Range<'a, K, V, P, A> {
     ghost use Rattle.std.specs.Prelude.{List};
     ghost use Rattle.std.specs.Option.{option_map};
-    ghost use Rattle.triple_ord.specs.Chain.{Entry};
+    ghost use Rattle.listing.specs.Chain.{Entry};
 
     ghost Value = { List (Entry (K × V)) };
 
@@ -185,6 +186,18 @@ impl<K: Ord, V, P: BasePtr, A: Allocator> SortedArena<K, V, P, A> {
         self.between(range.start_bound(), range.end_bound())
     }
 
+    /// Returns an iterator over the entries from the one at `p` on, in order, from both ends; `None` if `p` is stale. O(1), and O(1) a step.
+    pub fn iter_from(&self, p: P) -> Option<Range<'_, K, V, P, A>>
+        ensures stale { IfNone result (get self.now (P.numbers p) ≡ None) }
+        ensures entries { IfSome result (λ range. IteratesOver K.cmp P.Inx.most P.numbers self.now range
+            (IsSome (get self.now (P.numbers p)) × (range ≡ from_index self.now.entries (P.numbers p).0))) }
+    {
+        if !self.contains(p) {
+            return None;
+        }
+        Some(self.from_until(Some(p), None))
+    }
+
     /// The entries between two bounds.
     pub(crate) fn between(&self, from: Bound<&K>, until: Bound<&K>) -> Range<'_, K, V, P, A>
         ensures { IteratesOver K.cmp P.Inx.most P.numbers self.now result
@@ -255,12 +268,12 @@ impl<K: Ord, V, P: BasePtr, A: Allocator> SortedArena<K, V, P, A> {
     // The pointer of the first entry that is not before the start of a range, or `end` if that one is before the start.
     fn first_before(&self, from: Bound<&K>, end: Option<P>) -> Option<P>
         ensures forward { is_forward K.cmp (bound_map (λ k. k.now) from.entry)
-            (option_and_then (pair_of self.now) (option_map P.numbers end)) ≡ true
+            (option_and_then (get self.now) (option_map P.numbers end)) ≡ true
             → option_map P.numbers result
             ≡ first_where (λ e. is_from_start K.cmp (bound_map (λ k. k.now) from.entry) (key_of e))
             self.now.entries }
         ensures backward { is_forward K.cmp (bound_map (λ k. k.now) from.entry)
-            (option_and_then (pair_of self.now) (option_map P.numbers end)) ≡ false
+            (option_and_then (get self.now) (option_map P.numbers end)) ≡ false
             → result ≡ end }
     {
         if self.is_forward(from, end) {
@@ -273,7 +286,7 @@ impl<K: Ord, V, P: BasePtr, A: Allocator> SortedArena<K, V, P, A> {
     // Whether the entry at `end`, if any, is not before the start of a range.
     fn is_forward(&self, from: Bound<&K>, end: Option<P>) -> bool
         ensures { result ≡ is_forward K.cmp (bound_map (λ k. k.now) from.entry)
-            (option_and_then (pair_of self.now) (option_map P.numbers end)) }
+            (option_and_then (get self.now) (option_map P.numbers end)) }
     {
         let Some(p) = end else {
             return true;

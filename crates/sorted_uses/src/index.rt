@@ -7,7 +7,7 @@ ghost use Rattle.sorted_arena.specs.Range.{entries_between, entries_outside};
 ghost use Rattle.std.specs.List.{All};
 ghost use Rattle.std.specs.Prelude.{string_cmp};
 ghost use Rattle.std.specs.declared.cmp.Ordering.TheVariants.{Equal, Greater};
-ghost use Rattle.sorted_arena.specs.Sorted.{pair_of, count, key_of, value_of, item_of, Updates};
+ghost use Rattle.sorted_arena.specs.Sorted.{get, count, key_of, value_of, pair_of, Updates};
 
 use sorted_arena::{P0, ReallocationError, SortedArena};
 use std::alloc::{AllocError, Global};
@@ -28,7 +28,7 @@ pub fn add(index: &mut Index, name: String, id: u64) -> Result<P0, (String, Real
 
 /// The id of the first record of a name.
 pub fn first_of(index: &Index, name: &String) -> Option<P0>
-    ensures finds { IfSome result (λ p. IsSomeAnd (pair_of index.now p)
+    ensures finds { IfSome result (λ p. IsSomeAnd (get index.now p)
         (λ x. string_cmp name.now x.0 ≡ Equal)) }
     ensures none { IfNone result
         (All (λ e. string_cmp name.now (key_of e) ≢ Equal) index.now.entries) }
@@ -48,7 +48,7 @@ pub fn id_of(index: &Index, name: &String) -> Option<u64>
 
 /// The first record whose name is this one or comes behind it.
 pub fn from_name(index: &Index, name: &String) -> Option<P0>
-    ensures finds { IfSome result (λ p. IsSomeAnd (pair_of index.now p)
+    ensures finds { IfSome result (λ p. IsSomeAnd (get index.now p)
         (λ x. string_cmp name.now x.0 ≢ Greater)) }
     ensures none { IfNone result
         (All (λ e. string_cmp name.now (key_of e) ≡ Greater) index.now.entries) }
@@ -93,7 +93,7 @@ pub fn take_between(
     until: &String,
     taken: &mut Vec<(String, u64)>,
 ) -> Result<(), AllocError>
-    ensures taken { OnOk result (taken.new.items ≡ taken.old.items ++ map item_of
+    ensures taken { OnOk result (taken.new.items ≡ taken.old.items ++ map pair_of
         (entries_between string_cmp (Included from.now) (Excluded until.now) index.old.entries)) }
     ensures refused { OnErr result (index.new ≡ index.old) }
 {
@@ -102,8 +102,8 @@ pub fn take_between(
 
 /// Moves the records from one name on into an index of their own. If memory is refused, nothing changes.
 pub fn split_at(alloc: Global, index: &mut Index, from: &String) -> Result<Index, AllocError>
-    ensures moved { IfOk result (λ moved. map item_of moved.entries
-        ≡ map item_of (entries_between string_cmp (Included from.now) Unbounded index.old.entries)) }
+    ensures moved { IfOk result (λ moved. map pair_of moved.entries
+        ≡ map pair_of (entries_between string_cmp (Included from.now) Unbounded index.old.entries)) }
     ensures left { OnOk result (index.new.entries
         ≡ entries_between string_cmp Unbounded (Excluded from.now) index.old.entries) }
     ensures refused { OnErr result (index.new ≡ index.old) }

@@ -6,7 +6,7 @@ ghost use Rattle.std.specs.{Ordering.nat_cmp, Cmp.Lexicographic.pointwise};
 ghost use Rattle.std.specs.declared.ops.Bound.TheVariants.{Included, Excluded, Unbounded};
 ghost use Rattle.std.specs.declared.cmp.Ordering.TheVariants.{Greater};
 ghost use Rattle.sorted_arena.specs.{Range.entries_between, Merge.merged};
-ghost use Rattle.sorted_arena.specs.Sorted.{pair_of, count, key_of, value_of, item_of, Keeps, Updates};
+ghost use Rattle.sorted_arena.specs.Sorted.{get, count, key_of, value_of, pair_of, Keeps, Updates};
 
 use sorted_arena::{P0, ReallocationError, SortedArena};
 use std::alloc::{AllocError, Global};
@@ -29,9 +29,9 @@ pub fn enter(board: &mut Leaderboard, score: u64, player: u64) -> Result<P0, Rea
 
 /// Gives a player another score. The place stays valid. Returns the old score.
 pub fn set_score(board: &mut Leaderboard, place: P0, score: u64) -> Option<u64>
-    ensures before { result ≡ option_map (λ e. e.0) (pair_of board.old place) }
+    ensures before { result ≡ option_map (λ e. e.0) (get board.old place) }
     ensures updates { Updates board.old board.new place
-        (option_map (λ e. (score, e.1)) (pair_of board.old place)) }
+        (option_map (λ e. (score, e.1)) (get board.old place)) }
     ensures count { count board.new ≡ count board.old }
 {
     board.rekey(place, score).ok()
@@ -40,7 +40,7 @@ pub fn set_score(board: &mut Leaderboard, place: P0, score: u64) -> Option<u64>
 /// Returns how many players have a greater score, in O(log n + their number).
 pub fn ahead(board: &Leaderboard, place: P0) -> Option<usize>
     ensures { result ≡ option_map (λ e. length (entries_between nat_cmp (Excluded e.0) Unbounded
-        board.now.entries)) (pair_of board.now place) }
+        board.now.entries)) (get board.now place) }
 {
     let score = board.key(place)?;
     Some(
@@ -75,8 +75,8 @@ pub fn total(board: &Leaderboard, from: u64, until: u64) -> u64
 
 /// Takes in the players of another board, which has none then. All places on this board stay valid. If there is no room, nothing changes.
 pub fn merge(board: &mut Leaderboard, other: &mut Leaderboard) -> Result<(), ReallocationError>
-    ensures players { OnOk result (map item_of board.new.entries
-        ≡ merged nat_cmp (map item_of board.old.entries) (map item_of other.old.entries)) }
+    ensures players { OnOk result (map pair_of board.new.entries
+        ≡ merged nat_cmp (map pair_of board.old.entries) (map pair_of other.old.entries)) }
     ensures places { Keeps board.old board.new }
     ensures count { OnOk result (count board.new ≡ count board.old + count other.old) }
     ensures emptied { OnOk result (other.new.entries ≡ []) }
@@ -95,14 +95,14 @@ pub fn copy_of(board: &Leaderboard) -> Result<Leaderboard, AllocError>
 /// Returns whether two boards have the same players with the same scores, in the same order.
 pub fn are_same(one: &Leaderboard, other: &Leaderboard) -> bool
     ensures { result ≡ pointwise (λ p q. (p.0 == q.0) && (p.1 == q.1))
-        (map item_of one.now.entries) (map item_of other.now.entries) }
+        (map pair_of one.now.entries) (map pair_of other.now.entries) }
 {
     one == other
 }
 
 /// Returns the score of the player directly ahead, which is at least as great. `None` if there is no such player.
 pub fn score_ahead(board: &Leaderboard, place: P0) -> Option<u64>
-    ensures { IfSome result (λ score. IsSomeAnd (pair_of board.now place)
+    ensures { IfSome result (λ score. IsSomeAnd (get board.now place)
         (λ e. nat_cmp e.0 score ≢ Greater)) }
 {
     let ahead = board.next(place)?;

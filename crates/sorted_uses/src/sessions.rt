@@ -5,7 +5,7 @@ ghost use Rattle.std.specs.List.{All};
 ghost use Rattle.std.specs.Option.{option_map};
 ghost use Rattle.std.specs.Ordering.{nat_cmp};
 ghost use Rattle.std.specs.declared.cmp.Ordering.TheVariants.{Greater};
-ghost use Rattle.sorted_arena.specs.Sorted.{pair_of, count, key_of, value_of, item_of, entries_until, Updates};
+ghost use Rattle.sorted_arena.specs.Sorted.{get, count, key_of, value_of, pair_of, entries_until, Updates};
 
 use sorted_arena::{P0, ReallocationError, SortedArena};
 use std::alloc::AllocError;
@@ -27,7 +27,7 @@ pub fn open(sessions: &mut Sessions, deadline: u64, user: u64) -> Result<P0, Rea
 
 /// The user of the session that the token names.
 pub fn user_of(sessions: &Sessions, token: P0) -> Option<u64>
-    ensures { result ≡ option_map (λ session. session.1) (pair_of sessions.now token) }
+    ensures { result ≡ option_map (λ session. session.1) (get sessions.now token) }
 {
     let (_, user) = sessions.get(token)?;
     Some(*user)
@@ -35,7 +35,7 @@ pub fn user_of(sessions: &Sessions, token: P0) -> Option<u64>
 
 /// Ends the session that the token names, and tells whether there was one.
 pub fn close(sessions: &mut Sessions, token: P0) -> bool
-    ensures closed { result ≡ is_some (pair_of sessions.old token) }
+    ensures closed { result ≡ is_some (get sessions.old token) }
     ensures updates { Updates sessions.old sessions.new token None }
 {
     sessions.remove(token).is_some()
@@ -44,10 +44,10 @@ pub fn close(sessions: &mut Sessions, token: P0) -> bool
 #[tactic(auto, using(sorted_arena::proofs::CallerLemmas::written))]
 /// Gives the session of a token to another user.
 pub fn hand_over(sessions: &mut Sessions, token: P0, user: u64) -> bool
-    ensures named { result ≡ is_some (pair_of sessions.old token) }
-    ensures handed { pair_of sessions.new token
-        ≡ option_map (λ s. (s.0, user)) (pair_of sessions.old token) }
-    ensures others { (q : ℕ × ℕ) → q ≢ token → pair_of sessions.new q ≡ pair_of sessions.old q }
+    ensures named { result ≡ is_some (get sessions.old token) }
+    ensures handed { get sessions.new token
+        ≡ option_map (λ s. (s.0, user)) (get sessions.old token) }
+    ensures others { (q : ℕ × ℕ) → q ≢ token → get sessions.new q ≡ get sessions.old q }
     ensures count { count sessions.new ≡ count sessions.old }
 {
     match sessions.value_mut(token) {
@@ -71,9 +71,9 @@ pub fn expire_one(sessions: &mut Sessions, now: u64) -> Option<u64>
 
 /// Lets a session go on until another deadline. Its token stays valid. Returns whether the token names a session.
 pub fn touch(sessions: &mut Sessions, token: P0, deadline: u64) -> bool
-    ensures named { result ≡ is_some (pair_of sessions.old token) }
+    ensures named { result ≡ is_some (get sessions.old token) }
     ensures touched { Updates sessions.old sessions.new token
-        (option_map (λ s. (deadline, s.1)) (pair_of sessions.old token)) }
+        (option_map (λ s. (deadline, s.1)) (get sessions.old token)) }
     ensures count { count sessions.new ≡ count sessions.old }
 {
     sessions.rekey(token, deadline).is_ok()
@@ -87,7 +87,7 @@ pub fn expire_all(
     ended: &mut Vec<(u64, u64)>,
 ) -> Result<(), AllocError>
     ensures ended { OnOk result (ended.new.items
-        ≡ ended.old.items ++ map item_of (entries_until nat_cmp now sessions.old.entries)) }
+        ≡ ended.old.items ++ map pair_of (entries_until nat_cmp now sessions.old.entries)) }
     ensures left { OnOk result
         (All (λ s. nat_cmp (key_of s) now ≡ Greater) sessions.new.entries) }
     ensures refused { OnErr result (sessions.new ≡ sessions.old) }

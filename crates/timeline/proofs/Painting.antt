@@ -1,18 +1,14 @@
 -- What the steps of a setting leave.
-use Rattle.std.proofs.Common.{◌≡◌, ◌≢◌, ℕ, ◌<◌, ◌≤◌, List, [], ◌∷◌, ◌++◌, map, Option, Some, None, Result, Ok, Err, IfOk, OnOk, IfErr, OnErr, OnSome, IfSome, IsSomeAnd, refl, sym, ap, subst, ◌∙◌, arith, inl, inr, append_assoc}
-use Rattle.std.proofs.{lemmas.Bool.Decides.nat_tests, lemmas.List.map-append, lemmas.List.Elements.recursion_from_All}
+use Rattle.std.proofs.Common.{◌≡◌, ◌≢◌, ℕ, ◌<◌, ◌≤◌, List, [], ◌∷◌, ◌++◌, map, Option, Some, None, Result, Ok, Err, IfOk, OnOk, IfErr, OnErr, IfSome, IsSomeAnd, refl, sym, ap, subst, ◌∙◌, arith, inl, inr, append_assoc}
+use Rattle.std.proofs.{lemmas.Bool.Decides.nat_tests, lemmas.List.map-append}
 use Rattle.std.specs.{List.AllByRecursion, Ordering.nat_cmp, declared.cmp.Ordering.TheVariants.Less}
-use Rattle.sorted_arena.specs.{Gap.last_of, Sorted.Sorted, Sorted.key_of, Sorted.Inserts}
+use Rattle.sorted_arena.specs.{Gap.last_of, Sorted.Sorted, Sorted.key_of}
+use Rattle.sorted_arena.proofs.CallerLemmas.{IsPutBetween}
 use Rattle.timeline.specs.Timeline.{Change, most_entries, value_at, IsRising, AreChanges}
 use Rattle.timeline.specs.Layout.{change, changes_of, earlier, later, later_than, last_value, last_taken, held_or, or_else, end_value_of, IsChanged, IsAt, IsReached, IsBeyond, TakesSame, TakesOver, IsRefusable, IsJoinedTo, IsOpen, IsFinished, IsPainted, EndsAt, Sets, CannotEnd}
 use Rattle.timeline.proofs.Cutting.{AreBefore, AreUntil, AreAfter, all-append, all-front, all-weaker, earlier-before, later-after, cut-before, cut-after, cut-earlier, cut-later, rising-front, rising-back, rising-append, before-end, last-append}
 use Rattle.timeline.proofs.{Values.value-cut, Places.Item}
 use Rattle.timeline.proofs.Setting.{IsCutOut, rising-mid, unmet-mid, early-mid, last-mid, value-unmet, changed-same, set-is, set-timeline, set-from, from-timeline}
-
--- what is said where there is something, where there is
-pub owed : {X Q : Type 0} {x : X} (o : Option X) → o ≡ Some x → OnSome o Q → Q
-owed None is fact = absurd (cc)
-owed (Some y) is fact = fact
 
 module _ {V E : Type 0} where
   pub cloned : (r : Result (Option V) E) (from held : Option V) → from ≡ held → IfOk r (λ clone. clone ≡ from) → IfOk r (λ clone. clone ≡ held)
@@ -61,7 +57,7 @@ module _ {V : Type 0} where
       ]
 
   -- a change that an insertion puts between
-  module _ (old new : Sorted ℕ (Option V)) (p : ℕ × ℕ) (t : ℕ) (value : Option V) (inserts : Inserts nat_cmp most_entries old p t value new) where
+  module _ (old new : Sorted ℕ (Option V)) (p : ℕ × ℕ) (t : ℕ) (value : Option V) (inserts : IsPutBetween nat_cmp most_entries old p (t, value) new) where
     not-later : (es : List (Item V)) → AllByRecursion (λ (e : Item V). nat_cmp t (key_of e) ≢ Less) es → AreUntil t (map change es)
     not-later [] all = tt
     not-later (e ∷ es) all = (grind (arith, nat_tests, all.0), not-later es all.1)
@@ -71,10 +67,10 @@ module _ {V : Type 0} where
     all-later (e ∷ es) all = (grind (arith, nat_tests, all.0), all-later es all.1)
 
     pub until-front : AreUntil t (map change inserts.front)
-    until-front = not-later inserts.front (recursion_from_All (λ (e : Item V). nat_cmp t (key_of e) ≢ Less) inserts.front inserts.at_most_before)
+    until-front = not-later inserts.front inserts.at_most_before
 
     pub after-back : AreAfter t (map change inserts.back)
-    after-back = all-later inserts.back (recursion_from_All (λ (e : Item V). nat_cmp t (key_of e) ≡ Less) inserts.back inserts.greater_behind)
+    after-back = all-later inserts.back inserts.greater_behind
 
     pub parts-inserted : changes_of old ≡ map change inserts.front ++ map change inserts.back
     parts-inserted = ap (map change) inserts.before ∙ map-append change inserts.front inserts.back
@@ -132,7 +128,7 @@ module _ {V : Type 0} where
     pub finished-same : (value : Option V) → stands.at.entry.item.1 ≡ value → IsFinished stands value (changes_of mid)
     finished-same value same = record { mid = changes_of mid; begun = begun; ended = changed-same until (changes_of mid) value (rising-mid cut begun) (unmet-mid cut begun) (held-mid ∙ same) }
 
-    pub finished-other : (value : Option V) (q : ℕ × ℕ) (new : Sorted ℕ (Option V)) → stands.at.entry.item.1 ≢ value → Inserts nat_cmp most_entries mid q until value new → IsFinished stands value (changes_of new)
+    pub finished-other : (value : Option V) (q : ℕ × ℕ) (new : Sorted ℕ (Option V)) → stands.at.entry.item.1 ≢ value → IsPutBetween nat_cmp most_entries mid q (until, value) new → IsFinished stands value (changes_of new)
     finished-other value q new other inserts = record {
       mid = changes_of mid;
       begun = begun;
@@ -186,7 +182,7 @@ pub record IsCleared {V : Type 0} (old : List (Change V)) (from : ℕ) (until : 
   pub nothing : taken ≡ None → old ≡ map change at.front ++ map change at.back
   pub held : (u : ℕ) → until ≡ Some u → held_or (last_value None (map change at.front)) taken ≡ value_at old u
 
-module _ {V : Type 0} (old mid : Sorted ℕ (Option V)) (p : ℕ × ℕ) (from : ℕ) (until : Option ℕ) (value : Option V) (inserts : Inserts nat_cmp most_entries old p from value mid)
+module _ {V : Type 0} (old mid : Sorted ℕ (Option V)) (p : ℕ × ℕ) (from : ℕ) (until : Option ℕ) (value : Option V) (inserts : IsPutBetween nat_cmp most_entries old p (from, value) mid)
     (rising : IsRising (changes_of old)) (ordered : IfSome until (λ u. from < u)) where
   abbrev put : Item V
   put = record { index = p.0; generation = p.1; item = (from, value) }

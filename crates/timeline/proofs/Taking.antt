@@ -3,12 +3,20 @@ use Rattle.std.proofs.Common.{◌≡◌, ◌≢◌, ℕ, List, [], ◌∷◌, �
 use Rattle.std.proofs.{lemmas.Bool.Decides.leb_tells, lemmas.Bool.Decides.nat_tests, lemmas.List.map-append, lemmas.List.Elements.recursion_from_All}
 use Rattle.std.specs.{List.AllByRecursion, Option.option_map, Ordering.nat_cmp, declared.cmp.Ordering.TheVariants.Greater}
 use Rattle.sorted_arena.specs.{Chain.IsDistinct, Chain.item_of, Chain.without, Gap.first_of, Gap.last_of}
-use Rattle.sorted_arena.specs.Sorted.{key_of, next_of, prev_of, AreSorted}
-use Rattle.sorted_arena.proofs.CallerLemmas.{sorted-back}
-use Rattle.timeline.specs.Timeline.{Change}
-use Rattle.timeline.specs.Layout.{change, last_taken, or_else, IsAt, IsReached, IsBeyond, TakesNext, TakesBehind, TakesSame, TakesOver}
+use Rattle.sorted_arena.specs.Sorted.{Sorted, key_of, next_of, prev_of, without_entry, AreSorted, IsSound}
+use Rattle.sorted_arena.specs.PlainPointer.{greatest_generation}
+use Rattle.sorted_arena.proofs.CallerLemmas.{sorted-back, capacity-without_entry, removed-sound}
+use Rattle.timeline.specs.Timeline.{Change, most_entries}
+use Rattle.timeline.specs.Layout.{change, last_taken, or_else, IsAt, IsReached, IsBeyond, TakesNext, TakesBehind, TakesSame, TakesOver, KeepsCapacity}
 use Rattle.timeline.proofs.Places.{Item, NextAt, next-at, PrevAt, before-at, next-there, prev-there}
 use Rattle.timeline.proofs.Cutting.{all-append}
+
+-- if a change leaves, the arena keeps its capacity and stays sound
+pub keeps-removed : {V : Type 0} (old new : Sorted ℕ (Option V)) (p : ℕ × ℕ) → new ≡ without_entry greatest_generation old p → IsSound nat_cmp most_entries old → KeepsCapacity old new
+keeps-removed {V} old new p after sound = record {
+  capacity = ap (λ (a : Sorted ℕ (Option V)). a.capacity) after ∙ capacity-without_entry greatest_generation old p;
+  sound = rw after (removed-sound nat_cmp most_entries greatest_generation old p sound);
+}
 
 module _ {V : Type 0} (es : List (Item V)) (distinct : IsDistinct es) (p : ℕ × ℕ) (at : IsAt es p) where
   -- nothing is behind, or what is behind is beyond the end

@@ -2,7 +2,7 @@
 use Rattle.std.proofs.Common.{◌≡◌, ◌≢◌, ℕ, ◌<◌, ◌≤◌, List, [], ◌∷◌, ◌++◌, map, Option, Some, None, IsSome, refl, sym, ap, subst, ◌∙◌, arith, inl, inr, append_assoc}
 use Rattle.std.proofs.{lemmas.Bool.le-leb, lemmas.Bool.lt-leb, lemmas.Bool.Decides.leb_tells}
 use Rattle.std.specs.Option.{option_map, option_and_then}
-use Rattle.sorted_arena.specs.{Chain.IsDistinct, Chain.item_of, Gap.first_of, Sorted.pointer_of, Sorted.next_of, Sorted.item_of as entry_item}
+use Rattle.sorted_arena.specs.{Chain.IsDistinct, Chain.item_of, Gap.first_of, Sorted.pointer_of, Sorted.next_of, Sorted.pair_of as entry_item}
 use Rattle.sorted_arena.proofs.{OrdLemmas.from_index-here, CallerLemmas.next-here, CallerLemmas.found-here}
 use Rattle.timeline.specs.Timeline.{Change, value_after, value_at, IsRising, IsJoinedAfter, AreChanges, HasNone, AreSpans, HasValues, AreGaps}
 use Rattle.timeline.specs.{declared.span.Span.Span, declared.walk.Piece.Piece}

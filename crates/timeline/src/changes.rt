@@ -2,7 +2,7 @@
 
 ghost use Rattle.std.specs.Prelude.{◌≡◌};
 ghost use Rattle.std.specs.Option.{option_copied, option_map, option_and_then};
-ghost use Rattle.sorted_arena.specs.Sorted.{pair_of};
+ghost use Rattle.sorted_arena.specs.Sorted.{get};
 ghost use Rattle.timeline.specs.Timeline.{value_at, AreChanges, IsNextChange};
 ghost use Rattle.timeline.specs.Layout.{changes_of, valued, IsAround};
 
@@ -30,7 +30,7 @@ pub(crate) fn around<V, A: Allocator>(
 /// The value that a change brings; none where there is no change.
 pub(crate) fn value_of<V, A: Allocator>(changes: &Changes<V, A>, p: Option<P0>) -> Option<&V>
     ensures { option_copied result
-        ≡ option_and_then (λ pair. pair.1) (option_and_then (pair_of changes.now) p) }
+        ≡ option_and_then (λ pair. pair.1) (option_and_then (get changes.now) p) }
 {
     match changes.get(p?) {
         Some((_, value)) => value.as_ref(),
@@ -40,7 +40,7 @@ pub(crate) fn value_of<V, A: Allocator>(changes: &Changes<V, A>, p: Option<P0>) 
 
 /// The time of a change.
 pub(crate) fn time_of<V, A: Allocator>(changes: &Changes<V, A>, p: Option<P0>) -> Option<u64>
-    ensures { result ≡ option_map (λ pair. pair.0) (option_and_then (pair_of changes.now) p) }
+    ensures { result ≡ option_map (λ pair. pair.0) (option_and_then (get changes.now) p) }
 {
     match changes.get(p?) {
         Some((time, _)) => Some(*time),
@@ -54,7 +54,7 @@ pub(crate) fn held_from<V, A: Allocator>(
     p: Option<P0>,
 ) -> Option<(u64, &V)>
     ensures { option_map (λ h. (h.0, h.1.now)) result
-        ≡ option_and_then valued (option_and_then (pair_of changes.now) p) }
+        ≡ option_and_then valued (option_and_then (get changes.now) p) }
 {
     match changes.get(p?) {
         Some((time, value)) => match value.as_ref() {

@@ -2,7 +2,7 @@
 
 ghost use Rattle.std.specs.Prelude.{◌≡◌, ◌≤◌, ◌<◌, ◌+◌, ◌++◌, ◌↔◌, true, false, length, Some, None, Err, IfOk, OnOk, IfErr, OnErr, IfSome, OnSome, IfNone};
 ghost use Rattle.std.specs.Ordering.{nat_cmp};
-ghost use Rattle.sorted_arena.specs.Sorted.{Inserts, IsSound};
+ghost use Rattle.sorted_arena.specs.Sorted.{with_entry, IsSound};
 ghost use Rattle.timeline.specs.Timeline.{most_entries, roomy_capacity, value_at, IsRising};
 ghost use Rattle.timeline.specs.Layout.{changes_of, timeline_of, IsReached, IsBeyond, IsAt, KeepsCapacity, TakesChange, TakesNext, TakesBehind, TakesSame};
 ghost use Rattle.timeline.specs.Layout.{end_value_of, IsOpen, TakesOver, IsJoinedTo, IsFinished, IsPainted, IsRefusable, CannotEnd};
@@ -54,9 +54,11 @@ pub(crate) fn make_room<V: TimelineValue, A: Allocator>(
 }
 
 // Inserts a change, for which there is room, and returns its pointer.
+#[tactic(auto, using(sorted_arena::proofs::CallerLemmas::words))]
 fn insert_at<V: Drop, A: Allocator>(changes: &mut Changes<V, A>, time: u64, value: Option<V>) -> P0
     requires { length changes.old.entries < changes.old.capacity }
-    ensures inserted { Inserts nat_cmp most_entries changes.old result time value changes.new }
+    ensures inserted { changes.new
+        ≡ with_entry nat_cmp most_entries changes.old result (time, value) }
     ensures keeps { KeepsCapacity changes.old changes.new }
     ensures count { length changes.new.entries ≡ length changes.old.entries + 1 }
 {

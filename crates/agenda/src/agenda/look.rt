@@ -2,7 +2,8 @@
 
 ghost use Rattle.std.specs.Prelude.{◌≡◌, IfNone, is_some};
 ghost use Rattle.std.specs.Option.{option_map};
-ghost use Rattle.agenda.specs.Agenda.{count, job_of, first_job, shown_job};
+ghost use Rattle.listing.specs.Gap.{first_of};
+ghost use Rattle.agenda.specs.Agenda.{count, get, shown_job};
 
 use super::Agenda;
 use crate::ticket::Ticket;
@@ -11,14 +12,14 @@ use std::alloc::Allocator;
 impl<J, A: Allocator> Agenda<J, A> {
     /// Returns whether `ticket` names a job, in O(1).
     pub fn contains(&self, ticket: Ticket) -> bool
-        ensures { result ≡ is_some (job_of self.now.jobs ticket) }
+        ensures { result ≡ is_some (get self.now ticket) }
     {
         self.jobs.contains(ticket.pointer)
     }
 
     /// Returns the deadline and the job of `ticket`, in O(1). `None` if the ticket names no job.
     pub fn get(&self, ticket: Ticket) -> Option<(u64, &J)>
-        ensures { option_map (λ x. (x.0, x.1.now)) result ≡ job_of self.now.jobs ticket }
+        ensures { option_map (λ x. (x.0, x.1.now)) result ≡ get self.now ticket }
     {
         let pair = self.jobs.get(ticket.pointer)?;
         let (deadline, job) = pair.k_v();
@@ -27,7 +28,7 @@ impl<J, A: Allocator> Agenda<J, A> {
 
     /// Returns the ticket, the deadline and the job of the first job, in O(1). `None` if there are no jobs.
     pub fn peek(&self) -> Option<(Ticket, u64, &J)>
-        ensures value { option_map shown_job result ≡ first_job self.now.jobs }
+        ensures value { option_map shown_job result ≡ first_of self.now.entries }
         ensures none { IfNone result (count self.now ≡ 0) }
     {
         let first = self.jobs.first()?;

@@ -1,10 +1,9 @@
 //! Capacity, clearing and clones.
 
-ghost use Rattle.std.specs.Prelude.{◌≡◌, ◌↔◌, ◌+◌, ◌<◌, [], Err, IfOk, IsOk, OnOk};
-ghost use Rattle.triple_ord.specs.PlainArena.{capacity_for};
-ghost use Rattle.agenda.specs.Agenda.{most_entries, count, greatest_index, with_left, HasRoomFor};
+ghost use Rattle.std.specs.Prelude.{◌≡◌, ◌↔◌, ◌+◌, ◌<◌, [], Err, IfOk, IsOk, OnOk, OnErr};
+ghost use Rattle.listing.specs.PlainArena.{capacity_for};
+ghost use Rattle.agenda.specs.Agenda.{most_entries, greatest_generation, count, greatest_index, with_left, HasRoomFor};
 ghost use Rattle.agenda.specs.Tickets.{IsStep};
-ghost use Rattle.agenda.specs.Calls.{MayGrow};
 
 use super::Agenda;
 use std::alloc::{AllocError, Allocator};
@@ -21,7 +20,7 @@ impl<J, A: Allocator> Agenda<J, A> {
     /// - `BeyondMaxCapacity`: there would be more than 4,294,967,294 jobs.
     /// - `AllocError`: growing failed.
     pub fn reserve(&mut self, additional: usize) -> Result<(), ReallocationError>
-        ensures jobs { self.new.jobs ≡ self.old.jobs }
+        ensures jobs { self.new.entries ≡ self.old.entries }
         ensures capacity { OnOk result
             (self.new.capacity ≡ capacity_for most_entries self.old.capacity (count self.old + additional)) }
         ensures room { OnOk result (HasRoomFor additional self.new) }
@@ -29,7 +28,9 @@ impl<J, A: Allocator> Agenda<J, A> {
             ↔ (most_entries < count self.old + additional) }
         ensures memory { result ≡ Err ReallocationError.AllocError
             → self.old.capacity < count self.old + additional }
-        ensures grows { MayGrow self.old result self.new }
+        ensures generation { self.new.generation ≡ self.old.generation }
+        ensures err { OnErr result (self.new ≡ self.old) }
+        ensures step { IsStep self.old self.new }
     {
         self.jobs.reserve(additional)
     }
@@ -38,7 +39,7 @@ impl<J, A: Allocator> Agenda<J, A> {
 impl<J: Drop, A: Allocator> Agenda<J, A> {
     /// Removes and drops all jobs, in O(capacity). Their tickets end. The capacity stays.
     pub fn clear(&mut self)
-        ensures after { self.new ≡ with_left self.old [] }
+        ensures after { self.new ≡ with_left greatest_generation self.old [] }
         ensures count { count self.new ≡ 0 }
         ensures step { IsStep self.old self.new }
     {
@@ -56,9 +57,9 @@ impl<J: Clone + Drop, A: Allocator + Copy> Agenda<J, A> {
     /// `AllocError`: memory for the jobs, or for the clone of a job, is refused.
     pub fn try_clone(&self) -> Result<Self, AllocError>
         requires clones { (x y : J) → J.is_clone x y → y ≡ x }
-        ensures jobs { IfOk result (λ a. a.jobs ≡ self.now.jobs) }
+        ensures jobs { IfOk result (λ a. a.entries ≡ self.now.entries) }
         ensures generation { IfOk result (λ a. a.generation ≡ self.now.generation) }
-        ensures capacity { IfOk result (λ a. a.capacity ≡ greatest_index self.now.jobs) }
+        ensures capacity { IfOk result (λ a. a.capacity ≡ greatest_index self.now.entries) }
         ensures none { count self.now ≡ 0 → IsOk result }
     {
         Ok(Agenda {

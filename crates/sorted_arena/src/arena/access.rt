@@ -3,7 +3,7 @@
 ghost use Rattle.std.specs.Prelude.{◌≡◌, Some, IsSome, is_some};
 ghost use Rattle.std.specs.Option.{option_copied, option_copied_mut, option_map};
 ghost use Rattle.std.specs.Borrow.{sem, LendsIf};
-ghost use Rattle.sorted_arena.specs.Sorted.{pair_of, with_value};
+ghost use Rattle.sorted_arena.specs.Sorted.{get, with_value};
 
 use super::SortedArena;
 use std::alloc::Allocator;
@@ -14,14 +14,14 @@ use triple_ord::BasePtr;
 impl<K: Ord, V, P: BasePtr, A: Allocator> SortedArena<K, V, P, A> {
     /// Returns whether `p` names an entry, in O(1).
     pub fn contains(&self, p: P) -> bool
-        ensures { result ≡ is_some (pair_of self.now (P.numbers p)) }
+        ensures { result ≡ is_some (get self.now (P.numbers p)) }
     {
         self.pairs.contains(p)
     }
 
     /// Returns the key and the value of the entry at `p`, in O(1). `None` if `p` is stale.
     pub fn get(&self, p: P) -> Option<(&K, &V)>
-        ensures { option_map (λ e. (e.0.now, e.1.now)) result ≡ pair_of self.now (P.numbers p) }
+        ensures { option_map (λ e. (e.0.now, e.1.now)) result ≡ get self.now (P.numbers p) }
     {
         let pair = self.pairs.get(p)?;
         Some(pair.k_v())
@@ -30,7 +30,7 @@ impl<K: Ord, V, P: BasePtr, A: Allocator> SortedArena<K, V, P, A> {
     /// Returns the key of the entry at `p`, in O(1). `None` if `p` is stale.
     pub fn key(&self, p: P) -> Option<&K>
         ensures { option_copied result
-            ≡ option_map (λ e. e.0) (pair_of self.now (P.numbers p)) }
+            ≡ option_map (λ e. e.0) (get self.now (P.numbers p)) }
     {
         let pair = self.pairs.get(p)?;
         Some(pair.k())
@@ -45,9 +45,9 @@ impl<K: Ord, V, P: BasePtr, A: Allocator> SortedArena<K, V, P, A> {
             P.BasePtr.own P.PartialEq P.Inx.BasePtrInx.own P.Inx.PartialEq
             P.Gen.BasePtrGen.own P.Gen.PartialEq A.Allocator)
             V.row self.entry result
-            (with_value self.old (P.numbers p) (pair_of self.old (P.numbers p))) self.old) }
+            (with_value self.old (P.numbers p) (get self.old (P.numbers p))) self.old) }
         ensures value { option_copied_mut result
-            ≡ option_map (λ e. e.1) (pair_of self.old (P.numbers p)) }
+            ≡ option_map (λ e. e.1) (get self.old (P.numbers p)) }
     {
         let pair = self.pairs.get_mut(p)?;
         Some(pair.v_mut())
@@ -57,9 +57,9 @@ impl<K: Ord, V, P: BasePtr, A: Allocator> SortedArena<K, V, P, A> {
 impl<K: Ord + Drop, V: Drop, P: BasePtr, A: Allocator> SortedArena<K, V, P, A> {
     /// Replaces the value of the entry at `p` and returns the old one, in O(1). If `p` is stale, `v` is dropped and nothing changes.
     pub fn set_value(&mut self, p: P, v: V) -> Option<V>
-        ensures value { result ≡ option_map (λ e. e.1) (pair_of self.old (P.numbers p)) }
+        ensures value { result ≡ option_map (λ e. e.1) (get self.old (P.numbers p)) }
         ensures after { self.new
-            ≡ with_value self.old (P.numbers p) (pair_of self.old (P.numbers p)) v }
+            ≡ with_value self.old (P.numbers p) (get self.old (P.numbers p)) v }
     {
         let value = self.value_mut(p)?;
         Some(mem::replace(value, v))
@@ -70,9 +70,9 @@ impl<K: Ord + Drop, V: Drop, P: BasePtr, A: Allocator> SortedArena<K, V, P, A> {
 impl<K: Ord, V, P: BasePtr, A: Allocator> Index<P> for SortedArena<K, V, P, A> {
     type Output = V;
 
-    ghost can_index = { λ a p. IsSome (pair_of a (P.numbers p)) };
+    ghost can_index = { λ a p. IsSome (get a (P.numbers p)) };
 
-    ghost index_gives = { λ a p v. option_map (λ e. e.1) (pair_of a (P.numbers p)) ≡ Some v };
+    ghost index_gives = { λ a p v. option_map (λ e. e.1) (get a (P.numbers p)) ≡ Some v };
 
     fn index(&self, p: P) -> &V {
         self.pairs.get(p).unwrap().v()

@@ -1,9 +1,9 @@
 //! Entries that come from another arena.
 
-ghost use Rattle.std.specs.Prelude.{◌≡◌, ◌↔◌, ◌+◌, ◌<◌, [], map, Ok, Err, OnOk, OnErr};
-ghost use Rattle.sorted_arena.specs.Change.{InsertsPair};
+ghost use Rattle.std.specs.Prelude.{◌≡◌, ◌↔◌, ◌+◌, ◌<◌, [], map, Err, OnOk, OnErr};
+ghost use Rattle.listing.specs.{PlainArena.capacity_for, Steps.IsStep};
 ghost use Rattle.sorted_arena.specs.Merge.{merged};
-ghost use Rattle.sorted_arena.specs.Sorted.{count, item_of, with_rest, Keeps};
+ghost use Rattle.sorted_arena.specs.Sorted.{count, pair_of, with_entry, with_rest, IsFree, Keeps};
 
 use super::SortedArena;
 use std::alloc::Allocator;
@@ -22,15 +22,19 @@ impl<K: Ord + Drop, V: Drop, P: BasePtr, A: Allocator> SortedArena<K, V, P, A> {
     /// # Complexity
     ///
     /// O(log n) for each entry that is moved, plus O(n) when the arena grows. One comparison for each whose key is at least all others.
+    #[tactic(auto, using(listing::proofs::CallerLemmas::words))]
     pub fn append<Q: BasePtr, B: Allocator>(
         &mut self,
         other: &mut SortedArena<K, V, Q, B>,
     ) -> Result<(), ReallocationError>
-        ensures items { OnOk result (map item_of self.new.entries
-            ≡ merged K.cmp (map item_of self.old.entries) (map item_of other.old.entries)) }
+        ensures items { OnOk result (map pair_of self.new.entries
+            ≡ merged K.cmp (map pair_of self.old.entries) (map pair_of other.old.entries)) }
         ensures kept { Keeps self.old self.new }
         ensures count { OnOk result (count self.new ≡ count self.old + count other.old) }
         ensures generation { self.new.generation ≡ self.old.generation }
+        ensures capacity { OnOk result (self.new.capacity
+            ≡ capacity_for P.Inx.most self.old.capacity (count self.old + count other.old)) }
+        ensures step { IsStep self.old self.new }
         ensures emptied { OnOk result (other.new ≡ with_rest Q.Gen.greatest other.old []) }
         ensures full { (result ≡ Err ReallocationError.BeyondMaxCapacity)
             ↔ (P.Inx.most < count self.old + count other.old) }
@@ -47,10 +51,14 @@ impl<K: Ord + Drop, V: Drop, P: BasePtr, A: Allocator> SortedArena<K, V, P, A> {
     }
 
     // Inserts an entry where one has room.
+    #[tactic(auto, using(listing::proofs::CallerLemmas::words))]
     pub(super) fn insert_in_room(&mut self, k: K, v: V) -> P
         requires { count self.old < self.old.capacity }
-        ensures inserts { InsertsPair {E = Unit {0}} K.cmp P.Inx.most P.numbers
-            self.old k v (Ok result) self.new }
+        ensures ok { self.new
+            ≡ with_entry K.cmp P.Inx.most self.old (P.numbers result) (k, v) }
+        ensures free { IsFree self.old (P.numbers result) }
+        ensures count { count self.new ≡ count self.old + 1 }
+        ensures generation { self.new.generation ≡ self.old.generation }
         ensures capacity { self.new.capacity ≡ self.old.capacity }
     {
         match self.insert(k, v) {

@@ -1,7 +1,7 @@
 //! Clones of a sorted arena.
 
 ghost use Rattle.std.specs.Prelude.{◌≡◌, IfOk, IsOk};
-ghost use Rattle.triple_ord.specs.Chain.{greatest_index};
+ghost use Rattle.listing.specs.Chain.{greatest_index};
 ghost use Rattle.sorted_arena.specs.Sorted.{count};
 
 use super::SortedArena;

@@ -4,10 +4,10 @@ ghost use Rattle.std.specs.Prelude.{◌≡◌, ◌+◌, ◌≤◌, ◌++◌, map
 ghost use Rattle.std.specs.Option.{option_map};
 ghost use Rattle.std.specs.Range.Bound.{bound_map};
 ghost use Rattle.std.specs.Vec.{vec_capacity};
-ghost use Rattle.triple_ord.specs.Gap.{first_of};
-ghost use Rattle.sorted_arena.specs.Change.{DrainsInto, RemovesEntries};
-ghost use Rattle.sorted_arena.specs.Range.{entries_between, entries_outside};
-ghost use Rattle.sorted_arena.specs.Sorted.{count, pointer_of, item_of, with_rest, IsSound};
+ghost use Rattle.listing.specs.Gap.{first_of};
+ghost use Rattle.sorted_arena.specs.Change.{DrainsInto};
+ghost use Rattle.sorted_arena.specs.Range.{entries_between, is_outside};
+ghost use Rattle.sorted_arena.specs.Sorted.{count, pointer_of, pair_of, with_passing, IsSound};
 ghost use Rattle.sorted_arena.specs.Taking.{IsCutAt, TakesOut};
 
 use super::SortedArena;
@@ -29,11 +29,12 @@ impl<K: Ord + Drop, V: Drop, P: BasePtr, A: Allocator> SortedArena<K, V, P, A> {
         drained: &mut Vec<(K, V), B>,
     ) -> Result<(), AllocError>
         ensures drained { R.has_bounds range → OnOk result
-            (drained.new.items ≡ drained.old.items ++ map item_of (entries_between K.cmp
+            (drained.new.items ≡ drained.old.items ++ map pair_of (entries_between K.cmp
             (R.start_bound range) (R.end_bound range) self.old.entries)) }
         ensures after { R.has_bounds range → OnOk result
-            (self.new ≡ with_rest P.Gen.greatest self.old (entries_outside K.cmp
-            (R.start_bound range) (R.end_bound range) self.old.entries)) }
+            (self.new ≡ with_passing P.Gen.greatest self.old (is_outside K.cmp
+            (R.start_bound range) (R.end_bound range))) }
+        ensures sound { IsSound K.cmp P.Inx.most self.old }
         ensures room { R.has_bounds range → vec_len drained.old + length (entries_between K.cmp
             (R.start_bound range) (R.end_bound range) self.old.entries) ≤ vec_capacity drained.old
             → IsOk result }
@@ -50,8 +51,9 @@ impl<K: Ord + Drop, V: Drop, P: BasePtr, A: Allocator> SortedArena<K, V, P, A> {
         ensures removed { R.has_bounds range → result ≡ length (entries_between K.cmp
             (R.start_bound range) (R.end_bound range) self.old.entries) }
         ensures after { R.has_bounds range
-            → self.new ≡ with_rest P.Gen.greatest self.old (entries_outside K.cmp
-            (R.start_bound range) (R.end_bound range) self.old.entries) }
+            → self.new ≡ with_passing P.Gen.greatest self.old (is_outside K.cmp
+            (R.start_bound range) (R.end_bound range)) }
+        ensures sound { IsSound K.cmp P.Inx.most self.old }
         ensures count { count self.new + result ≡ count self.old }
     {
         self.remove_between(range.start_bound(), range.end_bound())
@@ -67,8 +69,8 @@ impl<K: Ord + Drop, V: Drop, P: BasePtr, A: Allocator> SortedArena<K, V, P, A> {
         ensures drains { DrainsInto P.Gen.greatest self.old
             (entries_between K.cmp (bound_map (λ k. k.now) from.entry)
             (bound_map (λ k. k.now) until.entry) self.old.entries)
-            (entries_outside K.cmp (bound_map (λ k. k.now) from.entry)
-            (bound_map (λ k. k.now) until.entry) self.old.entries)
+            (is_outside K.cmp (bound_map (λ k. k.now) from.entry)
+            (bound_map (λ k. k.now) until.entry))
             drained.old drained.new result self.new }
         ensures was_sound { IsSound K.cmp P.Inx.most self.old }
     {
@@ -88,9 +90,10 @@ impl<K: Ord + Drop, V: Drop, P: BasePtr, A: Allocator> SortedArena<K, V, P, A> {
         ensures removed { result ≡ length (entries_between K.cmp
             (bound_map (λ k. k.now) from.entry) (bound_map (λ k. k.now) until.entry)
             self.old.entries) }
-        ensures removes { RemovesEntries P.Gen.greatest self.old
-            (entries_outside K.cmp (bound_map (λ k. k.now) from.entry)
-            (bound_map (λ k. k.now) until.entry) self.old.entries) result self.new }
+        ensures after { self.new ≡ with_passing P.Gen.greatest self.old
+            (is_outside K.cmp (bound_map (λ k. k.now) from.entry)
+            (bound_map (λ k. k.now) until.entry)) }
+        ensures count { count self.new + result ≡ count self.old }
         ensures was_sound { IsSound K.cmp P.Inx.most self.old }
     {
         let (first, count) = self.run_between(from, until);

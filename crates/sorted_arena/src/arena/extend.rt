@@ -4,7 +4,8 @@ ghost use Rattle.std.specs.Prelude.{◌≡◌, ◌≢◌, ◌≤◌, ◌+◌, �
 ghost use Rattle.std.specs.{Ordering.is_gt, Option.option_map_or, Prelude.false, List.AllAdjacentBelow};
 ghost use Rattle.std.specs.declared.cmp.Ordering.TheVariants.{Greater};
 ghost use Rattle.sorted_arena.specs.Change.{ExtendsSorted, ChangesCapacity};
-ghost use Rattle.sorted_arena.specs.Sorted.{count, item_of, last_item, AreSorted, AreInOrder, IsOutOfOrder, Keeps};
+ghost use Rattle.sorted_arena.specs.Sorted.{count, pair_of, last_item, AreSorted, AreInOrder, IsOutOfOrder, IsSound, Keeps};
+ghost use Rattle.listing.specs.{Generation.first_generation, Steps.IsStep};
 
 use super::SortedArena;
 use crate::error::SortedError;
@@ -41,7 +42,8 @@ impl<K: Ord + Drop, V: Drop, P: BasePtr, A: Allocator> SortedArena<K, V, P, A> {
     pub fn from_sorted<B: Allocator>(alloc: A, pairs: Vec<(K, V), B>) -> Result<Self, SortedError>
     where
         A: Copy,
-        ensures ok { IfOk result (λ a. map item_of a.entries ≡ pairs.items) }
+        ensures ok { IfOk result (λ a. map pair_of a.entries ≡ pairs.items) }
+        ensures generation { IfOk result (λ a. a.generation ≡ first_generation P.Gen.greatest) }
         ensures unsorted { (at : ℕ) → result ≡ Err (SortedError.OutOfOrder at)
             → IsOutOfOrder K.cmp [] pairs.items at }
     {
@@ -56,7 +58,8 @@ impl<K: Ord + Drop, V: Drop, P: BasePtr, A: Allocator> SortedArena<K, V, P, A> {
     fn with_room(alloc: A, n: usize) -> Self
     where
         A: Copy,
-        ensures { result.entries ≡ [] }
+        ensures entries { result.entries ≡ [] }
+        ensures generation { result.generation ≡ first_generation P.Gen.greatest }
     {
         match SimpleOrdArena::with_min_capacity(alloc, n) {
             Ok(pairs) => SortedArena {
@@ -73,7 +76,7 @@ impl<K: Ord + Drop, V: Drop, P: BasePtr, A: Allocator> SortedArena<K, V, P, A> {
         ensures kept { ChangesCapacity self.old self.new }
         ensures room { result ≡ true → count self.new + length pairs.now ≤ self.new.capacity }
         ensures order { result ≡ true
-            → AreInOrder K.cmp (map item_of self.new.entries ++ pairs.now) }
+            → AreInOrder K.cmp (map pair_of self.new.entries ++ pairs.now) }
     {
         self.len() <= pairs.len() && self.is_continued(pairs) && self.reserve(pairs.len()).is_ok()
     }
@@ -81,7 +84,7 @@ impl<K: Ord + Drop, V: Drop, P: BasePtr, A: Allocator> SortedArena<K, V, P, A> {
     // Whether pairs are in order, and the first has no smaller key than the last entry.
     fn is_continued(&self, pairs: &[(K, V)]) -> bool
         ensures { AreSorted K.cmp self.now.entries → result ≡ true
-            → AreInOrder K.cmp (map item_of self.now.entries ++ pairs.now) }
+            → AreInOrder K.cmp (map pair_of self.now.entries ++ pairs.now) }
     {
         match pairs.first() {
             Some(first) => !self.is_last_greater(&first.0) && are_sorted(pairs),
@@ -92,10 +95,11 @@ impl<K: Ord + Drop, V: Drop, P: BasePtr, A: Allocator> SortedArena<K, V, P, A> {
     // Appends pairs that are in order behind all entries, where they have room.
     fn append_sorted<B: Allocator>(&mut self, pairs: Vec<(K, V), B>)
         requires room { count self.old + vec_len pairs ≤ self.old.capacity }
-        requires order { AreInOrder K.cmp (map item_of self.old.entries ++ pairs.items) }
-        ensures items { map item_of self.new.entries
-            ≡ map item_of self.old.entries ++ pairs.items }
+        requires order { AreInOrder K.cmp (map pair_of self.old.entries ++ pairs.items) }
+        ensures items { map pair_of self.new.entries
+            ≡ map pair_of self.old.entries ++ pairs.items }
         ensures kept { Keeps self.old self.new }
+        ensures step { IsStep self.old self.new }
         ensures generation { self.new.generation ≡ self.old.generation }
     {
         let _ = self.pairs.append_pairs_within_capacity(pairs);
@@ -123,8 +127,9 @@ impl<K: Ord + Drop, V: Drop, P: BasePtr, A: Allocator> SortedArena<K, V, P, A> {
 
     // Whether the last key is greater than `k`.
     fn is_last_greater(&self, k: &K) -> bool
-        ensures { result
+        ensures value { result
             ≡ option_map_or (λ x. is_gt (K.cmp x.0 k.now)) (last_item self.now.entries) false }
+        ensures sound { IsSound K.cmp P.Inx.most self.now }
     {
         let Some(p) = self.last() else {
             return false;

@@ -1,13 +1,13 @@
 //! Insertions.
 
-ghost use Rattle.std.specs.Prelude.{◌≡◌, ◌↔◌, Err, IfOk, OnOk, IfErr, OnErr, is_some, true};
+ghost use Rattle.std.specs.Prelude.{◌≡◌, ◌↔◌, ◌+◌, Some, None, Err, IfOk, OnOk, IfErr, OnErr, is_some, true};
 ghost use Rattle.std.specs.Ordering.{is_eq};
-ghost use Rattle.sorted_arena.specs.Change.{InsertsPair};
-ghost use Rattle.sorted_arena.specs.Sorted.{count, first_where, key_of, IsAbsent, InsertsOrReplaces};
+ghost use Rattle.sorted_arena.specs.Sorted.{count, first_where, key_of, with_entry, IsAbsent, IsFree, IsSound, Updates, InsertsOrReplaces};
 
 use super::SortedArena;
 use crate::error::UniqueInsertionError;
-use crate::pairs::{is_last_in, put};
+use crate::pairs::is_last_in;
+use listing::insert_behind;
 use std::alloc::Allocator;
 use triple_ord::{BasePtr, ReallocationError};
 
@@ -24,13 +24,21 @@ impl<K: Ord + Drop, V: Drop, P: BasePtr, A: Allocator> SortedArena<K, V, P, A> {
     ///
     /// O(log n), and one comparison if no key is greater than `k`; plus O(n) when the arena grows (amortized O(1)).
     pub fn insert(&mut self, k: K, v: V) -> Result<P, ((K, V), ReallocationError)>
-        ensures inserts { InsertsPair K.cmp P.Inx.most P.numbers self.old k v result self.new }
+        ensures ok { IfOk result
+            (λ p. self.new ≡ with_entry K.cmp P.Inx.most self.old (P.numbers p) (k, v)) }
+        ensures free { IfOk result (λ p. IsFree self.old (P.numbers p)) }
+        ensures updates { IfOk result
+            (λ p. Updates self.old self.new (P.numbers p) (Some (k, v))) }
+        ensures count { OnOk result (count self.new ≡ count self.old + 1) }
+        ensures back { IfErr result (λ e. e.0 ≡ (k, v)) }
+        ensures err { OnErr result (self.new ≡ self.old) }
+        ensures sound { IsSound K.cmp P.Inx.most self.new }
         ensures full { (result ≡ Err ((k, v), ReallocationError.BeyondMaxCapacity))
             ↔ (count self.old ≡ P.Inx.most) }
         ensures memory { result ≡ Err ((k, v), ReallocationError.AllocError)
             → count self.old ≡ self.old.capacity }
     {
-        let p = put(&mut self.pairs, k, v)?;
+        let p = insert_behind(&mut self.pairs, k, v)?;
         self.is_compact = self.is_compact && is_last_in(&self.pairs, p);
         Ok(p)
     }
@@ -46,8 +54,9 @@ impl<K: Ord + Drop, V: Drop, P: BasePtr, A: Allocator> SortedArena<K, V, P, A> {
             (λ a. InsertsOrReplaces K.cmp P.Inx.most self.old (P.numbers a.0) k v a.1 self.new) }
         ensures back { IfErr result (λ e. e.0 ≡ (k, v)) }
         ensures absent { OnErr result (IsAbsent K.cmp self.old k) }
-        ensures full { result ≡ Err ((k, v), ReallocationError.BeyondMaxCapacity)
-            → count self.old ≡ P.Inx.most }
+        ensures full { (result ≡ Err ((k, v), ReallocationError.BeyondMaxCapacity))
+            ↔ ((first_where (λ e. is_eq (K.cmp k (key_of e))) self.old.entries ≡ None)
+            × (count self.old ≡ P.Inx.most)) }
         ensures memory { result ≡ Err ((k, v), ReallocationError.AllocError)
             → count self.old ≡ self.old.capacity }
         ensures err { OnErr result (self.new ≡ self.old) }
@@ -73,12 +82,21 @@ impl<K: Ord + Drop, V: Drop, P: BasePtr, A: Allocator> SortedArena<K, V, P, A> {
     /// - `EqualKey`: an entry has an equal key.
     /// - `BeyondMaxCapacity`, `AllocError`: as `insert`.
     pub fn insert_unique(&mut self, k: K, v: V) -> Result<P, ((K, V), UniqueInsertionError)>
-        ensures inserts { InsertsPair K.cmp P.Inx.most P.numbers self.old k v result self.new }
+        ensures ok { IfOk result
+            (λ p. self.new ≡ with_entry K.cmp P.Inx.most self.old (P.numbers p) (k, v)) }
+        ensures free { IfOk result (λ p. IsFree self.old (P.numbers p)) }
+        ensures updates { IfOk result
+            (λ p. Updates self.old self.new (P.numbers p) (Some (k, v))) }
+        ensures count { OnOk result (count self.new ≡ count self.old + 1) }
+        ensures back { IfErr result (λ e. e.0 ≡ (k, v)) }
+        ensures err { OnErr result (self.new ≡ self.old) }
+        ensures sound { IsSound K.cmp P.Inx.most self.new }
         ensures absent { OnOk result (IsAbsent K.cmp self.old k) }
         ensures equal { (result ≡ Err ((k, v), UniqueInsertionError.EqualKey))
             ↔ (is_some (first_where (λ e. is_eq (K.cmp k (key_of e))) self.old.entries) ≡ true) }
-        ensures full { result ≡ Err ((k, v), UniqueInsertionError.BeyondMaxCapacity)
-            → count self.old ≡ P.Inx.most }
+        ensures full { (result ≡ Err ((k, v), UniqueInsertionError.BeyondMaxCapacity))
+            ↔ ((first_where (λ e. is_eq (K.cmp k (key_of e))) self.old.entries ≡ None)
+            × (count self.old ≡ P.Inx.most)) }
         ensures memory { result ≡ Err ((k, v), UniqueInsertionError.AllocError)
             → count self.old ≡ self.old.capacity }
     {

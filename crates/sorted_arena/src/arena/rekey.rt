@@ -1,10 +1,9 @@
 //! Entries that get another key. They keep their pointers.
 
-ghost use Rattle.std.specs.Prelude.{◌≡◌, Err, None, OnOk, IfErr, OnErr, is_some, true};
+ghost use Rattle.std.specs.Prelude.{◌≡◌, Err, Some, None, IfOk, OnOk, IfErr, OnErr, is_some, true};
 ghost use Rattle.std.specs.Ordering.{is_eq};
 ghost use Rattle.std.specs.Option.{option_map};
-ghost use Rattle.sorted_arena.specs.Change.{ChangesKey};
-ghost use Rattle.sorted_arena.specs.Sorted.{pair_of, first_where, key_of, IsAbsent, Updates};
+ghost use Rattle.sorted_arena.specs.Sorted.{get, first_where, key_of, count, with_key, IsAbsent, IsSound, Updates};
 
 use super::SortedArena;
 use crate::error::RekeyUniqueError;
@@ -20,10 +19,14 @@ impl<K: Ord, V, P: BasePtr, A: Allocator> SortedArena<K, V, P, A> {
     ///
     /// If `p` is stale, `k` comes back and nothing changes.
     pub fn rekey(&mut self, p: P, k: K) -> Result<K, K>
-        ensures changes { ChangesKey K.cmp P.Inx.most self.old (P.numbers p) k result self.new }
+        ensures after { self.new ≡ with_key K.cmp self.old (P.numbers p) k }
         ensures updates { Updates self.old self.new (P.numbers p)
-            (option_map (λ e. (k, e.1)) (pair_of self.old (P.numbers p))) }
-        ensures stale { OnErr result (pair_of self.old (P.numbers p) ≡ None) }
+            (option_map (λ e. (k, e.1)) (get self.old (P.numbers p))) }
+        ensures count { count self.new ≡ count self.old }
+        ensures before { IfOk result (λ before.
+            option_map (λ e. e.0) (get self.old (P.numbers p)) ≡ Some before) }
+        ensures sound { IsSound K.cmp P.Inx.most self.old }
+        ensures stale { OnErr result (get self.old (P.numbers p) ≡ None) }
         ensures back { IfErr result (λ back. back ≡ k) }
     {
         let rekeyed = self.pairs.rekey_pair(p, k);
@@ -40,15 +43,18 @@ impl<K: Ord, V, P: BasePtr, A: Allocator> SortedArena<K, V, P, A> {
     /// `k` comes back, and nothing changes.
     /// - `Stale`: `p` names no entry.
     /// - `EqualKey`: an entry has an equal key.
+    #[tactic(auto, using(listing::proofs::CallerLemmas::words))]
     pub fn rekey_unique(&mut self, p: P, k: K) -> Result<K, (K, RekeyUniqueError)>
-        ensures changes { ChangesKey K.cmp P.Inx.most self.old (P.numbers p) k result self.new }
-        ensures updates { OnOk result (Updates self.old self.new (P.numbers p)
-            (option_map (λ e. (k, e.1)) (pair_of self.old (P.numbers p)))) }
+        ensures ok { OnOk result (self.new ≡ with_key K.cmp self.old (P.numbers p) k) }
+        ensures before { IfOk result (λ before.
+            option_map (λ e. e.0) (get self.old (P.numbers p)) ≡ Some before) }
+        ensures err { OnErr result (self.new ≡ self.old) }
+        ensures sound { IsSound K.cmp P.Inx.most self.old }
         ensures absent { OnOk result (IsAbsent K.cmp self.old k) }
         ensures equal { result ≡ Err (k, RekeyUniqueError.EqualKey)
             → is_some (first_where (λ e. is_eq (K.cmp k (key_of e))) self.old.entries) ≡ true }
         ensures stale { result ≡ Err (k, RekeyUniqueError.Stale)
-            → pair_of self.old (P.numbers p) ≡ None }
+            → get self.old (P.numbers p) ≡ None }
         ensures back { IfErr result (λ e. e.0 ≡ k) }
     {
         let at = self.find(&k);

@@ -3,13 +3,13 @@
 ghost use Rattle.std.specs.Prelude.{◌≡◌, ◌≢◌, ◌+◌, is_some, Some, None, OnOk, IfSome, IfNone, OnSome};
 ghost use Rattle.std.specs.List.{All};
 ghost use Rattle.std.specs.Option.{option_and_then};
-ghost use Rattle.std.specs.Ordering.{is_eq};
+ghost use Rattle.std.specs.Ordering.{is_eq, is_gt};
 ghost use Rattle.std.specs.declared.cmp.Ordering.TheVariants.{Greater};
-ghost use Rattle.sorted_arena.specs.Sorted.{pair_of, count, first_where, key_of, first_item, last_item};
-ghost use Rattle.sorted_arena.specs.Sorted.{behind_first, before_last, first_item_until, entries_until, entries_above};
+ghost use Rattle.sorted_arena.specs.Sorted.{get, count, first_where, key_of, first_item, last_item};
+ghost use Rattle.sorted_arena.specs.Sorted.{first_item_until, entries_until, IsAbsent, IsSound, Updates};
+ghost use Rattle.sorted_arena.specs.Sorted.{without_entry, without_first, without_last, without_where, with_passing};
 ghost use Rattle.sorted_arena.specs.Answer.{AnswersAt};
-ghost use Rattle.sorted_arena.specs.Change.{RemovesEntry, RemovesEntries, DrainsInto};
-ghost use Rattle.sorted_arena.specs.Sorted.{with_left, without, IsAbsent, Updates};
+ghost use Rattle.sorted_arena.specs.Change.{DrainsInto};
 
 use super::SortedArena;
 use crate::pairs::is_last_in;
@@ -20,10 +20,12 @@ use triple_ord::BasePtr;
 impl<K: Ord, V, P: BasePtr, A: Allocator> SortedArena<K, V, P, A> {
     /// Removes the entry at `p` and returns its key and value, in O(log n). If `p` is stale, returns `None` and nothing changes.
     pub fn remove(&mut self, p: P) -> Option<(K, V)>
-        ensures value { result ≡ pair_of self.old (P.numbers p) }
+        ensures value { result ≡ get self.old (P.numbers p) }
+        ensures after { self.new ≡ without_entry P.Gen.greatest self.old (P.numbers p) }
         ensures updates { Updates self.old self.new (P.numbers p) None }
-        ensures removes { RemovesEntry K.cmp P.Inx.most self.old
-            (without P.Gen.greatest self.old (P.numbers p)) result self.new }
+        ensures count { OnSome result (count self.old ≡ count self.new + 1) }
+        ensures none { IfNone result (self.new ≡ self.old) }
+        ensures sound { IsSound K.cmp P.Inx.most self.old }
     {
         let pairs = self.pairs();
         let stays_compact = self.is_compact && is_last_in(pairs, p);
@@ -35,14 +37,14 @@ impl<K: Ord, V, P: BasePtr, A: Allocator> SortedArena<K, V, P, A> {
     /// Removes the first entry whose key equals `k` and returns its key and value, in O(log n). `None` exactly if no entry has this
     /// key; nothing changes then.
     pub fn remove_key(&mut self, k: &K) -> Option<(K, V)>
-        ensures value { result ≡ option_and_then (pair_of self.old)
+        ensures value { result ≡ option_and_then (get self.old)
             (first_where (λ e. is_eq (K.cmp k.now (key_of e))) self.old.entries) }
         ensures absent { IfNone result (IsAbsent K.cmp self.old k.now) }
+        ensures after { self.new
+            ≡ without_where P.Gen.greatest self.old (λ e. is_eq (K.cmp k.now (key_of e))) }
         ensures count { OnSome result (count self.old ≡ count self.new + 1) }
-        ensures gone { OnSome result
-            (IfSome (first_where (λ e. is_eq (K.cmp k.now (key_of e))) self.old.entries)
-            (λ p. self.new ≡ without P.Gen.greatest self.old p)) }
         ensures none { IfNone result (self.new ≡ self.old) }
+        ensures sound { IsSound K.cmp P.Inx.most self.old }
     {
         let p = self.find(k)?;
         self.remove(p)
@@ -51,8 +53,8 @@ impl<K: Ord, V, P: BasePtr, A: Allocator> SortedArena<K, V, P, A> {
     /// Removes the first entry, which has the smallest key, and returns its key and value, in O(log n). `None` if there is none.
     pub fn pop_first(&mut self) -> Option<(K, V)>
         ensures value { result ≡ first_item self.old.entries }
-        ensures removes { RemovesEntry K.cmp P.Inx.most self.old
-            (with_left P.Gen.greatest self.old (behind_first self.old.entries)) result self.new }
+        ensures after { self.new ≡ without_first P.Gen.greatest self.old }
+        ensures sound { IsSound K.cmp P.Inx.most self.old }
     {
         let first = self.first()?;
         self.remove(first)
@@ -61,8 +63,8 @@ impl<K: Ord, V, P: BasePtr, A: Allocator> SortedArena<K, V, P, A> {
     /// Removes the last entry, which has the greatest key, and returns its key and value, in O(log n). `None` if there is none.
     pub fn pop_last(&mut self) -> Option<(K, V)>
         ensures value { result ≡ last_item self.old.entries }
-        ensures removes { RemovesEntry K.cmp P.Inx.most self.old
-            (with_left P.Gen.greatest self.old (before_last self.old.entries)) result self.new }
+        ensures after { self.new ≡ without_last P.Gen.greatest self.old }
+        ensures sound { IsSound K.cmp P.Inx.most self.old }
     {
         let last = self.last()?;
         self.remove(last)
@@ -74,8 +76,9 @@ impl<K: Ord, V, P: BasePtr, A: Allocator> SortedArena<K, V, P, A> {
     pub fn pop_first_until(&mut self, until: &K) -> Option<(K, V)>
         ensures value { result ≡ first_item_until K.cmp until.now self.old.entries }
         ensures reached { IfSome result (λ e. K.cmp e.0 until.now ≢ Greater) }
-        ensures removes { RemovesEntry K.cmp P.Inx.most self.old
-            (with_left P.Gen.greatest self.old (behind_first self.old.entries)) result self.new }
+        ensures gone { OnSome result (self.new ≡ without_first P.Gen.greatest self.old) }
+        ensures none { IfNone result (self.new ≡ self.old) }
+        ensures sound { IsSound K.cmp P.Inx.most self.old }
         ensures left { IfNone result
             (All (λ e. K.cmp (key_of e) until.now ≡ Greater) self.new.entries) }
     {
@@ -95,8 +98,9 @@ impl<K: Ord, V, P: BasePtr, A: Allocator> SortedArena<K, V, P, A> {
         ensures value { IfSome result (λ x. first_item self.old.entries ≡ Some x) }
         ensures asked { IfSome (first_item self.old.entries)
             (λ x. AnswersAt F.FnOnce f x.0 x.1 (is_some result)) }
-        ensures removes { RemovesEntry K.cmp P.Inx.most self.old
-            (with_left P.Gen.greatest self.old (behind_first self.old.entries)) result self.new }
+        ensures gone { OnSome result (self.new ≡ without_first P.Gen.greatest self.old) }
+        ensures none { IfNone result (self.new ≡ self.old) }
+        ensures sound { IsSound K.cmp P.Inx.most self.old }
     {
         let first = self.first()?;
         let (k, v) = self.get(first)?;
@@ -121,7 +125,7 @@ impl<K: Ord, V, P: BasePtr, A: Allocator> SortedArena<K, V, P, A> {
         V: Drop,
         ensures drains { DrainsInto P.Gen.greatest self.old
             (entries_until K.cmp until.now self.old.entries)
-            (entries_above K.cmp until.now self.old.entries)
+            (λ e. is_gt (K.cmp (key_of e) until.now))
             popped.old popped.new result self.new }
         ensures left { OnOk result
             (All (λ e. K.cmp (key_of e) until.now ≡ Greater) self.new.entries) }
@@ -135,8 +139,10 @@ impl<K: Ord, V, P: BasePtr, A: Allocator> SortedArena<K, V, P, A> {
     where
         K: Drop,
         V: Drop,
-        ensures removes { RemovesEntries P.Gen.greatest self.old
-            (entries_above K.cmp until.now self.old.entries) result self.new }
+        ensures after { self.new
+            ≡ with_passing P.Gen.greatest self.old (λ e. is_gt (K.cmp (key_of e) until.now)) }
+        ensures count { count self.new + result ≡ count self.old }
+        ensures sound { IsSound K.cmp P.Inx.most self.old }
         ensures left { All (λ e. K.cmp (key_of e) until.now ≡ Greater) self.new.entries }
     {
         let from: Bound<&'k K> = Bound::Unbounded;

@@ -1,10 +1,11 @@
 //! Entries that move into another arena.
 
-ghost use Rattle.std.specs.Prelude.{◌≡◌, ◌+◌, [], map, IfOk, IsOk, OnOk, OnErr};
+ghost use Rattle.std.specs.Prelude.{◌≡◌, ◌+◌, [], length, map, IfOk, IsOk, OnOk, OnErr};
 ghost use Rattle.std.specs.declared.ops.Bound.TheVariants.{Included, Excluded, Unbounded};
-ghost use Rattle.triple_ord.specs.Generation.{first_generation};
+ghost use Rattle.listing.specs.{Generation.first_generation, PlainArena.capacity_for};
 ghost use Rattle.sorted_arena.specs.Range.{entries_between};
-ghost use Rattle.sorted_arena.specs.Sorted.{count, item_of, with_rest};
+ghost use Rattle.sorted_arena.specs.Sorted.{count, pair_of, key_of, with_passing, IsSound};
+ghost use Rattle.std.specs.BTreeMap.Range.{range_contains};
 
 use super::SortedArena;
 use std::alloc::{AllocError, Allocator};
@@ -20,13 +21,16 @@ impl<K: Ord + Drop, V: Drop, P: BasePtr, A: Allocator> SortedArena<K, V, P, A> {
     pub fn split_off<'k>(&mut self, alloc: A, from: &'k K) -> Result<Self, AllocError>
     where
         A: Copy,
-        ensures moved { IfOk result (λ a. map item_of a.entries
-            ≡ map item_of (entries_between K.cmp (Included from.now) Unbounded self.old.entries)) }
+        ensures moved { IfOk result (λ a. map pair_of a.entries
+            ≡ map pair_of (entries_between K.cmp (Included from.now) Unbounded self.old.entries)) }
         ensures generation { IfOk result (λ a. a.generation
             ≡ first_generation P.Gen.greatest) }
+        ensures capacity { IfOk result (λ a. a.capacity ≡ capacity_for P.Inx.most 0
+            (length (entries_between K.cmp (Included from.now) Unbounded self.old.entries))) }
         ensures after { OnOk result
-            (self.new ≡ with_rest P.Gen.greatest self.old
-            (entries_between K.cmp Unbounded (Excluded from.now) self.old.entries)) }
+            (self.new ≡ with_passing P.Gen.greatest self.old
+            (λ e. range_contains K.cmp Unbounded (Excluded from.now) (key_of e))) }
+        ensures sound { IsSound K.cmp P.Inx.most self.old }
         ensures count { IfOk result (λ a. count self.new + count a ≡ count self.old) }
         ensures none { entries_between K.cmp (Included from.now) Unbounded self.old.entries ≡ []
             → IsOk result }

@@ -1,5 +1,5 @@
 use Rattle.std.proofs.{Common.◌≡◌, Common.◌-◌, Common.◌∙◌, Common.refl, Common.arith, lemmas.Grind.common_steps}
-use Rattle.order_queue.specs.Queue.{traded}
+use Rattle.order_book.specs.Queue.{traded}
 use Rattle.order_book.specs.Book.{dealt}
 use Rattle.order_book.proofs.{Deals.rests-others, Deals.deals-settle, Deals.deals-none}
 use Rattle.order_book.proofs.settling.settle.Goals as goal

@@ -1,5 +1,5 @@
 use Rattle.std.proofs.{Common.◌≡◌, Common.◌≢◌, Common.◌-◌, Common.◌∙◌, Common.Some, Common.sym, Common.subst, Common.refl, Common.arith, lemmas.Grind.common_steps}
-use Rattle.order_queue.specs.declared.side.Side.{Side}
+use Rattle.order_book.specs.declared.side.Side.{Side}
 use Rattle.order_book.specs.Book.{dealt}
 use Rattle.order_book.proofs.Deals.{id_of, side-left, rests-others, deals-settle}
 use Rattle.order_book.proofs.settling.settle_anew.Goals as goal

@@ -1,7 +1,8 @@
 use Rattle.std.proofs.Common.{◌∙◌, sym, ap}
 use Rattle.std.specs.{Option.option_map, Ordering.is_le}
 use Rattle.sorted_arena.specs.Sorted.{key_of, first_where}
-use Rattle.sorted_arena.proofs.Cutting.{sorted-in_order, bound-met, bound-behind}
+use Rattle.listing.proofs.CallerLemmas.{sorted-in_order}
+use Rattle.sorted_arena.proofs.Cutting.{bound-met, bound-behind}
 use Rattle.sorted_arena.proofs.pairs.lower_bound_by.Goals as goal
 
 pub returns-in_err-p : goal.returns-in_err-p

@@ -1,7 +1,9 @@
-use Rattle.std.proofs.Common.{◌∙◌, sym, ap, inl, inr, refl, arith, rules}
+use Rattle.std.proofs.Common.{◌∙◌, sym, ap, inl, inr, refl, arith, is_some}
 use Rattle.std.proofs.lemmas.Grind.{common_steps}
 use Rattle.std.specs.Option.{option_and_then}
-use Rattle.timeline.proofs.{Places.value-there, Places.found-there, Places.without-there, Painting.owed}
+use Rattle.sorted_arena.specs.PlainPointer.{greatest_generation}
+use Rattle.sorted_arena.proofs.CallerLemmas.{entries-without_entry}
+use Rattle.timeline.proofs.{Places.value-there, Places.found-there, Places.without-there, Taking.keeps-removed}
 use Rattle.timeline.proofs.paint.join_before.Goals as goal
 
 pub returns-then-is_same : goal.returns-then-is_same
@@ -13,9 +15,8 @@ returns-then-is_same g c =
           let found = found-there es distinct c.args.p at in
           let before = c.value_of.ensures ∙ value-there es distinct c.args.p at c.prev-before.result c.prev-before.ensures.value in
           let here = c.value_of-2.ensures ∙ ap (option_and_then (λ x. x.1)) found in
-          let gone = owed c.remove.result (c.remove.ensures.value ∙ found) c.remove.ensures.removes.gone in
-          inl (sym before ∙ c.is_same.ensures.0 c.if-is_same.true ∙ here, ap (λ a. a.entries) gone ∙ without-there es distinct c.args.p at);
-      keeps = record { capacity = search rules; sound = c.remove.ensures.removes.sound };
+          inl (sym before ∙ c.is_same.ensures.0 c.if-is_same.true ∙ here, ap (λ a. a.entries) c.remove.ensures.after ∙ entries-without_entry greatest_generation c.args.changes.now c.args.p (ap is_some found) ∙ without-there es distinct c.args.p at);
+      keeps = keeps-removed c.args.changes.now c.remove.new.self c.args.p c.remove.ensures.after c.remove.ensures.sound;
       count = grind (arith, common_steps);
     }
 

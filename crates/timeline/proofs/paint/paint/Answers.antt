@@ -1,5 +1,7 @@
 use Rattle.std.proofs.Common.{subst, rules, arith, Option, ℕ, IfSome, ◌<◌}
-use Rattle.timeline.specs.Layout.{changes_of}
+use Rattle.std.specs.{Ordering.nat_cmp, Cmp.nat_cmp_total}
+use Rattle.sorted_arena.proofs.CallerLemmas.{inserted-between}
+use Rattle.timeline.specs.{Layout.changes_of, Timeline.most_entries}
 use Rattle.timeline.proofs.Painting.{IsCleared, at_put, cleared, painted-none, painted-some, painted-refused, painted-kept, stands}
 use Rattle.timeline.proofs.paint.paint.Given.{Over}
 use Rattle.timeline.proofs.paint.paint.Goals.{After-take_over-taken}
@@ -9,7 +11,7 @@ use Rattle.timeline.proofs.paint.paint.Goals as goal
 cleared-put : (g : Over) (c : After-take_over-taken g)
     → IsCleared (changes_of c.args.changes.now) c.args.from c.args.until c.args.value c.take_over-taken.result c.take_over-taken.new.changes.entries c.insert_at-p.result
 cleared-put g c =
-    let inserted = c.insert_at-p.ensures.inserted in
+    let inserted = inserted-between nat_cmp nat_cmp_total most_entries c.args.changes.now c.insert_at-p.result (c.args.from, c.args.value) c.insert_at-p.new.changes c.insert_at-p.ensures.inserted c.insert_at-p.ensures.keeps.sound.sorted in
     let over = c.take_over-taken.ensures.taken (at_put c.args.changes.now c.insert_at-p.new.changes c.insert_at-p.result c.args.from c.args.until c.args.value inserted c.requires.rising c.requires.later) in
     cleared c.args.changes.now c.insert_at-p.new.changes c.insert_at-p.result c.args.from c.args.until c.args.value inserted c.requires.rising c.requires.later
     c.take_over-taken.result c.take_over-taken.new.changes.entries over

@@ -1,48 +1,43 @@
-use Rattle.std.proofs.Common.{◌∙◌, sym, ap, is_some}
-use Rattle.agenda.proofs.Steps.{step-stays, step-renews}
-use Rattle.std.proofs.Common.{rules}
-use Rattle.agenda.proofs.{Moving.arena-moved, Moving.rescheduled, Moving.moves-moved, Moving.count-moved, Leaving.job_of-found}
+use Rattle.std.proofs.Common.{◌≡◌, ◌∙◌, sym, ap, subst, ℕ, rules}
+use Rattle.std.specs.Ordering.{nat_cmp}
+use Rattle.listing.specs.Held.{Puts}
+use Rattle.listing.proofs.CallerLemmas.{removed-held, removed-listing}
+use Rattle.agenda.specs.{Agenda.Agenda, Agenda.greatest_generation, Agenda.most_entries, Agenda.with_entry, Agenda.IsFree, Agenda.Reschedules, Layout.agenda_of}
+use Rattle.agenda.proofs.Stepping.{renews, stays}
+use Rattle.agenda.proofs.agenda.Agenda.move_to.Given.{Over}
 use Rattle.agenda.proofs.agenda.Agenda.move_to.Goals as goal
+use Rattle.agenda.proofs.agenda.Agenda.move_to.Goals.{After-insert_behind_within-pointer}
 
-pub returns-in_err-moved-clause-gives : goal.returns-in_err-moved-clause-gives
-returns-in_err-moved-clause-gives g c =
-    let none = sym c.remove.ensures.removal.value ∙ sym c.allow.ensures ∙ c.in_err-moved.was in
-    record {
-      value = rw (← c.self.view_is, ← c.ticket.view_is) (ap is_some c.from_residual.ensures ∙ sym (ap is_some (job_of-found _ c.remove.ensures.takes.sound.distinct _ ∙ none)));
-      step = step-stays _ _ (search rules);
-      count = search rules;
-    }
+-- the job comes again
+puts : (g : Over) (c : After-insert_behind_within-pointer g)
+    → Puts nat_cmp most_entries c.remove.new.self c.insert_behind_within-pointer.result (c.args.deadline, c.in_ok-moved.moved.1) c.insert_behind_within-pointer.new.pairs
+puts g c =
+    let some = sym c.allow.ensures ∙ c.in_ok-moved.was in
+    rw c.into_k_v-job.ensures at
+    (c.insert_behind_within-pointer.ensures.puts (removed-held nat_cmp greatest_generation c.self.inside.jobs c.remove.new.self c.ticket.inside.pointer (rw some at c.remove.ensures.removal.removed) c.self.invariant))
 
 pub invariant_of-self-2 : goal.invariant_of-self-2
-invariant_of-self-2 g c =
+invariant_of-self-2 g c = (puts g c).held
+
+moved : (g : Over) (c : After-insert_behind_within-pointer g)
+    → Reschedules (agenda_of c.self.inside.jobs) c.ticket.inside.pointer c.insert_behind_within-pointer.result c.args.deadline (agenda_of c.insert_behind_within-pointer.new.pairs)
+moved g c =
     let some = sym c.allow.ensures ∙ c.in_ok-moved.was in
-    arena-moved c.self.inside.jobs c.remove.new.self c.put_within-pointer.new.jobs c.ticket.inside.pointer c.put_within-pointer.result c.args.deadline c.in_ok-moved.moved
-    c.remove.ensures.takes.sound c.self.invariant (sym c.remove.ensures.removal.value ∙ some) (rw some at c.remove.ensures.removal.removed)
-    (rw c.into_k_v-job.ensures at c.put_within-pointer.ensures)
+    let named = sym c.remove.ensures.removal.value ∙ some in
+    let gone = removed-listing nat_cmp greatest_generation c.self.inside.jobs c.remove.new.self c.ticket.inside.pointer _ named (rw some at c.remove.ensures.removal.removed) in
+    let job = puts g c in
+    record {
+      left = c.in_ok-moved.moved;
+      named = sym named;
+      free = subst (λ (a : Agenda g.row.J.Denot). IsFree a c.insert_behind_within-pointer.result) gone job.free;
+      after = job.equation ∙ ap (λ (a : Agenda g.row.J.Denot). with_entry nat_cmp most_entries a c.insert_behind_within-pointer.result (c.args.deadline, c.in_ok-moved.moved.1)) gone;
+    }
 
 pub returns-clause-moved : goal.returns-clause-moved
-returns-clause-moved g c =
-    let some = sym c.allow.ensures ∙ c.in_ok-moved.was in
-    rw (← c.self.view_is, ← c.ticket.view_is) (rescheduled c.self.inside.jobs c.remove.new.self c.put_within-pointer.new.jobs c.ticket.inside.pointer c.put_within-pointer.result c.args.deadline c.in_ok-moved.moved
-    c.remove.ensures.takes.sound c.self.invariant (sym c.remove.ensures.removal.value ∙ some) (rw some at c.remove.ensures.removal.removed)
-    (rw c.into_k_v-job.ensures at c.put_within-pointer.ensures))
+returns-clause-moved g c = rw (← c.self.view_is, ← c.ticket.view_is) (moved g c)
 
-pub returns-clause-moves : goal.returns-clause-moves
-returns-clause-moves g c =
-    let some = sym c.allow.ensures ∙ c.in_ok-moved.was in
-    rw (← c.self.view_is, ← c.ticket.view_is) (moves-moved c.self.inside.jobs c.remove.new.self c.put_within-pointer.new.jobs c.ticket.inside.pointer c.put_within-pointer.result c.args.deadline c.in_ok-moved.moved
-    c.remove.ensures.takes.sound c.self.invariant (sym c.remove.ensures.removal.value ∙ some) (rw some at c.remove.ensures.removal.removed)
-    (rw c.into_k_v-job.ensures at c.put_within-pointer.ensures))
+pub returns-clause-step : goal.returns-clause-step
+returns-clause-step g c = rw (← c.self.view_is) (renews _ _ _ _ _ c.remove.ensures.takes.sound.distinct (moved g c))
 
-pub returns-clause-gives : goal.returns-clause-gives
-returns-clause-gives g c =
-    let some = sym c.allow.ensures ∙ c.in_ok-moved.was in
-    let removed = rw some at c.remove.ensures.removal.removed in
-    let puts = rw c.into_k_v-job.ensures at c.put_within-pointer.ensures in
-    record {
-      value = rw (← c.self.view_is, ← c.ticket.view_is) (sym (ap is_some (job_of-found _ c.remove.ensures.takes.sound.distinct _ ∙ sym c.remove.ensures.removal.value ∙ some)));
-      step = rw (← c.self.view_is) (step-renews _ _ _ _ _ (rescheduled c.self.inside.jobs c.remove.new.self c.put_within-pointer.new.jobs c.ticket.inside.pointer c.put_within-pointer.result c.args.deadline c.in_ok-moved.moved
-          c.remove.ensures.takes.sound c.self.invariant (sym c.remove.ensures.removal.value ∙ some) removed puts));
-      count = rw (← c.self.view_is) (count-moved c.self.inside.jobs c.remove.new.self c.put_within-pointer.new.jobs c.ticket.inside.pointer c.put_within-pointer.result c.args.deadline c.in_ok-moved.moved
-          c.remove.ensures.takes.sound c.self.invariant (sym c.remove.ensures.removal.value ∙ some) removed puts);
-    }
+pub returns-in_err-moved-clause-step : goal.returns-in_err-moved-clause-step
+returns-in_err-moved-clause-step g c = stays _ _ (search rules)

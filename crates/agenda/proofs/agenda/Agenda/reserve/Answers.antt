@@ -1,10 +1,5 @@
-use Rattle.std.proofs.Common.{rules}
-use Rattle.agenda.proofs.Room.{step-reserved}
+use Rattle.agenda.proofs.Stepping.{resizes}
 use Rattle.agenda.proofs.agenda.Agenda.reserve.Goals as goal
 
-pub returns-clause-grows : goal.returns-clause-grows
-returns-clause-grows g c = record {
-  generation = search rules;
-  err = search rules;
-  step = rw (← c.self.view_is) (step-reserved c.self.inside.jobs c.reserve.new.self c.reserve.ensures.entries c.reserve.ensures.generation);
-}
+pub returns-clause-step : goal.returns-clause-step
+returns-clause-step g c = rw (← c.self.view_is) (resizes _ _ c.reserve.ensures.entries)

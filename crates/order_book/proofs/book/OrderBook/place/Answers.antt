@@ -1,5 +1,5 @@
 use Rattle.std.proofs.Common.{sym, subst, ap, ◌∙◌}
-use Rattle.order_queue.specs.declared.side.Side.TheVariants.{Buy, Sell}
+use Rattle.order_book.specs.declared.side.Side.TheVariants.{Buy, Sell}
 use Rattle.order_book.specs.Book.{Book, IsBook, opposite}
 use Rattle.order_book.proofs.Pairs.{pair-settled_bid, pair-settled_ask}
 use Rattle.order_book.proofs.Rooms.{granted, room-on}

@@ -1,7 +1,7 @@
-use Rattle.order_queue.specs.Queue.{with_left}
+use Rattle.order_book.specs.Queue.{with_left}
 use Rattle.order_book.specs.declared.new_order.OrderKind.TheVariants.{Limit}
 use Rattle.std.proofs.Common.{sym, subst, ap, ◌∙◌}
-use Rattle.order_queue.specs.declared.side.Side.TheVariants.{Buy, Sell}
+use Rattle.order_book.specs.declared.side.Side.TheVariants.{Buy, Sell}
 use Rattle.order_book.specs.Book.{Book, IsBook, opposite}
 use Rattle.order_book.proofs.Pairs.{pair-without_bid, pair-without_ask, pair-settled_bid, pair-settled_ask}
 use Rattle.order_book.proofs.Rooms.{granted, room-on}

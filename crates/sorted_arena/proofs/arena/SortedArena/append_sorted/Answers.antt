@@ -1,5 +1,5 @@
-use Rattle.std.proofs.Common.{◌∙◌}
-use Rattle.triple_ord.proofs.TreeLemmas.{numbers-appended}
+use Rattle.std.proofs.Common.{◌∙◌, inl}
+use Rattle.listing.proofs.TreeLemmas.{numbers-appended}
 use Rattle.sorted_arena.proofs.{Changing.owed-appended, Extending.sorted-listed, Numbering.compact-appended}
 use Rattle.sorted_arena.proofs.arena.SortedArena.append_sorted.Goals as goal
 
@@ -17,3 +17,10 @@ invariant_of-self g c =
       };
       compact = λ is. compact-appended c.self.inside.pairs.list call.new.self.list _ (c.self.invariant.compact is) appends;
     }
+
+pub returns-clause-step : goal.returns-clause-step
+returns-clause-step g c =
+    let call = c.append_pairs_within_capacity in
+    let room = rw (← c.self.view_is) at c.requires.room in
+    let found = owed-appended _ _ _ call.result call.ensures.full room call.ensures.found in
+    rw (← c.self.view_is) (record { comes = λ q none there. inl (found.added q none there) })

@@ -1,9 +1,10 @@
 use Rattle.std.proofs.Common.{◌≡◌, ◌∙◌, Bool, true, false, Bor, Option, Some, refl, sym, ap}
 use Rattle.std.specs.{Fn.Called, Option.option_map}
 use denote.Param.Members.{Mut}
-use Rattle.triple_ord.specs.Chain.{Entry}
+use Rattle.listing.specs.Chain.{Entry}
 use Rattle.sorted_arena.specs.Answer.{AnswersFor}
 use Rattle.sorted_arena.proofs.{Cutting.some-same, Placing.some-unless, Taking.cut-found, Taking.takes-out, Taking.asks-kept, Taking.asks-gone}
+use Rattle.listing.proofs.CallerLemmas.{removed-sound}
 use Rattle.sorted_arena.proofs.arena.SortedArena.ask.Goals as goal
 
 -- what the test answers for references to the key and the value of an entry, it answers for the entry
@@ -38,4 +39,7 @@ returns-clause-asks g c at =
     asks-gone greatest c.args.self.now distinct (Some p) p refl at (AnswersFor g.F.FnMut) c.args.f.now c.f.new.self
     (answered g.F.FnMut c.args.f.now c.f.new.self false at.entry c.get.result c.unwrap.result c.unwrap.ensures (c.get.ensures ∙ found) c.if-f.ensures)
     c.remove.new.self at.entry.item after
-    (takes-out greatest c.args.self.now distinct (Some p) p refl at c.remove.new.self at.entry.item (sym found) (rw (c.remove.ensures.value ∙ found) at c.remove.ensures.removes.gone) after c.next-next.ensures.value)
+    (takes-out greatest c.args.self.now distinct (Some p) p refl at c.remove.new.self at.entry.item (sym found) c.remove.ensures.after after c.next-next.ensures.value)
+
+pub returns-clause-sound : goal.returns-clause-sound
+returns-clause-sound g c = rw c.remove.ensures.after (removed-sound g.K.Ord.cmp g.P.Inx.BasePtrInx.most g.P.Gen.BasePtrGen.greatest c.args.self.now (g.P.BasePtr.numbers c.args.p) c.next-next.ensures.sound)

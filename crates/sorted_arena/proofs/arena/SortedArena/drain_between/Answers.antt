@@ -1,7 +1,7 @@
 use Rattle.std.proofs.Common.{◌≡◌, ◌∙◌, ◌++◌, List, [], ◌∷◌, Result, Ok, Err, IsOk, is_ok, if◌then◌else◌, map, append_assoc, sym, ap, arith, rules}
 use Rattle.std.proofs.{lemmas.List.append-nil, lemmas.List.map-append}
 use Rattle.std.specs.Range.Bound.{bound_map}
-use Rattle.sorted_arena.specs.Sorted.{item_of}
+use Rattle.sorted_arena.specs.Sorted.{pair_of, with_passing}
 use Rattle.sorted_arena.proofs.{Outside.range-part, Taking.taking-none, Taking.cut-next, Taking.taking-more, Taking.taking-done}
 use Rattle.sorted_arena.proofs.arena.SortedArena.drain_between.Goals as goal
 
@@ -26,12 +26,13 @@ loop-preserved g c =
     let put = pushed c.push.result c.loop.drained.items c.push.new.self.items c.take-pair.result.0 c.push.ensures.items (c.push.ensures.succeeds (omega (arith, c.loop.invariant.room, c.loop-test.true))) in
     record {
       taking = taking-more _ _ _ _ _ _ _ _ c.loop.invariant.taking (omega (arith, c.loop-test.true, c.run_between-first.ensures.count)) c.take-pair.result.0 c.take-pair.new.self _ _ c.take-pair.ensures.takes
-          (λ taken later e cut is was. put ∙ ap (λ xs. xs ++ c.take-pair.result.0 ∷ []) was ∙ append_assoc c.args.drained.now.items (map item_of taken) (c.take-pair.result.0 ∷ [])
-          ∙ ap (λ x. c.args.drained.now.items ++ (map item_of taken ++ x ∷ [])) is ∙ ap (λ xs. c.args.drained.now.items ++ xs) (sym (map-append item_of taken (e ∷ []))));
+          (λ taken later e cut is was. put ∙ ap (λ xs. xs ++ c.take-pair.result.0 ∷ []) was ∙ append_assoc c.args.drained.now.items (map pair_of taken) (c.take-pair.result.0 ∷ [])
+          ∙ ap (λ x. c.args.drained.now.items ++ (map pair_of taken ++ x ∷ [])) is ∙ ap (λ xs. c.args.drained.now.items ++ xs) (sym (map-append pair_of taken (e ∷ []))));
       room = omega (arith, c.loop.invariant.room, c.push.ensures.upper_bound, c.push.ensures.capacity);
     }
 
 pub returns-clause-drains : goal.returns-clause-drains
+unfolding with_passing
 returns-clause-drains g c =
     let done = taking-done _ _ _ _ _ _ _ _ c.loop.invariant.taking (omega (arith, c.run_between-first.ensures.count, c.loop.auto.counter-end, c.loop-test.false)) in
     record { drained = done.2; after = done.0; room = search rules; kept = search rules; err = search rules }

@@ -1,6 +1,6 @@
 use Rattle.std.proofs.Common.{◌≡◌, ◌+◌, ◌≤◌, ◌++◌, map, vec_len}
 use Rattle.std.specs.{Option.option_map, Range.Bound.bound_map, Vec.vec_capacity}
-use Rattle.sorted_arena.specs.{Range.entries_between, Range.entries_outside, Sorted.item_of}
+use Rattle.sorted_arena.specs.{Range.entries_between, Range.entries_outside, Sorted.pair_of}
 use Rattle.sorted_arena.proofs.Taking.{Taking}
 use Rattle.sorted_arena.proofs.arena.SortedArena.drain_between.Given as goal
 
@@ -9,6 +9,6 @@ abbrev pub invariant-loop : goal.invariant-loop
 invariant-loop g l = record {
   taking : Taking g.P.Gen.BasePtrGen.greatest l.fn.self (entries_between g.K.Ord.cmp (bound_map (λ k. k.now) l.fn.from) (bound_map (λ k. k.now) l.fn.until) l.fn.self.entries)
       (entries_outside g.K.Ord.cmp (bound_map (λ k. k.now) l.fn.from) (bound_map (λ k. k.now) l.fn.until) l.fn.self.entries) l.self (option_map g.P.BasePtr.numbers l.next)
-      l.counter (λ taken. l.drained.items ≡ l.fn.drained.items ++ map item_of taken);
+      l.counter (λ taken. l.drained.items ≡ l.fn.drained.items ++ map pair_of taken);
   room : vec_len l.drained + l.count ≤ vec_capacity l.drained + l.counter;
 }

@@ -1,17 +1,19 @@
 use Rattle.std.proofs.Common.{◌∙◌, [], ◌++◌, List, map, sym, ap, rules, append-nil}
-use Rattle.triple_ord.specs.Chain.{Entry}
-use Rattle.sorted_arena.specs.Sorted.{item_of}
+use Rattle.listing.specs.Chain.{Entry}
+use Rattle.sorted_arena.specs.Sorted.{pair_of}
 use Rattle.sorted_arena.proofs.arena.SortedArena.extend_sorted.Goals as goal
 
 pub returns-then-is_made_ready : goal.returns-then-is_made_ready
 returns-then-is_made_ready g c =
-    let all = c.append_sorted.ensures.items ∙ ap (λ (es : List (Entry (g.row.K.Denot × g.row.V.Denot))). map item_of es ++ c.args.pairs.items) c.is_made_ready.ensures.kept.entries in
+    let all = c.append_sorted.ensures.items ∙ ap (λ (es : List (Entry (g.row.K.Denot × g.row.V.Denot))). map pair_of es ++ c.args.pairs.items) c.is_made_ready.ensures.kept.entries in
     record {
       ok = all;
       unsorted = search rules;
+      before = search rules;
       part = (c.args.pairs.items, [], sym (append-nil c.args.pairs.items), all);
       kept = search rules;
       generation = search rules;
+      step = record { comes = λ q none there. rw c.is_made_ready.ensures.kept.generation at (c.append_sorted.ensures.step.comes q (rw (← c.is_made_ready.ensures.kept.entries) at none) there) };
       full = search rules;
       memory = search rules;
     }

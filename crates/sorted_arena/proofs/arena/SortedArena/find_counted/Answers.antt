@@ -1,7 +1,8 @@
 use Rattle.std.proofs.Common.{◌≡◌, ◌≢◌, rules}
 use Rattle.std.specs.{Ordering.is_eq, declared.cmp.Ordering.TheVariants.Equal}
 use Rattle.sorted_arena.specs.Layout.{sorted_of}
-use Rattle.sorted_arena.proofs.Cutting.{sorted-in_order, found-equal, finds-first, eq_is, not_eq}
+use Rattle.listing.proofs.CallerLemmas.{sorted-in_order}
+use Rattle.sorted_arena.proofs.Cutting.{found-equal, finds-first, eq_is, not_eq}
 use Rattle.sorted_arena.proofs.arena.SortedArena.find_counted.Goals as goal
 
 pub returns : goal.returns

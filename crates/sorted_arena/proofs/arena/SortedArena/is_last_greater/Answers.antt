@@ -4,8 +4,8 @@ use Rattle.sorted_arena.specs.Sorted.{last_item}
 use Rattle.sorted_arena.proofs.Cutting.{last-named}
 use Rattle.sorted_arena.proofs.arena.SortedArena.is_last_greater.Goals as goal
 
-pub returns-in-Some-key : goal.returns-in-Some-key
-returns-in-Some-key g c =
+pub returns-in-Some-key-clause-value : goal.returns-in-Some-key-clause-value
+returns-in-Some-key-clause-value g c =
     let named = (last-named c.args.self.now.entries c.in-Some.ensures.sound.distinct (g.P.BasePtr.numbers c.in-Some.p) (sym c.in-Some.ensures.value)).0 in
     let key : Some c.in-Some-key.last.now ≡ option_map (λ e. e.0) (last_item c.args.self.now.entries) = c.in-Some-key.ensures ∙ ap (option_map (λ (e : g.row.K.Denot × g.row.V.Denot). e.0)) named in
     c.is_gt.ensures ∙ ap is_gt c.cmp.ensures ∙ told (last_item c.args.self.now.entries) key

@@ -1,5 +1,6 @@
 use Rattle.std.proofs.Common.{arith}
 use Rattle.std.specs.Range.Bound.{bound_map}
+use Rattle.sorted_arena.specs.Sorted.{with_passing}
 use Rattle.sorted_arena.proofs.{Outside.range-part, Taking.taking-none, Taking.cut-next, Taking.taking-more, Taking.taking-done}
 use Rattle.sorted_arena.proofs.arena.SortedArena.remove_between.Goals as goal
 
@@ -15,7 +16,12 @@ pub loop-preserved : goal.loop-preserved
 loop-preserved g c =
     taking-more _ _ _ _ _ _ _ _ c.loop.invariant (omega (arith, c.loop-test.true, c.run_between-first.ensures.count)) c.take-next.result.0 c.take-next.new.self _ _ c.take-next.ensures.takes (λ taken later e cut is was. tt)
 
-pub returns-clause-removes : goal.returns-clause-removes
-returns-clause-removes g c =
+pub returns-clause-after : goal.returns-clause-after
+unfolding with_passing
+returns-clause-after g c =
+    (taking-done _ _ _ _ _ _ _ _ c.loop.invariant (omega (arith, c.run_between-first.ensures.count, c.loop.auto.counter-end, c.loop-test.false))).0
+
+pub returns-clause-count : goal.returns-clause-count
+returns-clause-count g c =
     let done = taking-done _ _ _ _ _ _ _ _ c.loop.invariant (omega (arith, c.run_between-first.ensures.count, c.loop.auto.counter-end, c.loop-test.false)) in
-    record { after = done.0; count = omega (arith, done.1, c.loop.auto.counter-end, c.loop-test.false) }
+    omega (arith, done.1, c.loop.auto.counter-end, c.loop-test.false)

@@ -1,5 +1,7 @@
+use Rattle.std.proofs.Common.{◌≡◌, ℕ, Option, Some, ap, inl, refl, rules}
+use Rattle.sorted_arena.specs.{Sorted.Sorted, Sorted.get, Sorted.with_value, Layout.sorted_of}
 use Rattle.sorted_arena.proofs.{Cutting.written-found, Numbering.compact-written}
-use Rattle.triple_ord.proofs.ChainLemmas.{length-with_item_among}
+use Rattle.listing.proofs.ChainLemmas.{length-with_item_among}
 use Rattle.sorted_arena.proofs.arena.SortedArena.value_mut.Goals as goal
 
 pub invariant_of-self-lent : goal.invariant_of-self-lent
@@ -10,3 +12,6 @@ invariant_of-self-lent g c w = record {
   };
   compact = λ is. compact-written c.self.inside.pairs.list _ _ (length-with_item_among c.self.inside.pairs.list.entries _ _) (c.self.invariant.compact is);
 }
+
+pub returns : goal.returns
+returns g c = rw (← c.self.view_is) (rw (← c.in_ok-pair.ensures.value.value) (search rules))

@@ -1,5 +1,5 @@
 use Rattle.std.proofs.Common.{refl}
-use Rattle.triple_ord.specs.Chain.{new_chain}
+use Rattle.listing.specs.Chain.{new_chain}
 use Rattle.sorted_arena.proofs.Numbering.{compact-resized}
 use Rattle.sorted_arena.proofs.arena.SortedArena.with_room.Goals as goal
 

@@ -1,7 +1,7 @@
 use Rattle.std.proofs.Common.{◌≡◌, ◌+◌, ◌-◌, Some, [], length, sym, ap, arith, ◌∙◌, Bor}
 use Rattle.std.specs.Option.{option_map}
 use Rattle.sorted_arena.specs.Range.{shown_entry}
-use Rattle.triple_ord.specs.Link.{Link}
+use Rattle.listing.specs.Link.{Link}
 use Rattle.sorted_arena.proofs.Stretching.{stretch-same, first-linked, steps-first, StepsFirst}
 use Rattle.sorted_arena.proofs.Placing.{left-linked, place-linked, linked-place, left-numbered, place-numbered, yields-front, some-unless}
 use Rattle.sorted_arena.proofs.range.RangeIterator.next.Goals as goal

@@ -1,0 +1,78 @@
+-- That each call is a step of an agenda.
+use Rattle.std.proofs.Common.{◌≡◌, ◌≢◌, ℕ, List, [], Bool, true, false, Option, Some, None, IfNone, OnSome, IsSome, is_some, refl, sym, ap, subst, ◌∙◌, inl, inr, ◌⊎◌, arith, if◌then◌else◌, ◌+◌}
+use Rattle.std.specs.Ordering.{nat_cmp}
+use Rattle.std.proofs.lemmas.Bool.Decides.{eqb_tells}
+use Rattle.listing.specs.{Chain.Entry, Chain.item_of, Chain.IsDistinct, Chain.without, Generation.next_generation}
+use Rattle.listing.specs.Steps.{Raises}
+use Rattle.listing.proofs.CallerLemmas.{generation-with_entry}
+use Rattle.listing.proofs.CallerLemmas.{step-stays, step-without_entry, step-with_entry, none-with_entry, step-with_key, none-with_key, step-emptied}
+use Rattle.agenda.specs.Agenda.{Agenda, get, greatest_generation, most_entries, with_entry, with_key, with_left, without_entry, IsFree, Reschedules}
+use Rattle.agenda.specs.Tickets.{IsStep}
+
+next-other : (g : ℕ) → next_generation greatest_generation g ≢ g
+next-other g same = elim (eqb_tells g 18446744073709551615) [
+  | inl h ↦ absurd (let two : 2 ≡ g = rw h.0 at same in omega (arith, two, h.1))
+  | inr h ↦ absurd (let more : g + 1 ≡ g = rw h.0 at same in omega (arith, more))
+]
+
+module _ {J : Type 0} (old : Agenda J) where
+  pub stays : (new : Agenda J) → new ≡ old → IsStep old new
+  unfolding IsStep Raises
+  stays new same = record { comes = step-stays old new same; raises = inl (λ q there. subst (λ (a : Agenda J). IsSome (get a q)) (sym same) there) }
+
+  pub comes : (new : Agenda J) (t : ℕ × ℕ) (job : ℕ × J) → IsFree old t → new ≡ with_entry nat_cmp most_entries old t job → IsStep old new
+  unfolding IsStep Raises
+  comes new t job free is = subst (λ (a : Agenda J). IsStep old a) (sym is)
+      (record { comes = step-with_entry nat_cmp most_entries old t job free; raises = inl (none-with_entry nat_cmp most_entries old t job free) })
+
+  pub moves : (new : Agenda J) (t : ℕ × ℕ) (deadline : ℕ) → IsDistinct old.entries → new ≡ with_key nat_cmp old t deadline → IsStep old new
+  unfolding IsStep Raises
+  moves new t deadline distinct is = subst (λ (a : Agenda J). IsStep old a) (sym is)
+      (record { comes = step-with_key nat_cmp old t deadline distinct; raises = inl (none-with_key nat_cmp old t deadline distinct) })
+
+  raised : (t : ℕ × ℕ) → Raises old (without_entry greatest_generation old t)
+  unfolding Raises without_entry
+  raised t = go (get old t)
+    where
+      go : (o : Option (ℕ × J)) → Raises old (if is_some o then with_left greatest_generation old (without t.0 old.entries) else old)
+      go None = inl (λ q there. there)
+      go (Some job) = inr (next-other old.generation)
+
+  pub leaves : (new : Agenda J) (t : ℕ × ℕ) → IsDistinct old.entries → new ≡ without_entry greatest_generation old t → IsStep old new
+  unfolding IsStep
+  leaves new t distinct is = subst (λ (a : Agenda J). IsStep old a) (sym is) (record { comes = step-without_entry greatest_generation old t distinct; raises = raised t })
+
+  -- a job leaves and comes again
+  pub renews : (new : Agenda J) (t u : ℕ × ℕ) (deadline : ℕ) → IsDistinct old.entries → Reschedules old t u deadline new → IsStep old new
+  unfolding IsStep Raises without_entry
+  renews new t u deadline distinct r =
+      let mid : Agenda J = without_entry greatest_generation old t in
+      let same : new.generation ≡ mid.generation = ap (λ (a : Agenda J). a.generation) r.after ∙ generation-with_entry nat_cmp most_entries mid u (deadline, r.left.1) in
+      record { comes = record { comes = λ q none there. go q none there (get mid q) refl same }; raises = inr (λ still. next-other old.generation (raise same still)) }
+    where
+      go : (q : ℕ × ℕ) → get old q ≡ None → IsSome (get new q) → (o : Option (ℕ × J)) → get (without_entry greatest_generation old t) q ≡ o
+          → new.generation ≡ (without_entry greatest_generation old t).generation → (q.1 ≡ old.generation) ⊎ (q.1 ≡ new.generation)
+      go q none there None is same = elim ((step-with_entry nat_cmp most_entries (without_entry greatest_generation old t) u (deadline, r.left.1) r.free).comes q is (subst (λ (a : Agenda J). IsSome (get a q)) r.after there)) [
+        | inl at ↦ inr (at ∙ sym same)
+        | inr at ↦ inr (at ∙ sym (ap (λ (a : Agenda J). a.generation) r.after))
+      ]
+      go q none there (Some x) is same = elim ((step-without_entry greatest_generation old t distinct).comes q none (ap is_some is)) [
+        | inl at ↦ inl at
+        | inr at ↦ inr (at ∙ sym same)
+      ]
+
+      raise : new.generation ≡ (without_entry greatest_generation old t).generation → new.generation ≡ old.generation → next_generation greatest_generation old.generation ≡ old.generation
+      raise same still = rw (← r.named) at (sym same) ∙ still
+
+  pub empties : (new : Agenda J) → new ≡ with_left greatest_generation old [] → IsStep old new
+  unfolding IsStep Raises
+  empties new is = subst (λ (a : Agenda J). IsStep old a) (sym is) (record { comes = step-emptied greatest_generation old; raises = inr (next-other old.generation) })
+
+  pub resizes : (new : Agenda J) → new.entries ≡ old.entries → IsStep old new
+  unfolding IsStep Raises
+  resizes new same =
+      let found : (q : ℕ × ℕ) → get new q ≡ get old q = λ q. ap (λ (es : List (Entry (ℕ × J))). item_of es q) same in
+      record {
+        comes = record { comes = λ q none there. absurd (let lost : is_some (get new q) ≡ is_some {T = ℕ × J} None = ap is_some (found q ∙ none) in cc) };
+        raises = inl (λ q there. subst (λ (o : Option (ℕ × J)). IsSome o) (sym (found q)) there);
+      }

@@ -1,0 +1,193 @@
+-- What one side of an order book is: a list of resting orders in the order in which they trade, by price, and at equal prices by age.
+use Rattle.std.specs.Prelude.{◌≡◌, ◌≢◌, ℕ, zero, suc, ◌+◌, ◌-◌, ◌≤◌, ◌<◌, min, ◌==◌, ◌&&◌, leb, nat_lt, if◌then◌else◌, Bool, List, [], ◌∷◌, ◌++◌, length, take, Option, Some, None, IfNone}
+use Rattle.std.specs.List.{AllByRecursion}
+use Rattle.sorted_arena.specs.PlainArena.{doubled_capacity}
+use Rattle.order_book.specs.{declared.side.Side.TheVariants.Buy, declared.side.Side.TheVariants.Sell, declared.order.Order.Order}
+use Rattle.order_book.specs.{declared.order.Trade.Trade, declared.level.Level.Level, declared.side.Side.Side}
+-- how many orders one side can have, and the generation after one
+pub use Rattle.sorted_arena.specs.PlainPointer.{most_entries, generation_after}
+
+-- One side of a book: its orders, first the one that trades first; the generation of the next order's pointer; and how many orders it
+-- holds without growing.
+pub record Queue : Type 0 where
+  pub side : Side
+  pub orders : List Order
+  pub generation : ℕ
+  pub capacity : ℕ
+
+-- For buyers the higher price is the better, for sellers the lower: a price p is no worse than q, and p is worse than q.
+abbrev pub IsNoWorse : Side → ℕ → ℕ → Type 0
+IsNoWorse Buy p q = q ≤ p
+IsNoWorse Sell p q = p ≤ q
+
+abbrev pub IsWorse : Side → ℕ → ℕ → Type 0
+IsWorse Buy p q = p < q
+IsWorse Sell p q = q < p
+
+-- whether an order of this side meets the limit of an order of the other side: its price is the limit, or better for that one
+abbrev pub meets : Side → ℕ → ℕ → Bool
+meets Buy price limit = leb limit price
+meets Sell price limit = leb price limit
+
+-- no order stands behind one with a worse price
+abbrev pub IsInOrder : Side → List Order → Type 0
+IsInOrder side [] = Unit {0}
+IsInOrder side (x ∷ xs) = AllByRecursion (λ y. IsNoWorse side x.price y.price) xs × IsInOrder side xs
+
+-- whether this pointer names the order
+abbrev pub is_named_by : ℕ × ℕ → Order → Bool
+is_named_by p x = (x.id.pointer.0 == p.0) && (x.id.pointer.1 == p.1)
+
+-- the order that a pointer names; None if it names none
+abbrev pub order_of : List Order → ℕ × ℕ → Option Order
+order_of [] p = None
+order_of (x ∷ xs) p = if is_named_by p x then Some x else order_of xs p
+
+-- the orders without the one that a pointer names
+abbrev pub without : List Order → ℕ × ℕ → List Order
+without [] p = []
+without (x ∷ xs) p = if is_named_by p x then xs else x ∷ without xs p
+
+-- an order of which so much is left
+abbrev pub with_rest : Order → ℕ → Order
+with_rest x n = record x { quantity = n }
+
+-- the orders, of which the one that a pointer names has this quantity
+abbrev pub with_quantity : List Order → ℕ × ℕ → ℕ → List Order
+with_quantity [] p n = []
+with_quantity (x ∷ xs) p n = if is_named_by p x then with_rest x n ∷ xs else x ∷ with_quantity xs p n
+
+-- no pointer names two orders
+abbrev pub IsDistinct : List Order → Type 0
+IsDistinct [] = Unit {0}
+IsDistinct (x ∷ xs) = (order_of xs x.id.pointer ≡ None) × IsDistinct xs
+
+-- the greatest quantity of an order
+abbrev pub most_quantity : ℕ
+most_quantity = 18446744073709551615
+
+-- there are no more orders than a side can have, each of at most the greatest quantity, so 128 bits hold the sum
+pub record AreSummable (xs : List Order) : Type 0 where
+  pub few : length xs ≤ most_entries
+  pub bounded : AllByRecursion (λ x. x.quantity ≤ most_quantity) xs
+
+-- What is true of every side of a book: its orders are of that side and in order, no pointer names two of them, of each something is
+-- left, and all fit in the capacity.
+pub record IsSound (q : Queue) : Type 0 where
+  pub of_side : AllByRecursion (λ x. x.id.side ≡ q.side) q.orders
+  pub in_order : IsInOrder q.side q.orders
+  pub distinct : IsDistinct q.orders
+  pub some_left : AllByRecursion (λ x. 0 < x.quantity) q.orders
+  pub summable : AreSummable q.orders
+  pub within : length q.orders ≤ q.capacity
+  pub limited : q.capacity ≤ most_entries
+
+-- so many more orders fit without growing
+abbrev pub HasRoomFor : ℕ → Queue → Type 0
+HasRoomFor n q = length q.orders + n ≤ q.capacity
+
+-- the order that trades first
+abbrev pub first_of : List Order → Option Order
+first_of [] = None
+first_of (x ∷ xs) = Some x
+
+-- the whole quantity of some orders
+abbrev pub total : List Order → ℕ
+total [] = 0
+total (x ∷ xs) = x.quantity + total xs
+
+-- an order joins the level in front if it has its price; otherwise it makes a level of its own
+abbrev pub joined : Order → List Level → List Level
+joined x [] = record { price = x.price; quantity = x.quantity; count = 1 } ∷ []
+joined x (l ∷ ls) =
+    if l.price == x.price then record { price = x.price; quantity = x.quantity + l.quantity; count = suc l.count } ∷ ls
+    else record { price = x.price; quantity = x.quantity; count = 1 } ∷ l ∷ ls
+
+-- the orders by price: for each price its whole quantity and its number of orders
+abbrev pub levels_of : List Order → List Level
+levels_of [] = []
+levels_of (x ∷ xs) = joined x (levels_of xs)
+
+-- the first levels
+abbrev pub first_levels : ℕ → List Order → List Level
+first_levels n xs = take n (levels_of xs)
+
+-- how much the orders that meet a limit offer in all
+abbrev pub within : Side → ℕ → List Order → ℕ
+within side limit [] = 0
+within side limit (x ∷ xs) = (if meets side x.price limit then x.quantity else 0) + within side limit xs
+
+-- how much an order of the other side trades: what it wants, and at most what meets its limit
+abbrev pub traded : Queue → ℕ → ℕ → ℕ
+traded q limit quantity = min quantity (within q.side limit q.orders)
+
+-- a trade with a resting order, at its price
+abbrev pub trade_with : Order → ℕ → Trade
+trade_with x n = record { order = x.id; price = x.price; quantity = n; tag = x.tag }
+
+-- The first n units of the orders, as trades: each with as much as is taken of its order.
+abbrev pub trades_of_first : ℕ → List Order → List Trade
+trades_of_first n [] = []
+trades_of_first n (x ∷ xs) = if n == 0 then [] else trade_with x (min n x.quantity) ∷ trades_of_first (n - x.quantity) xs
+
+-- how much trades come to
+abbrev pub volume : List Trade → ℕ
+volume [] = 0
+volume (t ∷ ts) = t.quantity + volume ts
+
+-- the orders without their first n units: those that are filled have left, and the next has so much less
+abbrev pub behind : ℕ → List Order → List Order
+behind n [] = []
+behind n (x ∷ xs) = if nat_lt n x.quantity then with_rest x (x.quantity - n) ∷ xs else behind (n - x.quantity) xs
+
+-- the generation once the first n units were taken: the next one for each order that is filled
+abbrev pub generation_behind : ℕ → List Order → ℕ → ℕ
+generation_behind n [] g = g
+generation_behind n (x ∷ xs) g = if nat_lt n x.quantity then g else generation_behind (n - x.quantity) xs (generation_after g)
+
+-- a queue without its first n units
+abbrev pub taken : ℕ → Queue → Queue
+taken n q = record q { orders = behind n q.orders; generation = generation_behind n q.orders q.generation }
+
+-- a queue without the order that a pointer named: the generation is the next one
+abbrev pub with_left : Queue → ℕ × ℕ → Queue
+with_left q p = record q { orders = without q.orders p; generation = generation_after q.generation }
+
+-- A queue after so much is left of the order that a pointer names. It keeps its place; if nothing is left, it leaves.
+abbrev pub reduced : Queue → ℕ × ℕ → ℕ → Queue
+reduced q p zero = with_left q p
+reduced q p (suc left) = record q { orders = with_quantity q.orders p (suc left) }
+
+-- what a pointer names after so many units were taken off the order that it named; nothing if nothing is left
+abbrev pub reduced_order : Option Order → ℕ → Option Order
+reduced_order None n = None
+reduced_order (Some x) n = if nat_lt n x.quantity then Some (with_rest x (x.quantity - n)) else None
+
+-- a resting order by its parts
+abbrev pub resting : Side → ℕ × ℕ → ℕ → ℕ → ℕ → Order
+resting side p price quantity tag = record { id = record { side = side; pointer = p }; price = price; quantity = quantity; tag = tag }
+
+-- An order comes to rest: behind every order whose price is no worse, and before every other. Its pointer is new, with the queue's
+-- generation. The queue grows only if there is no room.
+pub record Rests (old : Queue) (price quantity tag : ℕ) (p : ℕ × ℕ) (new : Queue) : Type 0 where
+  pub ahead : List Order
+  pub later : List Order
+  pub before : old.orders ≡ ahead ++ later
+  pub after : new.orders ≡ ahead ++ resting old.side p price quantity tag ∷ later
+  pub no_worse_ahead : AllByRecursion (λ x. IsNoWorse old.side x.price price) ahead
+  pub worse_behind : AllByRecursion (λ x. IsWorse old.side x.price price) later
+  pub unused : order_of old.orders p ≡ None
+  pub of_generation : p.1 ≡ old.generation
+  pub generation : new.generation ≡ old.generation
+  pub side : new.side ≡ old.side
+  pub capacity : new.capacity ≡ (if nat_lt (length old.orders) old.capacity then old.capacity else doubled_capacity most_entries old.capacity)
+
+-- from old to new, a pointer names this now, and every other pointer names what it named
+pub record Updates (old new : Queue) (p : ℕ × ℕ) (named : Option Order) : Type 0 where
+  pub changed : order_of new.orders p ≡ named
+  pub others : (q : ℕ × ℕ) → q ≢ p → order_of new.orders q ≡ order_of old.orders q
+
+-- A call that changes the order of a pointer, or removes it: the pointer names `found` afterwards. If it names no order, nothing changes.
+pub record ChangesOrder {X : Type 0} (old : Queue) (p : ℕ × ℕ) (found : Option Order) (result : Option X) (new : Queue) : Type 0 where
+  pub updates : Updates old new p found
+  pub none : IfNone result (new ≡ old)

@@ -1,0 +1,326 @@
+//! `OrderQueue`: the resting orders of one side.
+
+ghost use Rattle.std.specs.Prelude.{◌≡◌, ◌↔◌, ◌+◌, ◌-◌, ◌≤◌, ◌<◌, [], ◌++◌, ℕ, Err, Some, None, length, vec_capacity};
+ghost use Rattle.std.specs.Prelude.{IfOk, OnOk, OnErr, OnSome, IfSome, IsOk};
+ghost use Rattle.std.specs.Option.{option_map};
+ghost use Rattle.sorted_arena.specs.PlainArena.{capacity_for};
+ghost use Rattle.order_book.specs.Queue.{most_entries, first_of, order_of, resting, within, traded, trades_of_first, taken, with_left, with_rest, reduced, reduced_order};
+ghost use Rattle.order_book.specs.QueueLayout.{queue_of, IsQueueArena};
+ghost use Rattle.order_book.specs.Queue.{ChangesOrder, HasRoomFor, IsSound, Rests, Updates};
+
+use crate::order::{Lot, Order, Trade, order_at};
+use crate::side::{Side, ranked};
+use sorted_arena::{BasePtrInx, P0, ReallocationError, SortedArena};
+use std::alloc::{AllocError, Allocator, Global};
+use std::marker::Model;
+
+/// The resting orders of one side of a book, in the order in which they trade: by price, and at equal prices by age.
+///
+/// In contracts a queue is its side, the list of its orders, the generation of the next pointer, and the capacity.
+/// [`len`](Self::len) promises what holds of every queue: the list is in order, no pointer names two orders, of each something is left, and
+/// all fit in the capacity.
+///
+/// In the docs n is the number of orders.
+#[derive(Drop)]
+pub struct OrderQueue<A: Allocator = Global> {
+    side: Side,
+    // what is left of each order and its tag, by the rank of its price
+    orders: SortedArena<u64, Lot, P0, A>,
+}
+
+impl<A: Allocator> Model for OrderQueue<A> {
+    ghost use Rattle.order_book.specs.Queue.{Queue};
+
+    ghost Value = { Queue };
+
+    ghost use Rattle.order_book.specs.QueueLayout.{queue_of, IsQueueArena};
+
+    ghost view = { λ q. queue_of q.side q.orders };
+
+    ghost invariant = { λ q. IsQueueArena q.orders.entries };
+}
+
+impl<A: Allocator> OrderQueue<A> {
+    /// Creates a side without orders. It takes no memory until an order is put into it.
+    pub fn new(side: Side, alloc: A) -> Self
+    where
+        A: Copy,
+        ensures side { result.side ≡ side }
+        ensures orders { result.orders ≡ [] }
+        ensures generation { result.generation ≡ 2 }
+        ensures capacity { result.capacity ≡ 0 }
+    {
+        OrderQueue {
+            side,
+            orders: SortedArena::new(alloc),
+        }
+    }
+
+    // The arena of the orders.
+    pub(crate) fn arena(&self) -> &SortedArena<u64, Lot, P0, A>
+        ensures view { self.now ≡ queue_of self.now.side result.now }
+        ensures lawful { IsQueueArena result.now.entries }
+    {
+        &self.orders
+    }
+
+    /// Returns which side it is.
+    pub fn side(&self) -> Side
+        ensures { result ≡ self.now.side }
+    {
+        self.side
+    }
+
+    /// Returns the number of orders.
+    pub fn len(&self) -> usize
+        ensures value { result ≡ length self.now.orders }
+        ensures sound { IsSound self.now }
+    {
+        self.orders.len()
+    }
+
+    /// Returns how many orders a side can have at most: 4,294,967,294, as many as pointers have indexes.
+    pub fn limit() -> usize
+        ensures { result ≡ most_entries }
+    {
+        u32::limit()
+    }
+
+    /// Returns how many orders the side holds without growing.
+    pub fn capacity(&self) -> usize
+        ensures { result ≡ self.now.capacity }
+    {
+        self.orders.capacity()
+    }
+
+    /// Makes room for `additional` more orders: putting them will not fail. O(capacity) if the side grows, else O(1).
+    ///
+    /// # Errors
+    ///
+    /// The side is unchanged.
+    /// - `BeyondMaxCapacity`: there would be more than 4,294,967,294 orders.
+    /// - `AllocError`: growing failed.
+    pub fn reserve(&mut self, additional: usize) -> Result<(), ReallocationError>
+        ensures side { self.new.side ≡ self.old.side }
+        ensures orders { self.new.orders ≡ self.old.orders }
+        ensures generation { self.new.generation ≡ self.old.generation }
+        ensures capacity { OnOk result (self.new.capacity
+            ≡ capacity_for most_entries self.old.capacity (length self.old.orders + additional)) }
+        ensures room { OnOk result (HasRoomFor additional self.new) }
+        ensures full { (result ≡ Err ReallocationError.BeyondMaxCapacity)
+            ↔ (most_entries < length self.old.orders + additional) }
+        ensures memory { result ≡ Err ReallocationError.AllocError
+            → self.old.capacity < length self.old.orders + additional }
+        ensures err { OnErr result (self.new ≡ self.old) }
+    {
+        self.orders.reserve(additional)
+    }
+
+    /// Returns the order that trades first, in O(1).
+    pub fn first(&self) -> Option<Order>
+        ensures value { result ≡ first_of self.now.orders }
+        ensures left { IfSome result (λ order. 0 < order.quantity) }
+    {
+        let pointer = self.orders.first()?;
+        let (rank, lot) = self.orders.get(pointer)?;
+        Some(order_at(self.side, pointer, *rank, *lot))
+    }
+
+    /// Returns the order that the pointer names, in O(1). `None` if it names no order.
+    pub fn get(&self, pointer: P0) -> Option<Order>
+        ensures { result ≡ order_of self.now.orders pointer }
+    {
+        let (rank, lot) = self.orders.get(pointer)?;
+        Some(order_at(self.side, pointer, *rank, *lot))
+    }
+
+    /// Puts an order behind all whose price is no worse, and returns its pointer.
+    ///
+    /// # Errors
+    ///
+    /// The side is unchanged.
+    /// - `BeyondMaxCapacity`: there are 4,294,967,294 orders, as many as pointers have indexes.
+    /// - `AllocError`: the side is full, and growing failed.
+    ///
+    /// # Complexity
+    ///
+    /// O(log n), plus O(n) if the side grows (amortized O(1)).
+    pub fn put(&mut self, price: u64, quantity: u64, tag: u64) -> Result<P0, ReallocationError>
+        requires { 0 < quantity }
+        ensures ok { IfOk result (λ p. Rests self.old price quantity tag p self.new) }
+        ensures updates { IfOk result (λ p. Updates self.old self.new p
+            (Some (resting self.old.side p price quantity tag))) }
+        ensures count { OnOk result (length self.new.orders ≡ length self.old.orders + 1) }
+        ensures full { (result ≡ Err ReallocationError.BeyondMaxCapacity)
+            ↔ (length self.old.orders ≡ most_entries) }
+        ensures memory { result ≡ Err ReallocationError.AllocError
+            → length self.old.orders ≡ self.old.capacity }
+        ensures fits { HasRoomFor 1 self.old → IsOk result }
+        ensures err { OnErr result (self.new ≡ self.old) }
+    {
+        let lot = Lot { quantity, tag };
+        let pointer = match self.orders.insert(ranked(self.side, price), lot) {
+            Ok(pointer) => pointer,
+            Err((_, refusal)) => return Err(refusal),
+        };
+        Ok(pointer)
+    }
+
+    /// Removes the order that the pointer names and returns it, in O(log n).
+    ///
+    /// If the pointer names no order, returns `None` and nothing changes.
+    pub fn remove(&mut self, pointer: P0) -> Option<Order>
+        ensures value { result ≡ order_of self.old.orders pointer }
+        ensures changes { ChangesOrder self.old pointer None result self.new }
+        ensures count { OnSome result (length self.old.orders ≡ length self.new.orders + 1) }
+        ensures gone { OnSome result (self.new ≡ with_left self.old pointer) }
+        ensures room { OnSome result (HasRoomFor 1 self.new) }
+    {
+        let (rank, lot) = self.orders.remove(pointer)?;
+        Some(order_at(self.side, pointer, rank, lot))
+    }
+
+    /// Takes `quantity` units off the order that the pointer names, at most all of it, and returns how much of it is left.
+    ///
+    /// The order keeps its pointer and its place. If nothing of it is left, it leaves. If the pointer names no order, returns `None` and
+    /// nothing changes. O(1), or O(log n) if the order leaves.
+    pub fn reduce(&mut self, pointer: P0, quantity: u64) -> Option<u64>
+        ensures value { result
+            ≡ option_map (λ x. x.quantity - quantity) (order_of self.old.orders pointer) }
+        ensures changes { ChangesOrder self.old pointer
+            (reduced_order (order_of self.old.orders pointer) quantity) result self.new }
+        ensures after { IfSome result (λ left. self.new ≡ reduced self.old pointer left) }
+    {
+        let order = self.get(pointer)?;
+        let left = order.quantity.saturating_sub(quantity);
+        if left == 0 {
+            let _ = self.remove(pointer);
+            return Some(0);
+        }
+        self.write(pointer, order.tag, left);
+        Some(left)
+    }
+
+    // Writes how much is left of the order that the pointer names, which has this tag.
+    fn write(&mut self, pointer: P0, tag: u64, left: u64)
+        requires named { option_map (λ x. x.tag) (order_of self.old.orders pointer) ≡ Some tag }
+        requires some { 0 < left }
+        ensures after { self.new ≡ reduced self.old pointer left }
+        ensures updates { Updates self.old self.new pointer
+            (option_map (λ x. with_rest x left) (order_of self.old.orders pointer)) }
+    {
+        let lot = Lot {
+            quantity: left,
+            tag,
+        };
+        let _ = self.orders.set_value(pointer, lot);
+    }
+
+    /// Returns how much of `quantity` an order of the other side with this limit would trade at once.
+    ///
+    /// O(1) for each order that it would trade with.
+    pub fn offered(&self, limit: u64, quantity: u64) -> u64
+        ensures { result ≡ traded self.now limit quantity }
+    {
+        let mut left = quantity;
+        for order in self.iter() {
+            if left == 0 {
+                break;
+            }
+            if !self.side.meets(order.price, limit) {
+                break;
+            }
+            left -= left.min(order.quantity);
+        }
+        quantity - left
+    }
+
+    /// Returns how much the orders that meet a limit offer in all. O(1) for each of them.
+    pub fn volume_within(&self, limit: u64) -> u128
+        ensures { result ≡ within self.now.side limit self.now.orders }
+    {
+        let mut volume = 0;
+        for order in self.iter() {
+            if !self.side.meets(order.price, limit) {
+                break;
+            }
+            volume += u128::from(order.quantity);
+        }
+        volume
+    }
+
+    /// Appends the trades of an order of the other side with this limit and quantity, the first order's first, and returns what is left of
+    /// the quantity. The orders stay as they are, and the list's capacity never shrinks. O(1) for each trade.
+    ///
+    /// # Errors
+    ///
+    /// `AllocError`: the list has no room for all trades, and growing it failed. The list is unchanged.
+    pub fn offer<B: Allocator>(
+        &self,
+        limit: u64,
+        quantity: u64,
+        trades: &mut Vec<Trade, B>,
+    ) -> Result<u64, AllocError>
+        ensures left { IfOk result (λ left. left + traded self.now limit quantity ≡ quantity) }
+        ensures trades { OnOk result (trades.new.items ≡ trades.old.items
+            ++ trades_of_first (traded self.now limit quantity) self.now.orders) }
+        ensures memory { OnErr result (vec_capacity trades.old < length trades.old.items
+            + length (trades_of_first (traded self.now limit quantity) self.now.orders)) }
+        ensures err { OnErr result (trades.new.items ≡ trades.old.items) }
+        ensures kept_room { vec_capacity trades.old ≤ vec_capacity trades.new }
+        ensures sound { IsSound self.now }
+    {
+        let before = trades.len();
+        let mut left = quantity;
+        for order in self.iter() {
+            if left == 0 {
+                break;
+            }
+            if !self.side.meets(order.price, limit) {
+                break;
+            }
+            let quantity = left.min(order.quantity);
+            if trades.push(order.trade(quantity)).is_err() {
+                trades.truncate(before);
+                return Err(AllocError);
+            }
+            left -= quantity;
+        }
+        Ok(left)
+    }
+
+    /// Takes so many units off, from the first order on. An order of which nothing is left leaves. O(log n) for each order that leaves.
+    pub fn take(&mut self, quantity: u64)
+        ensures after { self.new ≡ taken quantity self.old }
+        ensures room { (n : ℕ) → HasRoomFor n self.old → HasRoomFor n self.new }
+    {
+        let mut left = quantity;
+        while left > 0 {
+            let taken = self.take_first(left);
+            if taken == 0 {
+                return;
+            }
+            left -= taken;
+        }
+        // For the prover: of each order something is left.
+        let _ = self.len();
+    }
+
+    // Takes up to so many units off the first order, which leaves if nothing of it is left. Returns how many.
+    fn take_first(&mut self, quantity: u64) -> u64
+        requires { 0 < quantity }
+        ensures most { result ≤ quantity }
+        ensures rest { taken quantity self.old ≡ taken (quantity - result) self.new }
+        ensures none { result ≡ 0 → (self.old.orders ≡ []) × (self.new ≡ self.old) }
+    {
+        let Some(first) = self.first() else {
+            return 0;
+        };
+        if first.quantity <= quantity {
+            let _ = self.remove(first.id.pointer());
+            return first.quantity;
+        }
+        self.write(first.id.pointer(), first.tag, first.quantity - quantity);
+        quantity
+    }
+}
