@@ -2,7 +2,7 @@
 use Rattle.std.proofs.Common.{◌≡◌, inl, inr, ℕ, false, List, [], ◌∷◌, Option, Some, None, refl, sym, ap, ◌∙◌, arith, is_some}
 use Rattle.std.proofs.lemmas.Bool.{cases_eq}
 use Rattle.std.proofs.lemmas.Bool.Decides.{nat_tests}
-use Rattle.agenda_store.specs.Plan.{Job, Plan, job_at, without, put_at, cancelled, moved}
+use Rattle.job_table.specs.Plan.{Job, Plan, job_at, without, put_at, cancelled, moved}
 use Rattle.agenda_store.proofs.Jobs.{with_jobs}
 
 without_none : (id : ℕ) (jobs : List Job) → is_some (job_at id jobs) ≡ false → without id jobs ≡ jobs

@@ -1,35 +1,32 @@
 -- What a call leaves of the tickets, and of the jobs.
-use Rattle.std.proofs.Common.{◌≡◌, ℕ, ◌<◌, ◌≤◌, cond, eqb, List, ◌++◌, length, map, Option, Some, None, Vec, sym, ◌∙◌, ap, subst, inl, inr, arith}
+use Rattle.std.proofs.Common.{◌≡◌, ℕ, ◌<◌, ◌≤◌, cond, eqb, List, ◌∷◌, ◌++◌, length, map, Option, Some, None, Vec, sym, ◌∙◌, ap, subst, inl, inr, arith}
 use Rattle.std.proofs.lemmas.Bool.{cases_eq}
 use Rattle.std.proofs.lemmas.Bool.Decides.{nat_tests}
 use Rattle.std.specs.declared.alloc.Global.{Global}
-use Rattle.agenda.specs.Agenda.{Scheduled, Agenda, job_of, IsDistinct, Schedules, MovesDeadline}
+use Rattle.agenda.specs.Agenda.{Entry as Listed, Agenda, get, item_of, entry_of, pointer_of, most_entries, put_behind, with_entry, with_key, without as without_index, IsDistinct}
+use Rattle.agenda.proofs.CallerLemmas.{IsPut, put as put_at_place, entries-with_entry, entries-with_key}
 use Rattle.std.specs.Ordering.{is_eq, nat_cmp}
-use Rattle.agenda.specs.Agenda as list
-use Rattle.agenda_store.specs.Plan.{Job, put, put_at, job_at, without}
+use Rattle.job_table.specs.Plan.{Job, put, put_at, job_at, without}
 use Rattle.agenda_store.specs.Planner.{Entry, Each, ticket_of, ticket_at, job_in, IsApart, IsLinkedBy, IsLinked}
 use Rattle.agenda_store.specs.declared.planner.Planner.{Planner}
-use Rattle.agenda_store.specs.declared.store.TheConstants.{MAX_BYTES}
+use Rattle.job_table.specs.declared.rows.TheConstants.{MAX_BYTES}
 use Rattle.agenda_store.proofs.Entries.{Entries, ticket_insert, apart_insert, apart_remove, each_insert, each_remove, below_more, entry_at, IsAt}
-use Rattle.agenda_store.proofs.Jobs.{put_between, without_entry, job_at_entry, no_job, no_ticket}
+use Rattle.agenda_store.proofs.Jobs.{put_is, without_entry, job_at_entry, no_job, no_ticket}
 
 abbrev pub Tickets : Type 0
 Tickets = ℕ → Option (ℕ × ℕ)
 
-abbrev some_job : ℕ × Entry → Option (ℕ × Entry)
-some_job y = Some y
-
 -- the number is below this one
 abbrev Below : ℕ → Entry → Type 0
-Below next entry = entry.0 < next
+Below next entry = entry.id < next
 
 -- The job isn't too long.
 abbrev Short : Entry → Type 0
-Short entry = length entry.1.items ≤ MAX_BYTES
+Short entry = length entry.bytes.items ≤ MAX_BYTES
 
--- the deadline and the bytes of an entry
-abbrev pub told_entry : ℕ × Entry → ℕ × List ℕ
-told_entry x = (x.0, x.1.1.items)
+-- a deadline and an entry as a job
+abbrev pub told_entry : ℕ × Entry → Job
+told_entry x = record { id = x.1.id; deadline = x.0; attempts = x.1.attempts; bytes = x.1.bytes.items }
 
 -- whether two numbers compare alike
 pub alike : (a b : ℕ) → is_eq (nat_cmp a b) ≡ eqb a b
@@ -40,8 +37,8 @@ alike a b = elim (cases_eq a b) [
 
 -- The entry of a number that has a ticket.
 pub record IsFound (id : ℕ) (t : ℕ × ℕ) (xs : Entries) : Type 0 where
-  pub entry : Scheduled Entry
-  pub job : job_of xs t ≡ Some (entry.deadline, entry.job)
+  pub entry : Listed (ℕ × Entry)
+  pub job : item_of xs t ≡ Some entry.item
   pub at : job_at id (map job_in xs) ≡ Some (job_in entry)
 
 -- Numbers that go on from a later one name no job.
@@ -57,71 +54,84 @@ linked_on f next later xs le linked = record {
 module _ (p : Planner) (linked : IsLinked p) where
   -- A number without a ticket names no job.
   pub absent : (id : ℕ) → ticket_at p id ≡ None
-      → (job_at id (map job_in p.agenda.jobs) ≡ None) × (without id (map job_in p.agenda.jobs) ≡ map job_in p.agenda.jobs)
-  absent id none = no_job id p.agenda.jobs (sym (linked.tickets id) ∙ none)
+      → (job_at id (map job_in p.agenda.entries) ≡ None) × (without id (map job_in p.agenda.entries) ≡ map job_in p.agenda.entries)
+  absent id none = no_job id p.agenda.entries (sym (linked.tickets id) ∙ none)
 
   -- After a job came, all are linked.
-  pub inserted : (id : ℕ) (t : ℕ × ℕ) (deadline : ℕ) (v : Vec ℕ Global) (g : Tickets) (b : Agenda Entry)
-      → (id < p.next) × (job_at id (map job_in p.agenda.jobs) ≡ None) → length v.items ≤ MAX_BYTES → Schedules p.agenda t deadline (id, v) b
-      → ((n : ℕ) → g n ≡ cond (eqb id n) (Some t) (ticket_at p n)) → IsLinkedBy g p.next b.jobs
-  inserted id t deadline v g b new short puts comes =
-      let old = p.agenda.jobs in
-      let earlier = puts.earlier in
-      let later = puts.later in
-      let x : Scheduled Entry = record { ticket = t; deadline = deadline; job = (id, v) } in
-      let split : old ≡ earlier ++ later = puts.before in
+  pub inserted : (id : ℕ) (t : ℕ × ℕ) (deadline attempts : ℕ) (v : Vec ℕ Global) (g : Tickets) (b : Agenda Entry)
+      → (id < p.next) × (job_at id (map job_in p.agenda.entries) ≡ None) → length v.items ≤ MAX_BYTES → b ≡ with_entry nat_cmp most_entries p.agenda t (deadline, record { id = id; attempts = attempts; bytes = v })
+      → ((n : ℕ) → g n ≡ cond (eqb id n) (Some t) (ticket_at p n)) → IsLinkedBy g p.next b.entries
+  inserted id t deadline attempts v g b new short is comes =
+      let old = p.agenda.entries in
+      let x : Listed (ℕ × Entry) = entry_of t (deadline, record { id = id; attempts = attempts; bytes = v }) in
+      let place = put_at_place nat_cmp x old in
+      let earlier = place.front in
+      let later = place.back in
+      let split : old ≡ earlier ++ later = place.before in
+      let listed : b.entries ≡ earlier ++ x ∷ later = ap (λ (a : Agenda Entry). a.entries) is ∙ entries-with_entry nat_cmp most_entries p.agenda t (deadline, record { id = id; attempts = attempts; bytes = v }) ∙ place.after in
       let none = subst (λ (l : Entries). ticket_of id l ≡ None) split (no_ticket id old new.1) in
       record {
         tickets = λ n. comes n ∙ ap (λ (o : Option (ℕ × ℕ)). cond (eqb id n) (Some t) o) (linked.tickets n ∙ ap (ticket_of n) split)
-            ∙ sym (ticket_insert n earlier later x none) ∙ ap (ticket_of n) (sym puts.after);
-        apart = subst IsApart (sym puts.after) (apart_insert earlier later x (subst IsApart split linked.apart) none);
-        below = subst (Each (Below p.next)) (sym puts.after)
+            ∙ sym (ticket_insert n earlier later x none) ∙ ap (ticket_of n) (sym listed);
+        apart = subst IsApart (sym listed) (apart_insert earlier later x (subst IsApart split linked.apart) none);
+        below = subst (Each (Below p.next)) (sym listed)
             (each_insert (Below p.next) earlier later x new.0 (subst (Each (Below p.next)) split linked.below));
-        short = subst (Each Short) (sym puts.after) (each_insert Short earlier later x short (subst (Each Short) split linked.short));
+        short = subst (Each Short) (sym listed) (each_insert Short earlier later x short (subst (Each Short) split linked.short));
         from_one = linked.from_one;
       }
 
-  module _ (id : ℕ) (t : ℕ × ℕ) (distinct : IsDistinct p.agenda.jobs) (some : ticket_at p id ≡ Some t) where
-    here : IsAt id t p.agenda.jobs
-    here = entry_at id t p.agenda.jobs distinct (sym (linked.tickets id) ∙ some)
+  module _ (id : ℕ) (t : ℕ × ℕ) (distinct : IsDistinct p.agenda.entries) (some : ticket_at p id ≡ Some t) where
+    pub here : IsAt id t p.agenda.entries
+    here = entry_at id t p.agenda.entries distinct (sym (linked.tickets id) ∙ some)
 
-    pub found : IsFound id t p.agenda.jobs
+    pub found : IsFound id t p.agenda.entries
     found = record {
       entry = here.entry;
       job = here.job;
       at = ap (λ (l : Entries). job_at id (map job_in l)) here.split ∙ job_at_entry id here.before here.after here.entry here.none_before here.id_is;
     }
 
-    pub without_is : without id (map job_in p.agenda.jobs) ≡ map job_in (list.without p.agenda.jobs t)
+    pub without_is : without id (map job_in p.agenda.entries) ≡ map job_in (without_index t.0 p.agenda.entries)
     without_is = ap (λ (l : Entries). without id (map job_in l)) here.split
         ∙ without_entry id here.before here.after here.entry here.none_before here.id_is ∙ ap (λ (l : Entries). map job_in l) (sym here.others)
 
     -- No number names two of the others, and this one names none of them.
-    rest_apart : IsApart (list.without p.agenda.jobs t) × (ticket_of id (list.without p.agenda.jobs t) ≡ None)
+    rest_apart : IsApart (without_index t.0 p.agenda.entries) × (ticket_of id (without_index t.0 p.agenda.entries) ≡ None)
     rest_apart =
         let parts = apart_remove here.before here.after here.entry (subst IsApart here.split linked.apart) in
         let none = subst (λ (k : ℕ). ticket_of k (here.before ++ here.after) ≡ None) here.id_is parts.1 in
         (subst IsApart (sym here.others) parts.0, subst (λ (l : Entries). ticket_of id l ≡ None) (sym here.others) none)
 
     -- what each number finds among the others, and with the entry
-    rest : (n : ℕ) → ticket_of n p.agenda.jobs ≡ cond (eqb id n) (Some t) (ticket_of n (list.without p.agenda.jobs t))
+    rest : (n : ℕ) → ticket_of n p.agenda.entries ≡ cond (eqb id n) (Some t) (ticket_of n (without_index t.0 p.agenda.entries))
     rest n =
         let others = here.before ++ here.after in
         let none = subst (λ (l : Entries). ticket_of id l ≡ None) here.others rest_apart.1 in
         let entry_none = subst (λ (k : ℕ). ticket_of k others ≡ None) (sym here.id_is) none in
         ap (ticket_of n) here.split ∙ ticket_insert n here.before here.after here.entry entry_none
-        ∙ ap (λ (k : ℕ). cond (eqb k n) (Some here.entry.ticket) (ticket_of n others)) here.id_is
+        ∙ ap (λ (k : ℕ). cond (eqb k n) (Some (pointer_of here.entry)) (ticket_of n others)) here.id_is
         ∙ ap (λ (u : ℕ × ℕ). cond (eqb id n) (Some u) (ticket_of n others)) here.ticket_is
         ∙ ap (λ (l : Entries). cond (eqb id n) (Some t) (ticket_of n l)) (sym here.others)
 
     -- What each entry has, the others have, and this one.
-    rest_each : (P : Entry → Type 0) → Each P p.agenda.jobs → Each P (list.without p.agenda.jobs t) × P here.entry.job
+    rest_each : (P : Entry → Type 0) → Each P p.agenda.entries → Each P (without_index t.0 p.agenda.entries) × P here.entry.item.1
     rest_each P all =
         let parts = each_remove P here.before here.after here.entry (subst (Each P) here.split all) in
         (subst (Each P) (sym here.others) parts.0, parts.1)
 
+    -- The number of a job that left is below the next one, and names no other; and the job isn't too long.
+    pub left_admitted : (here.entry.item.1.id < p.next) × (job_at here.entry.item.1.id (without id (map job_in p.agenda.entries)) ≡ None)
+    left_admitted = (
+      (rest_each (Below p.next) linked.below).1,
+      subst (λ (k : ℕ). job_at k (without id (map job_in p.agenda.entries)) ≡ None) (sym here.id_is)
+          (ap (job_at id) without_is ∙ (no_job id (without_index t.0 p.agenda.entries) rest_apart.1).0),
+    )
+
+    pub left_short : Short here.entry.item.1
+    left_short = (rest_each Short linked.short).1
+
     -- After a job left, the others are linked.
-    pub removed : (g : Tickets) (new : Entries) → new ≡ list.without p.agenda.jobs t
+    pub removed : (g : Tickets) (new : Entries) → new ≡ without_index t.0 p.agenda.entries
         → ((n : ℕ) → g n ≡ cond (eqb id n) None (ticket_at p n)) → IsLinkedBy g p.next new
     removed g new is gone = record {
       tickets = λ n. gone n ∙ now n ∙ ap (ticket_of n) (sym is);
@@ -131,70 +141,64 @@ module _ (p : Planner) (linked : IsLinked p) where
       from_one = linked.from_one;
     }
       where
-        now : (n : ℕ) → cond (eqb id n) None (ticket_at p n) ≡ ticket_of n (list.without p.agenda.jobs t)
+        now : (n : ℕ) → cond (eqb id n) None (ticket_at p n) ≡ ticket_of n (without_index t.0 p.agenda.entries)
         now n = elim (cases_eq id n) [
           | inl same ↦
-              let none = subst (λ (k : ℕ). ticket_of k (list.without p.agenda.jobs t) ≡ None) same rest_apart.1 in
+              let none = subst (λ (k : ℕ). ticket_of k (without_index t.0 p.agenda.entries) ≡ None) same rest_apart.1 in
               grind (arith, nat_tests, none)
           | inr other ↦ grind (arith, nat_tests, rest n, linked.tickets n)
         ]
 
-    module _ (deadline : ℕ) (b : Agenda Entry) (moves : MovesDeadline p.agenda t deadline b) where
-      moved_entry : Scheduled Entry
-      moved_entry = record { ticket = t; deadline = deadline; job = moves.left.1 }
+    module _ (deadline : ℕ) (b : Agenda Entry) (is : b ≡ with_key nat_cmp p.agenda t deadline) where
+      abbrev moved_entry : Listed (ℕ × Entry)
+      moved_entry = entry_of t (deadline, here.entry.item.1)
 
-      left_is : moves.left ≡ (here.entry.deadline, here.entry.job)
-      left_is = let e : some_job moves.left ≡ some_job (here.entry.deadline, here.entry.job) = sym moves.named ∙ here.job in cc
+      abbrev others : Entries
+      others = without_index t.0 p.agenda.entries
 
-      job_is : moves.left.1 ≡ here.entry.job
-      job_is = ap (λ (x : ℕ × Entry). x.1) left_is
+      place : IsPut nat_cmp moved_entry others
+      place = put_at_place nat_cmp moved_entry others
 
-      each_moved : (P : Entry → Type 0) → Each P p.agenda.jobs → Each P b.jobs
-      unfolding moved_entry
+      put_there : b.entries ≡ put_behind nat_cmp moved_entry others
+      put_there = ap (λ (a : Agenda Entry). a.entries) is ∙ entries-with_key nat_cmp p.agenda t deadline here.entry.item here.job
+
+      listed : b.entries ≡ place.front ++ moved_entry ∷ place.back
+      listed = put_there ∙ place.after
+
+      each_moved : (P : Entry → Type 0) → Each P p.agenda.entries → Each P b.entries
       each_moved P all =
           let parts = rest_each P all in
-          let others = subst (Each P) moves.others parts.0 in
-          subst (Each P) (sym moves.after) (each_insert P moves.earlier moves.later moved_entry (subst P (sym job_is) parts.1) others)
+          subst (Each P) (sym listed) (each_insert P place.front place.back moved_entry parts.1 (subst (Each P) place.before parts.0))
 
       -- A job that gets another deadline keeps its ticket.
-      pub relocated : IsLinkedBy (ticket_at p) p.next b.jobs
-      unfolding moved_entry
+      pub relocated : IsLinkedBy (ticket_at p) p.next b.entries
       relocated =
-          let earlier = moves.earlier in
-          let later = moves.later in
-          let id_is : moves.left.1.0 ≡ id = ap (λ (x : Entry). x.0) job_is ∙ here.id_is in
-          let rest_none = subst (λ (l : Entries). ticket_of id l ≡ None) moves.others rest_apart.1 in
-          let none = subst (λ (k : ℕ). ticket_of k (earlier ++ later) ≡ None) (sym id_is) rest_none in
+          let earlier = place.front in
+          let later = place.back in
+          let rest_none = subst (λ (l : Entries). ticket_of id l ≡ None) place.before rest_apart.1 in
+          let none = subst (λ (k : ℕ). ticket_of k (earlier ++ later) ≡ None) (sym here.id_is) rest_none in
           record {
-            tickets = λ n. linked.tickets n ∙ rest n ∙ ap (λ (l : Entries). cond (eqb id n) (Some t) (ticket_of n l)) moves.others
-                ∙ ap (λ (k : ℕ). cond (eqb k n) (Some t) (ticket_of n (earlier ++ later))) (sym id_is)
-                ∙ sym (ticket_insert n earlier later moved_entry none) ∙ ap (ticket_of n) (sym moves.after);
-            apart = subst IsApart (sym moves.after) (apart_insert earlier later moved_entry (subst IsApart moves.others rest_apart.0) none);
+            tickets = λ n. linked.tickets n ∙ rest n ∙ ap (λ (l : Entries). cond (eqb id n) (Some t) (ticket_of n l)) place.before
+                ∙ ap (λ (k : ℕ). cond (eqb k n) (Some t) (ticket_of n (earlier ++ later))) (sym here.id_is)
+                ∙ sym (ticket_insert n earlier later moved_entry none) ∙ ap (ticket_of n) (sym listed);
+            apart = subst IsApart (sym listed) (apart_insert earlier later moved_entry (subst IsApart place.before rest_apart.0) none);
             below = each_moved (Below p.next) linked.below;
             short = each_moved Short linked.short;
             from_one = linked.from_one;
           }
 
       -- the jobs after one was moved
-      pub move_is : map job_in b.jobs ≡ put_at deadline (job_at id (map job_in p.agenda.jobs)) (without id (map job_in p.agenda.jobs))
-      unfolding moved_entry found
+      pub move_is : map job_in b.entries ≡ put_at deadline (job_at id (map job_in p.agenda.entries)) (without id (map job_in p.agenda.entries))
+      unfolding found
       move_is =
-          let others = without id (map job_in p.agenda.jobs) in
-          let entry : Entry = here.entry.job in
-          let job : job_in moved_entry ≡ record { id = entry.0; deadline = deadline; bytes = entry.1.items } =
-          ap (λ (x : Entry). job_in (record { ticket = t; deadline = deadline; job = x })) job_is in
-          ap (λ (l : Entries). map job_in l) moves.after
-          ∙ sym (put_between moves.earlier moves.later moved_entry moves.no_later_before moves.later_behind)
-          ∙ ap (λ (l : Entries). put (job_in moved_entry) (map job_in l)) (sym moves.others)
+          ap (λ (l : Entries). map job_in l) put_there
+          ∙ put_is moved_entry others
           ∙ ap (λ (l : List Job). put (job_in moved_entry) l) (sym without_is)
-          ∙ ap (λ (j : Job). put j others) job
-          ∙ ap (λ (o : Option Job). put_at deadline o others) (sym found.at)
+          ∙ ap (λ (o : Option Job). put_at deadline o (without id (map job_in p.agenda.entries))) (sym found.at)
 
 -- the jobs after one came
-pub put_is : (t : ℕ × ℕ) (deadline id : ℕ) (v : Vec ℕ Global) (a b : Agenda Entry) → Schedules a t deadline (id, v) b
-    → map job_in b.jobs ≡ put (record { id = id; deadline = deadline; bytes = v.items }) (map job_in a.jobs)
-put_is t deadline id v a b puts =
-    let x : Scheduled Entry = record { ticket = t; deadline = deadline; job = (id, v) } in
-    ap (λ (l : Entries). map job_in l) puts.after
-    ∙ sym (put_between puts.earlier puts.later x puts.no_later_before puts.later_behind)
-    ∙ ap (λ (l : Entries). put (job_in x) (map job_in l)) (sym puts.before)
+pub came_is : (t : ℕ × ℕ) (deadline : ℕ) (entry : Entry) (a b : Agenda Entry) → b ≡ with_entry nat_cmp most_entries a t (deadline, entry)
+    → map job_in b.entries ≡ put (record { id = entry.id; deadline = deadline; attempts = entry.attempts; bytes = entry.bytes.items }) (map job_in a.entries)
+came_is t deadline entry a b is =
+    ap (λ (a : Agenda Entry). map job_in a.entries) is ∙ ap (λ (l : Entries). map job_in l) (entries-with_entry nat_cmp most_entries a t (deadline, entry))
+    ∙ put_is (entry_of t (deadline, entry)) a.entries

@@ -1,9 +1,9 @@
-pub mod Change
-pub mod Plan
 pub mod Planner
-pub mod Replay
+pub mod History
 pub mod Requests
 pub mod Store
+-- What contracts above cite of the layer below.
+pub use Rattle.job_table.specs.Plan
+pub use Rattle.job_table.specs.Table
+pub use Rattle.job_table.specs.Causes
 pub mod StoreLayout
--- What contracts above cite of the layers below.
-pub use Rattle.record_log.specs.Device

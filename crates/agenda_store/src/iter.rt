@@ -2,21 +2,22 @@
 
 ghost use Rattle.std.specs.Iterator.{YieldsFirstBy, item_count};
 ghost use Rattle.agenda.specs.Walk.{IsExactHint};
-ghost use Rattle.agenda_store.specs.Store.{shown};
+ghost use Rattle.agenda_store.specs.Store.{lent};
 
-use crate::store::JobId;
+use crate::job::JobRef;
+use crate::planner::{Task, lend};
 use agenda::Iter as Entries;
 use std::marker::Model;
 
-/// An iterator over the numbers, deadlines and bytes of the jobs, in the order in which they leave. Each step is O(1).
+/// An iterator over the jobs of a store, in the order in which they leave. Each step is O(1).
 #[derive(Drop)]
 pub struct Iter<'a> {
-    pub(crate) entries: Entries<'a, (u64, Vec<u8>)>,
+    pub(crate) entries: Entries<'a, Task>,
 }
 
 impl<'a> Model for Iter<'a> {
     ghost use Rattle.std.specs.Prelude.{List, map};
-    ghost use Rattle.agenda_store.specs.Plan.{Job};
+    ghost use Rattle.job_table.specs.Plan.{Job};
     ghost use Rattle.agenda_store.specs.Planner.{job_in};
 
     ghost Value = { List Job };
@@ -25,15 +26,15 @@ impl<'a> Model for Iter<'a> {
 }
 
 impl<'a> Iterator for Iter<'a> {
-    type Item = (JobId, u64, &'a [u8]);
+    type Item = JobRef<'a>;
 
-    ghost next_gives = { YieldsFirstBy shown (λ left. left) };
+    ghost next_gives = { YieldsFirstBy lent (λ left. left) };
 
     ghost remaining = { item_count (λ left. left) };
 
-    fn next(&mut self) -> Option<(JobId, u64, &'a [u8])> {
+    fn next(&mut self) -> Option<JobRef<'a>> {
         match self.entries.next() {
-            Some((_, deadline, entry)) => Some((JobId(entry.0), deadline, &entry.1)),
+            Some((_, deadline, task)) => Some(lend(deadline, task)),
             None => None,
         }
     }

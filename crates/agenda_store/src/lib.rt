@@ -1,16 +1,16 @@
-//! An agenda that survives a crash: each change is on the disk before its call returns.
+//! An agenda in a table of a database that sqlite3 reads.
 #![tactic(auto)]
 
-mod change;
-mod error;
+mod history;
 mod iter;
+mod job;
 pub mod laws;
 mod planner;
 mod requests;
 mod store;
 
-pub use error::StoreError;
 pub use iter::Iter;
-pub use record_log::{Device, DeviceError, FileDevice, LogError, Memory};
-pub use requests::Request;
-pub use store::{JobId, MAX_BYTES, Store};
+pub use job::{Job, JobId, JobRef};
+pub use job_table::{Checkpoint, MAX_BYTES, MAX_DEADLINE, StoreError};
+pub use requests::{Reply, Request};
+pub use store::Store;

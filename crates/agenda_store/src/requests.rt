@@ -1,75 +1,151 @@
-//! `Request`: what a caller asks of a store, as a value.
+//! `Request` and `Reply`: what a caller asks of a store, as values; and batches of requests, each made to last by one commit.
 
-ghost use Rattle.std.specs.Prelude.{◌≡◌, IsTrue, OnOk};
-ghost use Rattle.record_log.specs.Device.{LeavesOnly};
-ghost use Rattle.agenda_store.specs.Requests.{answered, answered_all, StandsAfterSome};
-ghost use Rattle.agenda_store.specs.Store.{IsOpen, IsSound, ChangesPlan};
+ghost use Rattle.std.specs.Prelude.{◌≡◌, ◌⊎◌, IsTrue, IfOk, OnOk, OnErr};
+ghost use Rattle.sqlite_trees.specs.Tree.{Trees};
+ghost use Rattle.sqlite_trees.specs.View.{IsClean};
+ghost use Rattle.job_table.specs.Table.{TreesStandFor, rows_of};
+ghost use Rattle.agenda_store.specs.Requests.{answered, answered_all, IsReply, AllReply};
+ghost use Rattle.agenda_store.specs.Store.{IsClosed};
 
-use crate::error::StoreError;
-use crate::store::{JobId, Store};
-use record_log::Device;
+use crate::job::{Job, JobId};
+use crate::store::Store;
+use job_table::{MAX_BYTES, MAX_DEADLINE, StoreError};
+use sqlite_trees::store::Store as Rows;
 
 /// What a caller asks of a store.
 #[derive(Drop)]
 pub enum Request {
-    /// A job is to be scheduled.
+    /// Schedule a job by its deadline and its bytes.
     Schedule(u64, Vec<u8>),
-    /// The job of a number is to be taken off.
+    /// Take the job of a number off.
     Cancel(JobId),
-    /// The job of a number is to get another deadline.
-    Move(JobId, u64),
-    /// The first job is to be taken off if it is due.
+    /// Give the job of a number another deadline.
+    Reschedule(JobId, u64),
+    /// Take the first job off if it is due at a time.
     PopDue(u64),
-    /// The file is to be written anew from the jobs.
-    Compact,
+    /// Claim the first job if it is due at a time; it is due again at another.
+    ClaimDue(u64, u64),
 }
 
-impl<D: Device> Store<D> {
-    // Does what a request asks for.
-    fn answer(&mut self, request: &Request) -> Result<(), StoreError>
-        ensures { ChangesPlan D.is_modelled D.seen D.may_leave D.moment D.left_since
-            self.old self.new result
-            (answered request.now self.old.plan) }
+/// What a store answers to a request.
+#[derive(Drop)]
+pub enum Reply {
+    /// The number of the job that was scheduled.
+    Scheduled(JobId),
+    /// The job that was taken off. `None`: the number names no job.
+    Cancelled(Option<Job>),
+    /// Whether the number names a job.
+    Rescheduled(bool),
+    /// The job that was taken off. `None`: no job is due.
+    Popped(Option<Job>),
+    /// The job that was claimed. `None`: no job is due.
+    Claimed(Option<Job>),
+}
+
+// Returns why a request is refused whatever the jobs are.
+fn refusal(request: &Request) -> Option<StoreError> {
+    match request {
+        Request::Schedule(_, bytes) if bytes.len() > MAX_BYTES => Some(StoreError::TooLong),
+        Request::Schedule(deadline, _) | Request::Reschedule(_, deadline)
+            if *deadline > MAX_DEADLINE => { Some(StoreError::TooLate) }
+        Request::ClaimDue(_, until) if *until > MAX_DEADLINE => Some(StoreError::TooLate),
+        _ => None,
+    }
+}
+
+// Returns why the first of the requests that is refused is so.
+fn first_refusal(requests: &[Request]) -> Option<StoreError> {
+    for request in requests {
+        if let Some(error) = refusal(request) {
+            return Some(error);
+        }
+    }
+    None
+}
+
+impl<S: Rows> Store<S> {
+    // Does what a request asks for. It lasts once it is committed.
+    fn answer(&mut self, request: &Request) -> Result<Reply, StoreError>
+        ensures plan { OnOk result (self.new.plan ≡ answered request.now self.old.plan) }
+        ensures reply { IfOk result (λ reply. IsReply request.now self.old.plan reply) }
+        ensures open { OnOk result (IsTrue self.new.is_open) }
+        ensures clean { IsClean (S.Store.view (rows_of self.new.table)) → IsClean (S.Store.view (rows_of self.old.table)) }
+        ensures crash { (trees : Trees) → S.Store.recovers (rows_of self.new.table) trees → S.Store.recovers (rows_of self.old.table) trees }
     {
         match request {
             Request::Schedule(deadline, bytes) => {
-                self.schedule(*deadline, bytes)?;
+                let id = self.schedule(*deadline, bytes)?;
+                Ok(Reply::Scheduled(id))
             }
             Request::Cancel(id) => {
-                self.cancel(*id)?;
+                let job = self.cancel(*id)?;
+                Ok(Reply::Cancelled(job))
             }
-            Request::Move(id, deadline) => {
-                self.move_to(*id, *deadline)?;
+            Request::Reschedule(id, deadline) => {
+                let is_found = self.reschedule(*id, *deadline)?;
+                Ok(Reply::Rescheduled(is_found))
             }
             Request::PopDue(now) => {
-                self.pop_due(*now)?;
+                let job = self.pop_due(*now)?;
+                Ok(Reply::Popped(job))
             }
-            Request::Compact => {
-                self.compact()?;
+            Request::ClaimDue(now, until) => {
+                let job = self.claim_due(*now, *until)?;
+                Ok(Reply::Claimed(job))
             }
         }
-        Ok(())
     }
 
-    /// Does what the requests ask for, in order. Whatever moment a crash comes at, the file stands for the agenda after some of the
-    /// requests, none skipped and none in part.
+    // Does what the requests ask for, in order, and commits.
+    fn answer_all(&mut self, requests: &[Request]) -> Result<Vec<Reply>, StoreError>
+        ensures plan { OnOk result (self.new.plan ≡ answered_all requests.now self.old.plan) }
+        ensures replies { IfOk result (λ replies. AllReply requests.now self.old.plan replies.items) }
+        ensures open { OnOk result (IsTrue self.new.is_open) }
+        ensures clean { IsClean (S.Store.view (rows_of self.new.table)) → IsClean (S.Store.view (rows_of self.old.table)) }
+        ensures durable { OnOk result (IsClean (S.Store.view (rows_of self.new.table)) → (trees : Trees)
+            → S.Store.recovers (rows_of self.new.table) trees → TreesStandFor trees (answered_all requests.now self.old.plan)) }
+        ensures crash { IsClean (S.Store.view (rows_of self.new.table)) → (trees : Trees) → S.Store.recovers (rows_of self.new.table) trees
+            → TreesStandFor trees (answered_all requests.now self.old.plan) ⊎ S.Store.recovers (rows_of self.old.table) trees }
+    {
+        let mut replies = Vec::with_capacity(self.alloc, requests.len())?;
+        for request in requests {
+            let reply = self.answer(request)?;
+            replies.push(reply)?;
+        }
+        self.commit()?;
+        Ok(replies)
+    }
+
+    /// Does what the requests ask for, in order, makes it last by one commit, and returns the reply to each.
+    ///
+    /// A crash at any moment leaves the whole batch, or what it could leave before. After `Ok` every crash leaves the whole batch.
     ///
     /// # Errors
     ///
-    /// Those of the request that failed, as of its call. The later ones aren't tried.
-    pub fn run(&mut self, requests: &[Request]) -> Result<(), StoreError>
-        requires { IsOpen self.old }
-        ensures sound { IsSound D.is_modelled D.seen D.may_leave self.new }
+    /// No part of the batch lasts, unless the commit itself failed and a crash comes before [`rollback`](Self::rollback).
+    /// - `TooLong`, `TooLate`: a request is refused whatever the jobs are; `Closed`: an earlier call failed. The store is unchanged.
+    /// - Any other: the store is closed, and `rollback` goes back to the last commit.
+    pub fn run(&mut self, requests: &[Request]) -> Result<Vec<Reply>, StoreError>
         ensures plan { OnOk result (self.new.plan ≡ answered_all requests.now self.old.plan) }
-        ensures any_moment { IsTrue D.is_modelled
-            → LeavesOnly D.moment D.left_since self.old.device self.new.device
-            (StandsAfterSome requests.now self.old.plan) }
+        ensures replies { IfOk result (λ replies. AllReply requests.now self.old.plan replies.items) }
+        ensures open { OnOk result (IsTrue self.new.is_open) }
+        ensures closed { OnErr result ((self.new ≡ self.old) ⊎ IsClosed self.new) }
+        ensures clean { IsClean (S.Store.view (rows_of self.new.table)) → IsClean (S.Store.view (rows_of self.old.table)) }
+        ensures durable { OnOk result (IsClean (S.Store.view (rows_of self.new.table)) → (trees : Trees)
+            → S.Store.recovers (rows_of self.new.table) trees → TreesStandFor trees (answered_all requests.now self.old.plan)) }
+        ensures crash { IsClean (S.Store.view (rows_of self.new.table)) → (trees : Trees) → S.Store.recovers (rows_of self.new.table) trees
+            → TreesStandFor trees (answered_all requests.now self.old.plan) ⊎ S.Store.recovers (rows_of self.old.table) trees }
     {
-        // For the prover: the file stands for the plan.
-        let _ = self.device();
-        for request in requests {
-            self.answer(request)?;
+        if !self.is_open {
+            return Err(StoreError::Closed);
         }
-        Ok(())
+        if let Some(error) = first_refusal(requests) {
+            return Err(error);
+        }
+        let replies = self.answer_all(requests);
+        if replies.is_err() {
+            self.is_open = false;
+        }
+        replies
     }
 }

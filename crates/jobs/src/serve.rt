@@ -1,165 +1,175 @@
-//! Lines of commands, and their answers.
+//! Batches of lines: the lines that are there together are obeyed together, committed once, and answered.
 
-use crate::command::{Command, Misread};
-use agenda_store::{Device, JobId, Store, StoreError};
+ghost use Rattle.std.specs.Prelude.{◌≡◌, ◌≤◌, ◌⊎◌, IfOk, OnOk, OnErr, length, string_bytes, take};
+ghost use Rattle.std.specs.Io.KnownBytes.{Appends, Keeps};
+ghost use Rattle.sqlite_trees.specs.Tree.{Trees};
+ghost use Rattle.sqlite_trees.specs.View.{IsClean};
+ghost use Rattle.agenda_store.specs.Table.{TreesStandFor, rows_of};
+ghost use Rattle.jobs.specs.Serving.{Serves, ServesAll, TakesLine, WritesFront};
+
+use crate::answer::{Fault, complain, obey};
+use crate::command::Command;
+use agenda_store::{Checkpoint, Store, StoreError};
+use std::alloc::{AllocError, Global};
 use std::io;
-use std::io::{BufRead, BufReader, ErrorKind};
+use std::io::{BufRead, BufReader, ErrorKind, Read, Write};
 use thiserror::Error;
 
-/// What `--help` prints.
-pub const HELP: &str = "\
-usage: jobs [--file PATH [--sync never|line|N]] < COMMANDS
-
-Keeps jobs by deadline. With --file they survive a crash. Reads one command per line and answers each:
-
-  at DEADLINE NAME      schedules a job, answered by its number
-  cancel NUMBER         takes a job off
-  move NUMBER DEADLINE  gives a job another deadline
-  due NOW               takes off all jobs whose deadline is at most NOW, a line for each
-  next                  the deadline of the first job
-  list                  all jobs in order, a line for each
-  compact               writes the file anew, with the jobs that are left
-  help                  prints this
-
-Each change is on the disk before its answer. With --sync changes are put on the disk later: after every N, at the end of each line, or only
-at the end (never). If the process is killed, no answered change is lost. A power failure may lose changes that weren't put on the disk, or,
-as the disk may write them in another order, leave a file that is refused as corrupt.
-
-A bad line is answered by `line N: REASON` and changes nothing. If the file fails, the line is answered so too: its change may be in the file
-or not. Every later change is then refused: start the program again.
-Exit status: 0; 1 if reading or writing failed, or the file can't be opened; 64 on wrong usage; 65 if it is no agenda, or corrupt.
-";
-
-/// Why a line wasn't obeyed.
+/// Why serving ended before the input did.
 #[derive(Debug, Drop, Error)]
-pub enum Fault {
-    #[error("{0}")]
-    Misread(#[from] Misread),
-    #[error("not text")]
-    NotText,
-    #[error("no such job")]
-    NoSuchJob,
-    #[error("{0}")]
-    Store(#[from] StoreError),
-    #[error(transparent)]
-    Device(#[from] io::Error),
+pub enum Stop {
+    /// The input can't be read.
+    #[error("reading failed: {0}")]
+    Input(io::Error),
+    /// An answer can't be written.
+    #[error("writing failed: {0}")]
+    Output(io::Error),
+    /// A commit failed, or a call before it. What the last lines changed may be in the file or not.
+    #[error("{0}; from line {1} on nothing is answered: start the program again")]
+    Commit(StoreError, u64),
+    /// No memory was left for an answer.
+    #[error("out of memory")]
+    Memory,
 }
 
-// Answers that a change is done, unless there was no such job.
-fn confirm(rt: &impl Print, is_found: bool) -> Result<(), Fault> {
-    if !is_found {
-        return Err(Fault::NoSuchJob);
+impl From<AllocError> for Stop {
+    fn from(_: AllocError) -> Stop {
+        Stop::Memory
     }
-    println!(rt; "done")?;
-    Ok(())
 }
 
-// Answers a job.
-fn print_job(rt: &impl Print, id: JobId, deadline: u64, bytes: &[u8]) -> io::Result<()> {
-    let name = str::from_utf8(bytes).unwrap_or("?");
-    println!(rt; "{} {deadline} {name}", id.0)
+// A batch of lines: their answers, the numbers of the first and the last, and whether one asks that the log be copied.
+#[derive(Drop)]
+struct Batch {
+    alloc: Global,
+    answers: String,
+    first: u64,
+    last: u64,
+    is_compacting: bool,
 }
 
-// Takes all jobs off that are due.
-fn pop_due<D: Device>(
-    rt: &(impl Print + AllocGlobal),
-    store: &mut Store<D>,
-    now: u64,
-) -> Result<(), Fault> {
-    for _ in 0..u64::MAX {
-        let Some((id, deadline, bytes)) = store.pop_due(now)? else {
-            break;
+impl Batch {
+    // Obeys one more line, and keeps its answer. An empty line says nothing.
+    fn take<S: Checkpoint>(&mut self, store: &mut Store<S>, line: &[u8]) -> Result<(), Stop>
+        ensures step { OnOk result (TakesLine store.old.plan store.new.plan (string_bytes self.old.answers) (string_bytes self.new.answers)) }
+        ensures clean { IsClean (S.Store.view (rows_of store.new.table)) → IsClean (S.Store.view (rows_of store.old.table)) }
+        ensures crash { (trees : Trees) → S.Store.recovers (rows_of store.new.table) trees → S.Store.recovers (rows_of store.old.table) trees }
+    {
+        self.last = self.last.saturating_add(1);
+        if line.trim_ascii().is_empty() {
+            return Ok(());
+        }
+        let command = match Command::read(line) {
+            Ok(command) => command,
+            Err(misread) => {
+                let text = complain(self.alloc, self.last, misread)?;
+                self.answers.push_str(&text)?;
+                return Ok(());
+            }
         };
-        print_job(rt, id, deadline, &bytes)?;
+        match obey(self.alloc, store, self.last, command) {
+            Ok(text) => self.answers.push_str(&text)?,
+            Err(Fault::Store(error)) => return Err(Stop::Commit(error, self.first)),
+            Err(Fault::Memory) => return Err(Stop::Memory),
+        }
+        if let Command::Compact = command {
+            self.is_compacting = true;
+        }
+        Ok(())
     }
-    Ok(())
-}
 
-// Answers all jobs.
-fn list<D: Device>(rt: &impl Print, store: &Store<D>) -> io::Result<()> {
-    for (id, deadline, bytes) in store.iter() {
-        print_job(rt, id, deadline, bytes)?;
-    }
-    Ok(())
-}
-
-// Does what a line says, and answers it.
-fn obey<D: Device>(
-    rt: &(impl Print + AllocGlobal),
-    store: &mut Store<D>,
-    line: &str,
-) -> Result<(), Fault> {
-    match Command::read(line)? {
-        Command::At(deadline, name) => {
-            let id = store.schedule(deadline, name.as_bytes())?;
-            println!(rt; "{}", id.0)?;
+    // Makes what the lines changed last, and begins the next batch.
+    fn commit<S: Checkpoint>(&mut self, store: &mut Store<S>) -> Result<(), Stop>
+        ensures same { OnOk result (store.new.plan ≡ store.old.plan) }
+        ensures answers { self.new.answers ≡ self.old.answers }
+        ensures durable { OnOk result (IsClean (S.Store.view (rows_of store.new.table)) → (trees : Trees)
+            → S.Store.recovers (rows_of store.new.table) trees → TreesStandFor trees store.old.plan) }
+        ensures clean { IsClean (S.Store.view (rows_of store.new.table)) → IsClean (S.Store.view (rows_of store.old.table)) }
+        ensures crash { IsClean (S.Store.view (rows_of store.new.table)) → (trees : Trees) → S.Store.recovers (rows_of store.new.table) trees
+            → TreesStandFor trees store.old.plan ⊎ S.Store.recovers (rows_of store.old.table) trees }
+    {
+        if let Err(error) = store.commit() {
+            return Err(Stop::Commit(error, self.first));
         }
-        Command::Cancel(id) => {
-            let job = store.cancel(JobId(id))?;
-            confirm(rt, job.is_some())?;
+        if self.is_compacting {
+            if let Err(error) = store.checkpoint() {
+                return Err(Stop::Commit(error, self.first));
+            }
         }
-        Command::Move(id, deadline) => {
-            let is_found = store.move_to(JobId(id), deadline)?;
-            confirm(rt, is_found)?;
-        }
-        Command::Due(now) => pop_due(rt, store, now)?,
-        Command::Next => match store.next_deadline() {
-            Some(deadline) => println!(rt; "{deadline}")?,
-            None => println!(rt; "no job")?,
-        },
-        Command::List => list(rt, store)?,
-        Command::Compact => {
-            store.compact()?;
-            confirm(rt, true)?;
-        }
-        Command::Help => print!(rt; "{HELP}")?,
-    }
-    Ok(())
-}
-
-// Does what a line says that was read. An empty one says nothing.
-fn take<D: Device>(
-    rt: &(impl Print + AllocGlobal),
-    store: &mut Store<D>,
-    line: io::Result<String>,
-) -> Result<(), Fault> {
-    match line {
-        Ok(line) if line.trim().is_empty() => Ok(()),
-        Ok(line) => obey(rt, store, line.as_str()),
-        Err(error) if error.kind() == ErrorKind::InvalidData => Err(Fault::NotText),
-        Err(error) => Err(Fault::Device(error)),
+        self.is_compacting = false;
+        self.first = self.last.saturating_add(1);
+        Ok(())
     }
 }
 
-// Does what a line says, and if asked to, puts what it changed on the disk.
-fn take_and_flush<D: Device>(
-    rt: &(impl Print + AllocGlobal),
-    store: &mut Store<D>,
-    line: io::Result<String>,
-    is_flushed: bool,
-) -> Result<(), Fault> {
-    take(rt, store, line)?;
-    if is_flushed && store.is_open() {
-        store.flush()?;
+// Writes as many bytes as the writer takes at once, and returns how many.
+fn write_some<W: Write>(out: &mut W, bytes: &[u8]) -> Result<usize, Stop>
+    ensures wrote { IfOk result (λ count. (count ≤ length bytes.now) × Appends (W.contents out.old) (W.contents out.new) (take count bytes.now)) }
+    ensures kept { OnErr result (Keeps (W.contents out.old) (W.contents out.new)) }
+{
+    match out.write(bytes) {
+        Ok(0) => Err(Stop::Output(ErrorKind::WriteZero.into())),
+        Ok(count) => Ok(count),
+        Err(error) if error.kind() == ErrorKind::Interrupted => Ok(0),
+        Err(error) => Err(Stop::Output(error)),
     }
-    Ok(())
 }
 
-/// Obeys each line of standard input in turn. A line that can't be obeyed is reported by its number. If `is_flushed`, what a line changed
-/// is put on the disk before the next is read.
-pub fn serve<D: Device>(
-    rt: &(impl Input + Print + AllocGlobal),
-    store: &mut Store<D>,
-    is_flushed: bool,
-) -> io::Result<()> {
-    let mut lines: u64 = 0;
-    for line in BufReader::new(rt.alloc(), rt.reader())?.lines(rt.alloc()) {
-        lines = lines.saturating_add(1);
-        match take_and_flush(rt, store, line, is_flushed) {
-            Ok(()) => (),
-            Err(Fault::Device(error)) => return Err(error),
-            Err(fault) => println!(rt; "line {lines}: {fault}")?,
+// Writes the answers of a batch.
+fn write_answers<W: Write>(out: &mut W, answers: &[u8]) -> Result<(), Stop>
+    ensures all { OnOk result (Appends (W.contents out.old) (W.contents out.new) answers.now) }
+    ensures front { WritesFront (W.contents out.old) (W.contents out.new) answers.now }
+{
+    let mut rest = answers;
+    'parts: for _ in 0..u64::MAX {
+        if rest.is_empty() {
+            return match out.flush() {
+                Ok(()) => Ok(()),
+                Err(error) => Err(Stop::Output(error)),
+            };
+        }
+        let count = write_some(out, rest)?;
+        rest = &rest[count..];
+    }
+    Err(Stop::Output(ErrorKind::WriteZero.into()))
+}
+
+/// Obeys each line of the input in turn. The lines that are there together are answered together, after one commit. A last line needs no
+/// end.
+///
+/// # Errors
+///
+/// What was written are the answers of lines that are committed, or a beginning of these.
+pub fn serve<S: Checkpoint, R: Read + Drop, W: Write>(
+    alloc: Global,
+    store: &mut Store<S>,
+    input: &mut BufReader<R>,
+    out: &mut W,
+) -> Result<(), Stop>
+    ensures all { OnOk result (ServesAll S.Store store.old store.new (W.contents out.old) (W.contents out.new)) }
+    ensures served { Serves S.Store store.old store.new (W.contents out.old) (W.contents out.new) }
+{
+    let mut batch = Batch {
+        alloc,
+        answers: String::new(alloc),
+        first: 1,
+        last: 0,
+        is_compacting: false,
+    };
+    let mut line = Vec::new(alloc);
+    'lines: for _ in 0..u64::MAX {
+        line.clear();
+        match input.read_until(b'\n', &mut line) {
+            Ok(0) => break,
+            Ok(_) => batch.take(store, &line)?,
+            Err(error) => return Err(Stop::Input(error)),
+        }
+        if !input.buffer().contains(&b'\n') {
+            batch.commit(store)?;
+            write_answers(out, batch.answers.as_bytes())?;
+            batch.answers.clear();
         }
     }
-    Ok(())
+    batch.commit(store)?;
+    write_answers(out, batch.answers.as_bytes())
 }

@@ -5,4 +5,4 @@ use Rattle.agenda_store.proofs.planner.Planner.count_from.Goals as goal
 pub returns-clause-linked : goal.returns-clause-linked
 returns-clause-linked c =
     let old = c.args.self.now in
-    linked_on (ticket_at old) old.next c.args.next old.agenda.jobs c.if-next-self.false c.requires
+    linked_on (ticket_at old) old.next c.args.next old.agenda.entries c.if-next-self.false c.requires

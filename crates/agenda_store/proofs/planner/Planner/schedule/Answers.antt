@@ -8,11 +8,11 @@ pub put-requires-clause-job : goal.put-requires-clause-job
 put-requires-clause-job c =
     let old = c.args.self.now in
     record {
-      linked = linked_on (ticket_at old) old.next c.in-Some.next old.agenda.jobs (omega (arith, c.in-Some.ensures.1)) c.requires.linked;
+      linked = linked_on (ticket_at old) old.next c.in-Some.next old.agenda.entries (omega (arith, c.in-Some.ensures.1)) c.requires.linked;
       short = c.requires.short;
     }
 
 pub put-requires-clause-admitted : goal.put-requires-clause-admitted
 put-requires-clause-admitted c =
     let old = c.args.self.now in
-    (omega (arith, c.in-Some.ensures.1), fresh old.next old.agenda.jobs c.requires.linked.below)
+    (omega (arith, c.in-Some.ensures.1), fresh old.next old.agenda.entries c.requires.linked.below)

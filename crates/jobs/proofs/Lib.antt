@@ -1,0 +1,3 @@
+pub mod Popping
+pub mod Steps
+pub mod Come
