@@ -1,6 +1,6 @@
 //! What is done for a command, and what is answered.
 
-use crate::HELP;
+use crate::COMMANDS;
 use crate::command::{Command, Fault};
 use std::alloc::Global;
 use std::io;
@@ -53,6 +53,9 @@ const PARTS: u64 = 48;
 
 // Writes a time as a row of equal parts, each by the first letter of the word that holds at its beginning.
 fn tell_strip<W: Write>(out: &mut W, calendar: &Calendar, from: u64, until: u64) -> io::Result<()> {
+    if from >= until {
+        return writeln!(out, "no time");
+    }
     let part = until.saturating_sub(from).div_ceil(PARTS);
     let mut time = from;
     for _ in 0..PARTS {
@@ -114,7 +117,7 @@ pub fn obey<W: Write>(
         Command::Spans(from, until) => tell_spans(out, calendar, from, until)?,
         Command::Gaps(from, until) => tell_gaps(out, calendar, from, until)?,
         Command::Strip(from, until) => tell_strip(out, calendar, from, until)?,
-        Command::Help => out.write_all(HELP.as_bytes())?,
+        Command::Help => out.write_all(COMMANDS.as_bytes())?,
         Command::Blank => return Ok(false),
     }
     Ok(true)

@@ -6,20 +6,23 @@ mod command;
 
 use answers::{Calendar, obey};
 use command::Fault;
-use command_line::{Failure, Session, ended, obey_arguments, serve};
+use line_service::{Program, Session};
 use std::alloc::Global;
-use std::io::{BufWriter, Write};
+use std::io::Write;
 use std::process::ExitCode;
 use std::{io, str};
 use timeline::Timeline;
 
-/// What `--help` and `help` print.
-const HELP: &str = "\
-usage: calendar < COMMANDS
+/// What the program says of itself.
+const PROGRAM: Program = Program {
+    name: "calendar",
+    about: "Says which word holds at which time: reads commands, one a line, and answers each.",
+    commands: COMMANDS,
+    example: "printf 'set 8 12 work\\nget 9\\n' | calendar",
+};
 
-Reads one command per line and answers each:
-
-  set FROM UNTIL WORD   the word holds from FROM until before UNTIL
+/// The commands.
+const COMMANDS: &str = "  set FROM UNTIL WORD   the word holds from FROM until before UNTIL
   set FROM - WORD       the word holds from FROM on
   clear FROM UNTIL      no word holds there; - for UNTIL: from FROM on
   get TIME              the word at a time
@@ -27,12 +30,7 @@ Reads one command per line and answers each:
   spans FROM UNTIL      a line for each span in that time
   gaps FROM UNTIL       a line for each gap in that time
   strip FROM UNTIL      that time in a row of at most 48 first letters, . for no word
-  help                  this text
-
-A bad line is answered by `line N: REASON` and changes nothing. The last line has totals.
-Answers are written as soon as no whole line is left to be read: at a terminal and
-from a pipe after each line, from a file in blocks.
-Exit status: 0; 1 if reading or writing failed; 64 on wrong usage.
+  help                  these commands
 ";
 
 /// A calendar that answers commands, and how many lines there were, how many of them were obeyed, and how many weren't.
@@ -64,12 +62,19 @@ impl Session for Clerk {
         }
         Ok(())
     }
+
+    // The figures.
+    fn finish<W: Write>(&mut self, out: &mut W) -> io::Result<()> {
+        let (lines, done, bad) = (self.lines, self.done, self.bad);
+        let changes = self.calendar.len();
+        writeln!(
+            out,
+            "lines {lines}, done {done}, bad {bad}, changes {changes}"
+        )
+    }
 }
 
-/// Serves standard input, and writes the figures as the last line, unless reading or writing failed.
-fn run(rt: &(impl Input + Print + AllocGlobal)) -> Result<(), Failure> {
-    let writer = BufWriter::new(rt.alloc(), io::writer(rt));
-    let mut out = writer.map_err(Failure::writing)?;
+fn main(rt: HostRuntime) -> ExitCode {
     let mut clerk = Clerk {
         alloc: rt.alloc(),
         calendar: Timeline::new(rt.alloc()),
@@ -77,27 +82,5 @@ fn run(rt: &(impl Input + Print + AllocGlobal)) -> Result<(), Failure> {
         done: 0,
         bad: 0,
     };
-    serve(rt, &mut out, &mut clerk)?;
-    let (lines, done, bad) = (clerk.lines, clerk.done, clerk.bad);
-    let changes = clerk.calendar.len();
-    writeln!(
-        out,
-        "lines {lines}, done {done}, bad {bad}, changes {changes}"
-    )
-    .map_err(Failure::writing)?;
-    out.flush().map_err(Failure::writing)
-}
-
-/// Does what the arguments ask for, or serves standard input.
-fn obey_or_run(rt: &HostRuntime) -> Result<ExitCode, Failure> {
-    if let Some(status) = obey_arguments(rt, "calendar", HELP)? {
-        return Ok(status);
-    }
-    run(rt)?;
-    Ok(ExitCode::SUCCESS)
-}
-
-fn main(rt: HostRuntime) -> ExitCode {
-    let outcome = obey_or_run(&rt);
-    ended(&rt, "calendar", outcome)
+    PROGRAM.run(&rt, &mut clerk)
 }

@@ -4,8 +4,9 @@ use crate::options::{Form, Moment};
 use ord_script::{Pair, PairArena, PairCommand, PairReply, parse, run};
 use std::alloc::{AllocError, Global};
 use std::cmp::Ordering;
+use std::collections::HashSet;
 use std::str;
-use tree_picture::{Sheet, picture_of, svg_of, text_of};
+use tree_picture::{Node, Picture, Sheet, picture_of, svg_of, text_of};
 use triple_ord::{OrdInsertionError, P0, SimpleOrdArena};
 
 /// Returns the command on a line, if it is neither blank nor a comment. The line ends as it was read.
@@ -42,35 +43,112 @@ fn obey(
     Ok(())
 }
 
+/// Returns the text of a comment, if a line is one.
+fn comment_on(line: &[u8]) -> Option<&str> {
+    let text = str::from_utf8(line).ok()?;
+    Some(text.trim_ascii().strip_prefix("#")?.trim_ascii())
+}
+
+/// Returns what stands above a step: its command, and the script's comment on it, if there is one.
+fn caption_of(alloc: Global, line: &[u8], comment: &[u8]) -> Result<String, AllocError> {
+    let command = str::from_utf8(line).unwrap_or("").trim_ascii();
+    match comment_on(comment) {
+        Some(comment) => format!(in alloc; "{command}: {comment}"),
+        None => String::from_str(alloc, command),
+    }
+}
+
+/// What is compared of a node: its pointer, its rank, and the pointer of its parent.
+type Standing = (P0, u8, Option<P0>);
+
+/// Returns what is compared of a node of a picture.
+fn standing(picture: &Picture<P0>, node: &Node<P0>) -> Standing {
+    let parent = match node.place.parent {
+        Some(column) => picture
+            .nodes
+            .get(column as usize)
+            .map(|parent| parent.pointer),
+        None => None,
+    };
+    (node.pointer, node.place.rank, parent)
+}
+
+/// Returns what is compared of each node of a picture, in order.
+fn standings(alloc: Global, picture: &Picture<P0>) -> Result<Vec<Standing>, AllocError> {
+    let mut standings = Vec::with_capacity(alloc, picture.nodes.len())?;
+    for node in &picture.nodes {
+        standings.push(standing(picture, node))?;
+    }
+    Ok(standings)
+}
+
+/// Frames the nodes of a picture that the picture before doesn't have, or has with another rank or under another parent.
+fn frame_changes(
+    alloc: Global,
+    before: Option<&Picture<P0>>,
+    picture: &mut Picture<P0>,
+) -> Result<(), AllocError> {
+    let mut known = HashSet::new(alloc);
+    if let Some(before) = before {
+        for standing in standings(alloc, before)? {
+            let _ = known.insert(standing)?;
+        }
+    }
+    let now = standings(alloc, picture)?;
+    let mut rest = now.iter();
+    for node in picture.nodes.as_mut_slice() {
+        node.is_framed = !rest.next().is_some_and(|standing| known.contains(standing));
+    }
+    Ok(())
+}
+
 /// Adds the picture of the tree as it is now.
 fn add_picture(
     alloc: Global,
     sheet: &mut Sheet<P0>,
     arena: &PairArena<Global>,
-    caption: &[u8],
+    caption: &str,
 ) -> Result<(), DrawError> {
-    let caption = str::from_utf8(caption).unwrap_or("");
     let picture = picture_of(alloc, arena)?;
-    sheet.push(alloc, caption.trim_ascii(), picture)?;
+    sheet.push(alloc, caption, picture)?;
     Ok(())
 }
 
-/// Runs a script on an empty arena, line by line, and draws its tree: after each command under its line, or after the last line.
+/// Adds the picture of a step: of the tree as it is now, with a frame around each node that has changed since the step before.
+fn add_step(
+    alloc: Global,
+    sheet: &mut Sheet<P0>,
+    arena: &PairArena<Global>,
+    caption: &str,
+) -> Result<(), DrawError> {
+    let mut picture = picture_of(alloc, arena)?;
+    let before = sheet.panels.last().map(|panel| &panel.picture);
+    frame_changes(alloc, before, &mut picture)?;
+    sheet.push(alloc, caption, picture)?;
+    Ok(())
+}
+
+/// Runs a script on an empty arena, line by line, and draws its tree: after each command, under the command and the last comment before
+/// it; or after the last line.
 pub fn sheet_of(alloc: Global, script: &[u8], moment: Moment) -> Result<Sheet<P0>, DrawError> {
     let mut arena: PairArena<Global> = SimpleOrdArena::new(alloc);
     let mut sheet = Sheet::new(alloc);
+    let mut comment: &[u8] = b"";
     for (index, line) in script.split_inclusive(|b| *b == b'\n').enumerate() {
+        if comment_on(line).is_some() {
+            comment = line;
+        }
         if let Some(command) = command_on(alloc, index.saturating_add(1), line)? {
             obey(alloc, &mut arena, command)?;
-            match moment {
-                Moment::End => {}
-                Moment::EachStep => add_picture(alloc, &mut sheet, &arena, line)?,
+            if matches!(moment, Moment::EachStep) {
+                let caption = caption_of(alloc, line, comment)?;
+                add_step(alloc, &mut sheet, &arena, caption.as_str())?;
             }
+            comment = b"";
         }
     }
-    match moment {
-        Moment::End => add_picture(alloc, &mut sheet, &arena, b"")?,
-        Moment::EachStep => {}
+    if matches!(moment, Moment::End) {
+        add_picture(alloc, &mut sheet, &arena, "")?;
     }
     Ok(sheet)
 }

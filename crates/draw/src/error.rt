@@ -1,6 +1,8 @@
 //! Why nothing is drawn.
+use line_service::{BAD_DATA, IO_FAILED, NO_INPUT, NO_MEMORY};
 use ord_script::FaultKind;
 use std::alloc::{AllocError, AllocFailed};
+use std::io;
 use thiserror::Error;
 use tree_picture::PictureError;
 
@@ -13,30 +15,31 @@ pub enum DrawError {
     /// The script has more bytes than are read.
     #[error("the script is too long")]
     TooLong,
+    /// The picture would be too large.
+    #[error("the picture is too large")]
+    TooLarge,
+    /// The script can't be opened.
+    #[error("can't be opened: {0}")]
+    NoInput(io::Error),
     /// Memory is refused.
     #[error("out of memory")]
     Memory,
     /// The script can't be read.
-    #[error("reading failed")]
-    ReadFailed,
+    #[error("reading failed: {0}")]
+    ReadFailed(io::Error),
     /// The picture can't be written.
-    #[error("writing failed")]
-    WriteFailed,
-    /// The picture would be too large.
-    #[error("the picture is too large")]
-    TooLarge,
+    #[error("writing failed: {0}")]
+    WriteFailed(io::Error),
 }
 
 impl DrawError {
     /// Returns the exit status.
     pub fn status(&self) -> u8 {
         match self {
-            DrawError::Fault(_, _) => 2,
-            DrawError::TooLong => 3,
-            DrawError::Memory => 4,
-            DrawError::ReadFailed => 5,
-            DrawError::WriteFailed => 6,
-            DrawError::TooLarge => 7,
+            DrawError::Fault(_, _) | DrawError::TooLong | DrawError::TooLarge => BAD_DATA,
+            DrawError::NoInput(_) => NO_INPUT,
+            DrawError::Memory => NO_MEMORY,
+            DrawError::ReadFailed(_) | DrawError::WriteFailed(_) => IO_FAILED,
         }
     }
 }

@@ -1,7 +1,22 @@
-//! The arguments.
-use std::env::Env;
-use std::{env, io};
+//! The command line.
+use clap::{Arg, ArgAction, ArgMatches, Command};
+use line_service::VERSION;
+use std::alloc::{AllocError, Global};
 use tree_picture::Links;
+
+/// What `--help` says behind the options.
+const NOTES: &str = "\
+A node is a box with its key and its rank. Full: its rank exceeds those of both sides by one;
+as SVG a rectangle, as text [key:rank]. Uneven: by one and by two; round ends, (key:rank).
+Slack: by two on both sides; pointed ends, <key:rank>.
+
+Example:
+  printf 'insert 2 0\\ninsert 1 0\\n' | draw --text
+
+Exit status: 0; 64 on wrong usage; 65 if a line is no command, the script has more than
+1,048,576 bytes, or the picture would be too large; 66 if SCRIPT can't be opened; 71 out of
+memory; 74 if reading or writing failed.
+";
 
 /// How the tree is drawn.
 #[derive(Clone, Copy)]
@@ -22,65 +37,71 @@ pub enum Moment {
 }
 
 /// What is drawn.
-#[derive(Drop)]
-pub struct Options {
+#[derive(Clone, Copy)]
+pub struct Options<'a> {
     /// When the tree is drawn.
     pub moment: Moment,
     /// How it is drawn.
     pub form: Form,
     /// The file of the script; `None` for standard input.
-    pub file: Option<String>,
+    pub file: Option<&'a str>,
 }
 
-/// What the arguments ask for.
-#[derive(Drop)]
-pub enum Request {
-    /// A script is to be drawn.
-    Draw(Options),
-    /// The usage is to be printed.
-    Help,
-    /// This argument isn't known, or isn't allowed beside the others.
-    Unknown(String),
+// An option without a value.
+fn flag<'a>(alloc: Global, name: &'a str, help: &'a str) -> Arg<'a> {
+    Arg::new(alloc, name)
+        .long(name)
+        .action(ArgAction::SetTrue)
+        .help(help)
 }
 
-impl Options {
-    /// Applies an argument, or returns it if it isn't known or isn't allowed beside the earlier ones.
-    fn apply(&mut self, argument: String) -> Option<String> {
-        match (argument.as_str(), self.form) {
-            ("--steps", _) => self.moment = Moment::EachStep,
-            ("--text", Form::Svg(Links::Hidden)) => self.form = Form::Text,
-            ("--links", Form::Svg(_)) => self.form = Form::Svg(Links::Shown),
-            ("-", _) => {}
-            (text, _) if !text.starts_with("-") && self.file.is_none() => {
-                self.file = Some(argument);
-                return None;
-            }
-            _ => return Some(argument),
-        }
-        None
-    }
+/// Returns the command line of the program.
+pub fn command<'a>(alloc: Global) -> Result<Command<'a>, AllocError> {
+    let steps = flag(
+        alloc,
+        "steps",
+        "Draw the tree after each command, three pictures a row, with a frame around what has changed",
+    );
+    let links = flag(
+        alloc,
+        "links",
+        "Draw the links of the list too, as curves below",
+    );
+    let text = flag(alloc, "text", "Draw for a terminal").conflicts_with("links")?;
+    let script = Arg::new(alloc, "SCRIPT").help(
+        "The script: a command of the ordered arena on each line; - or none for standard input",
+    );
+    Command::new(alloc, "draw")
+        .version(VERSION)
+        .about(
+            "Runs a script on an ordered arena, as ordrun does, and draws its tree, as SVG or as text.",
+        )
+        .after_help(NOTES)
+        .arg(steps)?
+        .arg(links)?
+        .arg(text)?
+        .arg(script)
 }
 
-impl Request {
-    /// Reads the arguments.
-    ///
-    /// # Errors
-    ///
-    /// Those of [`env::args`](std::env::args): an argument isn't text, or memory is refused.
-    pub fn read(rt: &(impl Env + AllocGlobal)) -> io::Result<Request> {
-        let mut options = Options {
-            moment: Moment::End,
-            form: Form::Svg(Links::Hidden),
-            file: None,
+impl<'a> Options<'a> {
+    /// Returns what a parsed command line asks for.
+    pub fn of(matches: &ArgMatches<'a>) -> Options<'a> {
+        let form = if matches.get_flag("text") {
+            Form::Text
+        } else if matches.get_flag("links") {
+            Form::Svg(Links::Shown)
+        } else {
+            Form::Svg(Links::Hidden)
         };
-        for argument in env::args(rt)?.skip(1) {
-            if argument.as_str() == "--help" {
-                return Ok(Request::Help);
-            }
-            if let Some(unknown) = options.apply(argument) {
-                return Ok(Request::Unknown(unknown));
-            }
-        }
-        Ok(Request::Draw(options))
+        let moment = if matches.get_flag("steps") {
+            Moment::EachStep
+        } else {
+            Moment::End
+        };
+        let file = match matches.get_str("SCRIPT") {
+            Some("-") | None => None,
+            Some(path) => Some(path),
+        };
+        Options { moment, form, file }
     }
 }

@@ -1,6 +1,6 @@
 //! What the exchange answers to each line.
 
-use crate::HELP;
+use crate::COMMANDS;
 use crate::chart::write_chart;
 use crate::command::{Command, Fault};
 use crate::exchange::Exchange;
@@ -87,6 +87,15 @@ fn write_best<W: Write>(writer: &mut W, word: &str, best: Option<Order>) -> io::
     }
 }
 
+/// Writes the first levels of both sides, or that there is none.
+fn write_depths<W: Write>(writer: &mut W, exchange: &Exchange, levels: usize) -> io::Result<()> {
+    if !exchange.has_levels(levels) {
+        return writeln!(writer, "no level");
+    }
+    write_depth(writer, exchange, Side::Buy, levels)?;
+    write_depth(writer, exchange, Side::Sell, levels)
+}
+
 /// Writes the first levels of a side.
 fn write_depth<W: Write>(
     writer: &mut W,
@@ -161,12 +170,9 @@ pub fn obey<W: Write>(
             write_best(writer, "bid", exchange.book.best_bid())?;
             write_best(writer, "ask", exchange.book.best_ask())?;
         }
-        Command::Depth(levels) => {
-            write_depth(writer, exchange, Side::Buy, levels)?;
-            write_depth(writer, exchange, Side::Sell, levels)?;
-        }
+        Command::Depth(levels) => write_depths(writer, exchange, levels)?,
         Command::Chart(levels) => write_chart(alloc, writer, exchange, levels)?,
-        Command::Help => write!(writer, "{HELP}")?,
+        Command::Help => writer.write_all(COMMANDS.as_bytes())?,
         command => change(writer, exchange, figures, command)?,
     }
     Ok(())

@@ -30,13 +30,18 @@ fn write_bar<W: Write>(writer: &mut W, word: &str, level: Level, unit: u128) -> 
     writeln!(writer, " {}", level.quantity)
 }
 
-/// Writes the first levels of both sides as bars, the best ask right above the best bid. The greatest quantity has the longest bar.
+/// Writes the first levels of both sides as bars, the best ask right above the best bid, or that there is no level. The greatest
+/// quantity has the longest bar.
 pub fn write_chart<W: Write>(
     alloc: Global,
     writer: &mut W,
     exchange: &Exchange,
     levels: usize,
 ) -> Result<(), Fault> {
+    if !exchange.has_levels(levels) {
+        writeln!(writer, "no level")?;
+        return Ok(());
+    }
     let asks: Vec<Level> = exchange.book.depth(Side::Sell, levels).collect(alloc)?;
     let unit = greatest_of(exchange, Side::Buy, levels, &asks) / BAR.len() as u128 + 1;
     for ask in asks.iter().rev() {

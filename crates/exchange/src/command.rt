@@ -1,6 +1,6 @@
 //! What a line says, and what may be wrong with it.
 
-use command_line::{NumberError, number};
+use line_service::{NumberError, number};
 use order_book::{OrderKind, PlacingError, ReplacingError, Side};
 use std::alloc::AllocError;
 use std::io;

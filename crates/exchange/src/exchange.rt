@@ -98,6 +98,11 @@ impl Exchange {
         self.entries.get(&number).map_or(0, |entry| entry.tag)
     }
 
+    /// Returns whether there are any levels among so many first ones.
+    pub fn has_levels(&self, levels: usize) -> bool {
+        levels > 0 && (self.book.best_bid().is_some() || self.book.best_ask().is_some())
+    }
+
     /// Returns what is left of the order of this number.
     pub fn left(&self, number: u64) -> u64 {
         let Some(entry) = self.entries.get(&number) else {

@@ -8,20 +8,23 @@ mod exchange;
 
 use answers::{Figures, obey, report, write_totals};
 use command::Fault;
-use command_line::{Failure, Session, ended, obey_arguments, serve};
 use exchange::Exchange;
+use line_service::{Program, Session};
 use std::alloc::Global;
-use std::io::{BufWriter, Write};
+use std::io::Write;
 use std::process::ExitCode;
 use std::{io, str};
 
-/// What `--help` prints, and `help` answers.
-const HELP: &str = "\
-usage: exchange < COMMANDS
+/// What the program says of itself.
+const PROGRAM: Program = Program {
+    name: "exchange",
+    about: "Trades orders by price, and at equal prices by age: reads commands, one a line, and answers each.",
+    commands: COMMANDS,
+    example: "printf 'buy 100 30\\nsell 100 20\\n' | exchange",
+};
 
-Reads one command per line and answers each:
-
-  buy PRICE QUANTITY [TAG]            trades, and what rests, by number
+/// The commands.
+const COMMANDS: &str = "  buy PRICE QUANTITY [TAG]            trades, and what rests, by number
   sell PRICE QUANTITY [TAG]
   post buy|sell PRICE QUANTITY [TAG]  rests, and is refused if it would trade
   ioc buy|sell PRICE QUANTITY [TAG]   trades at once; the rest is dropped
@@ -33,12 +36,8 @@ Reads one command per line and answers each:
   best                                the best bid and ask
   depth [LEVELS]                      price, quantity and orders of each level
   chart [LEVELS]                      price and quantity of each level, as bars
-  help
-
-Numbers are decimal digits, at most 18446744073709551615. A bad line is answered
-by `line N: REASON` and changes nothing. The last line has totals. Answers are
-written when no whole line is left to be read.
-Exit status: 0; 1 if reading or writing failed; 64 on wrong usage.
+  help                                these commands
+Numbers are decimal digits, at most 18446744073709551615.
 ";
 
 /// An exchange that answers commands, and its figures.
@@ -60,32 +59,18 @@ impl Session for Clerk {
         };
         report(out, &mut self.figures, outcome)
     }
+
+    // The totals.
+    fn finish<W: Write>(&mut self, out: &mut W) -> io::Result<()> {
+        write_totals(out, &self.exchange, &self.figures)
+    }
 }
 
-/// Serves standard input, and writes the totals as the last line, unless reading or writing failed.
-fn run(rt: &(impl Input + Print + AllocGlobal)) -> Result<(), Failure> {
-    let writer = BufWriter::new(rt.alloc(), io::writer(rt));
-    let mut out = writer.map_err(Failure::writing)?;
+fn main(rt: HostRuntime) -> ExitCode {
     let mut clerk = Clerk {
         alloc: rt.alloc(),
         exchange: Exchange::new(rt.alloc()),
         figures: Figures::new(),
     };
-    serve(rt, &mut out, &mut clerk)?;
-    write_totals(&mut out, &clerk.exchange, &clerk.figures).map_err(Failure::writing)?;
-    out.flush().map_err(Failure::writing)
-}
-
-/// Does what the arguments ask for, or serves standard input.
-fn obey_or_run(rt: &HostRuntime) -> Result<ExitCode, Failure> {
-    if let Some(status) = obey_arguments(rt, "exchange", HELP)? {
-        return Ok(status);
-    }
-    run(rt)?;
-    Ok(ExitCode::SUCCESS)
-}
-
-fn main(rt: HostRuntime) -> ExitCode {
-    let outcome = obey_or_run(&rt);
-    ended(&rt, "exchange", outcome)
+    PROGRAM.run(&rt, &mut clerk)
 }

@@ -5,3 +5,4 @@ pub mod LayoutLaws
 pub mod Laying
 pub mod Listing
 pub mod Widest
+pub mod Pieces

@@ -1,6 +1,7 @@
 -- The nodes of a picture, entry by entry.
-use Rattle.std.proofs.Common.{◌≡◌, ℕ, ◌+◌, ◌<◌, List, [], ◌∷◌, ◌++◌, Option, length, map, take, get_or, sym, ap, subst, ◌∙◌, arith, append_assoc, length-append}
+use Rattle.std.proofs.Common.{◌≡◌, ℕ, ◌+◌, ◌<◌, List, [], ◌∷◌, ◌++◌, Option, length, map, take, get_or, sym, ap, subst, ◌∙◌, All, arith, append_assoc, length-append}
 use Rattle.std.proofs.lemmas.List.{length-map, map-append, take_more}
+use Rattle.std.proofs.lemmas.List.Elements.{All-append, All-nil, All-cons}
 use Rattle.triple_ord.specs.Chain.{Entry}
 use Rattle.tree_picture.specs.Text.{Shows, ShowEach}
 
@@ -17,6 +18,10 @@ pub fewer : {X Y B : Type 0} (f : X → B) (g : Y → B) (listed : List X) (all 
     → length listed < length all
 fewer f g listed all done rest left y same cut next =
     omega (arith, as-many f g listed done same, ap length cut, length-append done rest, ap length next)
+
+-- one more element of which something holds
+pub more-all : {N : Type 0} (P : N → Type 0) (old new : List N) (n : N) → new ≡ old ++ n ∷ [] → All P old → P n → All P new
+more-all P old new n grown all one = rw grown (All-append P old (n ∷ []) all (All-cons P n [] one (All-nil P)))
 
 -- one more node
 module _ {N : Type 0} (old new : List N) (n : N) (grown : new ≡ old ++ n ∷ []) where

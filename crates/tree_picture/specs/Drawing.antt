@@ -1,6 +1,6 @@
 -- How a picture is written as text: a line for each level of the tree, and between two levels a line that joins each node to its parent. A
 -- column has as many characters as the widest label, and one more.
-use Rattle.std.specs.Prelude.{◌≡◌, ℕ, zero, suc, ◌+◌, ◌-◌, ◌/◌, ◌==◌, nat_lt, max, if◌then◌else◌, Bool, true, false, Option, Some, None, List, [], ◌∷◌, ◌++◌, length, map, flat_map, codes, encode_utf8, decimal, string_bytes, String, Result, OnOk}
+use Rattle.std.specs.Prelude.{◌≡◌, ℕ, zero, suc, ◌+◌, ◌-◌, ◌/◌, ◌==◌, nat_lt, max, if◌then◌else◌, Bool, false, Option, Some, None, List, [], ◌∷◌, ◌++◌, length, flat_map, codes, encode_utf8, decimal, string_bytes, String, Result, OnOk}
 use Rattle.std.specs.{List.repeat, Str.chars, Str.trim_end}
 use Rattle.tree_picture.specs.declared.place.{Kind.Kind, Kind.TheVariants.Full, Kind.TheVariants.Uneven, Kind.TheVariants.Slack, Place.Place}
 use Rattle.tree_picture.specs.declared.picture.{Node.Node, Picture.Picture}

@@ -3,7 +3,7 @@ use Rattle.std.specs.Prelude.{ℕ, ◌+◌, ◌*◌, ◌==◌, ◌&&◌, nat_lt,
 use Rattle.std.specs.Str.{chars}
 use Rattle.triple_ord.specs.Shape.{Shape, missing, node, rank_of, size_of}
 use Rattle.tree_picture.specs.declared.place.{Kind.Kind, Kind.TheVariants.Full, Kind.TheVariants.Uneven, Kind.TheVariants.Slack, Place.Place}
-use Rattle.tree_picture.specs.declared.sheet.TheConstants.{CAPTION_CHARS, CHARACTER_WIDTH}
+use Rattle.tree_picture.specs.declared.sheet.TheConstants.{CAPTION_CHARS, CAPTION_HEIGHT, CHARACTER_WIDTH}
 use Rattle.tree_picture.specs.declared.place.TheConstants.{COLUMN_WIDTH, LEVEL_HEIGHT, MARGIN}
 
 -- the kind of a node of rank k over sides of ranks l and r
@@ -27,13 +27,24 @@ left_of column = MARGIN + COLUMN_WIDTH * column
 abbrev pub top_of : ℕ → ℕ
 top_of depth = MARGIN + LEVEL_HEIGHT * depth
 
--- the size of the picture of so many nodes, and of so many levels
+-- the size of the picture of so many nodes, and of so many levels; the gap below the last level is its lower margin
 abbrev pub width_of : ℕ → ℕ
 width_of nodes = 2 * MARGIN + COLUMN_WIDTH * nodes
 
 abbrev pub height_of : ℕ → ℕ
-height_of levels = 2 * MARGIN + LEVEL_HEIGHT * levels
+height_of levels = MARGIN + LEVEL_HEIGHT * levels
 
--- the width of a picture of so many nodes with its caption, of which so many characters at most are shown
+-- the width of a key or a caption, of which so many characters at most are shown
+abbrev pub text_width : List ℕ → ℕ
+text_width text = CHARACTER_WIDTH * min (length (chars text)) CAPTION_CHARS
+
+-- how far below its caption's upper end a picture begins
+abbrev pub caption_height : List ℕ → ℕ
+caption_height caption = if length caption == 0 then 0 else CAPTION_HEIGHT
+
+-- the size of a picture of so many nodes, or of so many levels, with its caption
 abbrev pub panel_width : List ℕ → ℕ → ℕ
-panel_width caption nodes = max (width_of nodes) (2 * MARGIN + CHARACTER_WIDTH * min (length (chars caption)) CAPTION_CHARS)
+panel_width caption nodes = max (width_of nodes) (2 * MARGIN + text_width caption)
+
+abbrev pub panel_height : List ℕ → ℕ → ℕ
+panel_height caption levels = caption_height caption + height_of levels

@@ -1,10 +1,11 @@
 //! The layout of an arena's tree.
-ghost use Rattle.std.specs.Prelude.{◌≡◌, ◌<◌, ◌≤◌, ◌+◌, ◌++◌, ◌↔◌, None, IfOk, OnOk, IsErrOf, option_map, map, length, string_bytes};
+ghost use Rattle.std.specs.Prelude.{◌≡◌, ◌<◌, ◌≤◌, ◌+◌, ◌++◌, ◌↔◌, None, IfOk, OnOk, IsErrOf, option_map, map, All, length, string_bytes};
 ghost use Rattle.triple_ord.specs.Shape.{size_of, height};
 ghost use Rattle.triple_ord.specs.Arena.{count, pointers};
 ghost use Rattle.tree_picture.specs.Below.{part_below};
 ghost use Rattle.tree_picture.specs.Layout.{kind_of, laid};
 ghost use Rattle.tree_picture.specs.Text.{Shows, ShowEach};
+ghost use Rattle.tree_picture.specs.Framing.{IsUnframed};
 ghost use Rattle.tree_picture.specs.declared.picture.TheConstants.{MOST_ENTRIES, KEY_CHARS};
 
 use crate::below::{branch_at, extent_below, root};
@@ -109,6 +110,7 @@ where
         (λ nodes. map (λ n. P.numbers n.pointer) nodes.items ≡ pointers arena.now) }
     ensures keys { IfOk result (λ nodes. ShowEach T.Key.output T.key_of arena.now.list.entries
         (map (λ n. string_bytes n.key) nodes.items)) }
+    ensures unframed { IfOk result (λ nodes. All IsUnframed nodes.items) }
 {
     let mut nodes = Vec::with_capacity(alloc, places.len())?;
     for (pointer, item) in arena {
@@ -118,6 +120,7 @@ where
             place,
             pointer,
             key,
+            is_framed: false,
         })?;
     }
     Ok(nodes)
@@ -137,6 +140,7 @@ where
     ensures keys { IfOk result
         (λ picture. ShowEach T.Key.output T.key_of arena.now.list.entries
         (map (λ n. string_bytes n.key) picture.nodes.items)) }
+    ensures unframed { IfOk result (λ picture. All IsUnframed picture.nodes.items) }
     ensures levels { IfOk result (λ picture. picture.levels ≡ height arena.now.shape) }
     ensures too_large { IsErrOf result PictureError.TooLarge
         ↔ (MOST_ENTRIES < count arena.now) }
@@ -162,6 +166,7 @@ where
     ensures pointers { map (λ n. P.numbers n.pointer) result.nodes.items ≡ pointers arena.now }
     ensures keys { ShowEach T.Key.output T.key_of arena.now.list.entries
         (map (λ n. string_bytes n.key) result.nodes.items) }
+    ensures unframed { All IsUnframed result.nodes.items }
     ensures levels { result.levels ≡ height arena.now.shape }
 {
     // For the prover: the list and the shape are sound.
@@ -172,7 +177,7 @@ where
     }
 }
 
-/// Returns the picture of an arena's tree: the i-th node is the i-th entry of the list, in column i.
+/// Returns the picture of an arena's tree: the i-th node is the i-th entry of the list, in column i. No node is framed.
 ///
 /// O(n log n), because the extent of each side is found on each level.
 ///
@@ -193,6 +198,7 @@ where
     ensures keys { IfOk result
         (λ picture. ShowEach T.Key.output T.key_of arena.now.list.entries
         (map (λ n. string_bytes n.key) picture.nodes.items)) }
+    ensures unframed { IfOk result (λ picture. All IsUnframed picture.nodes.items) }
     ensures levels { IfOk result (λ picture. picture.levels ≡ height arena.now.shape) }
     ensures too_large { IsErrOf result PictureError.TooLarge
         ↔ (MOST_ENTRIES < count arena.now) }

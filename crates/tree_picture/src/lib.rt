@@ -11,6 +11,7 @@ mod picture;
 mod place;
 mod sheet;
 mod svg;
+mod svg_parts;
 mod text;
 
 pub use error::PictureError;
@@ -19,6 +20,8 @@ pub use key_text::shortened;
 pub use layout::picture_of;
 pub use picture::{KEY_CHARS, MOST_ENTRIES, Node, Picture};
 pub use place::{BOX_HEIGHT, BOX_WIDTH, COLUMN_WIDTH, Kind, LEVEL_HEIGHT, MARGIN, Place};
-pub use sheet::{CAPTION_CHARS, CHARACTER_WIDTH, MOST_WIDTH, Panel, Sheet};
+pub use sheet::{
+    CAPTION_CHARS, CAPTION_HEIGHT, CHARACTER_WIDTH, MOST_SIDE, PANELS_A_ROW, Panel, Sheet,
+};
 pub use svg::{Links, svg_of};
 pub use text::text_of;

@@ -21,6 +21,8 @@ pub struct Node<P, A: Allocator = Global> {
     pub pointer: P,
     /// Its key, as far as it fits.
     pub key: String<A>,
+    /// Whether it is framed, as one that has changed.
+    pub is_framed: bool,
 }
 
 /// The picture of a tree: its nodes in the order of the list, and how many levels they have.
@@ -47,6 +49,6 @@ impl<P, A: Allocator> Picture<P, A> {
         ensures { result ≡ height_of self.now.levels }
     {
         let levels = self.levels;
-        2 * MARGIN + LEVEL_HEIGHT * u32::from(levels)
+        MARGIN + LEVEL_HEIGHT * u32::from(levels)
     }
 }

@@ -3,13 +3,13 @@ ghost use Rattle.std.specs.Prelude.{◌≡◌, ◌+◌, ◌*◌};
 ghost use Rattle.tree_picture.specs.Layout.{left_of, top_of};
 
 /// The width of a column, in pixels.
-pub const COLUMN_WIDTH: u32 = 100;
+pub const COLUMN_WIDTH: u32 = 76;
 
 /// The height of a level, in pixels.
-pub const LEVEL_HEIGHT: u32 = 64;
+pub const LEVEL_HEIGHT: u32 = 60;
 
 /// The width of a node's box, in pixels.
-pub const BOX_WIDTH: u32 = 80;
+pub const BOX_WIDTH: u32 = 64;
 
 /// The height of a node's box, in pixels.
 pub const BOX_HEIGHT: u32 = 28;

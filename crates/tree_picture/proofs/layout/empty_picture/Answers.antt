@@ -1,4 +1,4 @@
-use Rattle.std.proofs.Common.{◌≡◌, ◌∙◌, ℕ, ◌+◌, refl, arith}
+use Rattle.std.proofs.Common.{◌≡◌, ◌∙◌, refl, arith}
 use Rattle.triple_ord.specs.Shape.{Shape, missing, node, size_of}
 use Rattle.tree_picture.proofs.LinkedParts.{size-listed}
 use Rattle.tree_picture.proofs.layout.empty_picture.Goals as goal

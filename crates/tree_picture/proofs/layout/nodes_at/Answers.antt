@@ -1,11 +1,13 @@
 use Rattle.std.proofs.Common.{◌≡◌, ◌<◌, [], ◌∷◌, ◌++◌, length, string_bytes, arith, refl}
+use Rattle.std.proofs.lemmas.List.Elements.{All-nil}
 use Rattle.triple_ord.specs.Search.{pointer}
-use Rattle.tree_picture.proofs.Listing.{cut_more, fewer, more-mapped, more-taken, more-shown}
+use Rattle.tree_picture.proofs.Listing.{cut_more, fewer, more-mapped, more-taken, more-shown, more-all}
+use Rattle.tree_picture.specs.Framing.{IsUnframed}
 use Rattle.tree_picture.proofs.layout.nodes_at.Goals as goal
 
 pub loop-pointer-init : goal.loop-pointer-init
 loop-pointer-init g c =
-    ([], c.into_iter-pointer-iterator.ensures.into_iter_gives, rw c.in_ok-nodes.ensures.items refl, rw c.in_ok-nodes.ensures.items refl, rw c.in_ok-nodes.ensures.items tt)
+    ([], c.into_iter-pointer-iterator.ensures.into_iter_gives, rw c.in_ok-nodes.ensures.items refl, rw c.in_ok-nodes.ensures.items refl, rw c.in_ok-nodes.ensures.items tt, rw c.in_ok-nodes.ensures.items (All-nil IsUnframed))
 
 pub bounds-places-len : goal.bounds-places-len
 bounds-places-len g c =
@@ -24,4 +26,5 @@ loop-pointer-preserved g c =
       more-taken c.loop-pointer.nodes.items c.push.new.self.items _ grown (λ n. n.place) c.args.places.now _ c.len.result so_far.2 is room refl,
       more-mapped c.loop-pointer.nodes.items c.push.new.self.items _ grown (λ n. g.P.BasePtr.numbers n.pointer) pointer so_far.0 _ so_far.3 refl,
       more-shown g.T.Key.Display.output g.T.SimpleOrdItem.key_of (λ n. string_bytes n.key) c.loop-pointer.nodes.items c.push.new.self.items _ grown _ so_far.0 so_far.4 c.in_ok-key.ensures,
+      more-all IsUnframed c.loop-pointer.nodes.items c.push.new.self.items _ grown so_far.5 refl,
     )

@@ -1,6 +1,10 @@
 //! Why a program ends before its input does.
+ghost use Rattle.std.specs.Prelude.{◌≡◌, ◌⊎◌, IfOk, IfErr};
+ghost use Rattle.std.specs.Process.{exit_status};
+ghost use Rattle.line_service.specs.Ending.{status_of};
 
-use std::alloc::AllocError;
+use crate::status::{IO_FAILED, NO_MEMORY, WRONG_USAGE};
+use std::alloc::{AllocError, AllocFailed};
 use std::io;
 use std::process::ExitCode;
 use thiserror::Error;
@@ -24,7 +28,9 @@ pub enum Failure {
 
 impl Failure {
     /// Returns the failure of a write, or of an allocation for it.
-    pub fn writing(error: io::Error) -> Failure {
+    pub fn writing(error: io::Error) -> Failure
+        ensures { (result ≡ Failure.Writing error) ⊎ (result ≡ Failure.Memory) }
+    {
         match error.kind() {
             io::ErrorKind::OutOfMemory => Failure::Memory,
             _ => Failure::Writing(error),
@@ -32,10 +38,23 @@ impl Failure {
     }
 
     /// Returns the failure of a read, or of an allocation for it.
-    pub fn reading(error: io::Error) -> Failure {
+    pub fn reading(error: io::Error) -> Failure
+        ensures { (result ≡ Failure.Reading error) ⊎ (result ≡ Failure.Memory) }
+    {
         match error.kind() {
             io::ErrorKind::OutOfMemory => Failure::Memory,
             _ => Failure::Reading(error),
+        }
+    }
+
+    /// Returns the exit status of a program that fails so.
+    pub fn status(&self) -> u8
+        ensures { result ≡ status_of self.now }
+    {
+        match self {
+            Failure::Arguments => WRONG_USAGE,
+            Failure::Reading(_) | Failure::Writing(_) => IO_FAILED,
+            Failure::Memory => NO_MEMORY,
         }
     }
 }
@@ -46,14 +65,24 @@ impl From<AllocError> for Failure {
     }
 }
 
+impl<T: Drop> From<AllocFailed<T>> for Failure {
+    fn from(_refused: AllocFailed<T>) -> Failure {
+        Failure::Memory
+    }
+}
+
 /// Returns the exit status of a program that has ended with this outcome. A failure is written to standard error as one line,
-/// `PROGRAM: REASON`, and its status is 1.
-pub fn ended(rt: &impl Eprint, program: &str, outcome: Result<ExitCode, Failure>) -> ExitCode {
+/// `PROGRAM: REASON`.
+pub fn ended(rt: &impl Eprint, program: &str, outcome: Result<ExitCode, Failure>) -> ExitCode
+    ensures ok { IfOk outcome (λ status. result ≡ status) }
+    ensures err { IfErr outcome (λ failure. exit_status result ≡ status_of failure) }
+{
     match outcome {
         Ok(status) => status,
         Err(failure) => {
+            let status = failure.status();
             let _ = eprintln!(rt; "{program}: {failure}");
-            ExitCode::FAILURE
+            ExitCode::from(status)
         }
     }
 }

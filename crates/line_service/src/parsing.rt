@@ -1,0 +1,86 @@
+//! Command lines, which `clap` parses.
+
+use crate::failure::Failure;
+use crate::status::WRONG_USAGE;
+use clap::error::ErrorKind;
+use clap::{ArgMatches, Command};
+use std::env::Env;
+use std::process::ExitCode;
+use std::{env, io};
+
+/// The version of the programs.
+pub const VERSION: &str = "0.1.0";
+
+/// What a program is to do by its command line.
+#[derive(Drop)]
+pub enum Request<'a> {
+    /// It runs, with these options.
+    Run(ArgMatches<'a>),
+    /// It ends with this status: help, the version or a mistake was written.
+    End(ExitCode),
+}
+
+/// Returns the words of the command line. The first is the program's name.
+///
+/// # Errors
+///
+/// - `Arguments`: an argument isn't UTF-8.
+/// - `Memory`: an allocation failed.
+pub fn arguments(rt: &(impl Env + AllocGlobal)) -> Result<Vec<String>, Failure> {
+    let words = env::args(rt).map_err(unread)?;
+    Ok(words.collect(rt.alloc())?)
+}
+
+/// Parses a command line. `--help` and `--version` are answered on standard output; a mistake is named in one line on standard error,
+/// `PROGRAM: MISTAKE; try PROGRAM --help`, and the status is [`WRONG_USAGE`].
+///
+/// # Errors
+///
+/// - `Writing`: what was asked for could not be written.
+/// - `Memory`: an allocation failed.
+pub fn parse_arguments<'a>(
+    rt: &(impl Print + Eprint + AllocGlobal),
+    program: &str,
+    command: Command<'a>,
+    words: &'a [String],
+) -> Result<Request<'a>, Failure> {
+    match command.try_get_matches_from(words) {
+        Ok(matches) => Ok(Request::Run(matches)),
+        Err(error) => Ok(Request::End(answered(rt, program, &error)?)),
+    }
+}
+
+// Writes what a parse answers that gives no options. Returns the status.
+fn answered(
+    rt: &(impl Print + Eprint + AllocGlobal),
+    program: &str,
+    error: &clap::Error,
+) -> Result<ExitCode, Failure> {
+    match error.kind() {
+        ErrorKind::OutOfMemory => Err(Failure::Memory),
+        ErrorKind::DisplayHelp | ErrorKind::DisplayVersion => {
+            print!(rt; "{error}").map_err(Failure::writing)?;
+            Ok(ExitCode::SUCCESS)
+        }
+        _ => {
+            let text = format!(in rt.alloc(); "{error}")?;
+            let mistake = mistake_in(text.as_str());
+            let _ = eprintln!(rt; "{program}: {mistake}; try {program} --help");
+            Ok(ExitCode::from(WRONG_USAGE))
+        }
+    }
+}
+
+// The first line of what `clap` says of a mistake, without its first word.
+fn mistake_in(text: &str) -> &str {
+    let line = text.lines().next().unwrap_or("");
+    line.strip_prefix("error: ").unwrap_or(line)
+}
+
+// The failure of reading the arguments.
+fn unread(error: io::Error) -> Failure {
+    match error.kind() {
+        io::ErrorKind::OutOfMemory => Failure::Memory,
+        _ => Failure::Arguments,
+    }
+}
