@@ -24,7 +24,7 @@ static void begin(void) {
 }
 
 static void end(const char *operation) {
-    printf("C|OrderedArena|%s|%.1f\n", operation, (now() - begun) / N);
+    printf("C|SortedArena|%s|%.1f\n", operation, (now() - begun) / N);
 }
 
 static void must(uint8_t status) {

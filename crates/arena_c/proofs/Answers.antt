@@ -1,10 +1,10 @@
 -- What the calls answer, from what was found in the arena.
-use Rattle.std.proofs.Common.{◌≡◌, ◌≢◌, ℕ, ℤ, Bool, true, List, [], ◌∷◌, length, Option, Some, None, is_some, Result, Ok, Err, IsSomeAnd, IfNone, OnSome, OnOk, ◌↔◌, refl, sym, ap, ◌∙◌, subst, arith, lit<}
-use Rattle.std.specs.{Option.option_map, Option.option_and_then, Ordering.int_cmp, Ordering.is_eq, declared.cmp.Ordering.Ordering, List.Contains}
-use Rattle.sorted_arena.specs.{Chain.Entry as Listed, Chain.IsDistinct, Chain.last_pointer, Chain.item_of, ReallocationError.ReallocationError}
-use Rattle.sorted_arena.specs.{Sorted.first_where, Sorted.key_of, Sorted.last_item, declared.error.UniqueInsertionError.UniqueInsertionError}
-use Rattle.sorted_arena.proofs.CallerLemmas.{last-named, last-none}
-use Rattle.arena_c.specs.{declared.entry.Entry.Entry, Shown.Arena, Shown.entry_found}
+use Rattle.std.proofs.Common.{◌≡◌, ◌≢◌, ℕ, ℤ, Bool, true, List, [], ◌∷◌, length, Option, Some, None, is_some, Result, Ok, Err, IsSomeAnd, IfNone, IfOk, OnOk, OnErr, ◌↔◌, refl, sym, ap, ◌∙◌, subst, arith, lit<}
+use Rattle.std.specs.{Option.option_map, Option.option_and_then, Result.result_ok, Ordering.int_cmp, Ordering.is_eq, declared.cmp.Ordering.Ordering, List.Contains}
+use Rattle.sorted_arena.specs.{Chain.Entry as Listed, Chain.IsDistinct, Chain.first_pointer, Chain.last_pointer, Chain.item_of, ReallocationError.ReallocationError}
+use Rattle.sorted_arena.specs.{Sorted.first_where, Sorted.key_of, Sorted.first_item, Sorted.get, Sorted.last_item, Sorted.with_key, Sorted.without_first, Sorted.without_last, declared.error.UniqueInsertionError.UniqueInsertionError}
+use Rattle.sorted_arena.proofs.CallerLemmas.{first-named, last-named, last-none, with_key-none, without_first-none, without_last-none}
+use Rattle.arena_c.specs.{declared.entry.Entry.Entry, Shown.Arena, Shown.entry_found, Shown.greatest_generation}
 use Rattle.sorted_arena.specs.declared.error.UniqueInsertionError.TheVariants.{EqualKey, BeyondMaxCapacity, AllocError}
 use Rattle.sorted_arena.specs.ReallocationError.TheVariants.{BeyondMaxCapacity as Beyond, AllocError as NoMemory}
 use Rattle.arena_c.specs.Status.{ok, full, no_memory, closed, out_of_order}
@@ -85,17 +85,42 @@ module _ (a : Arena) (distinct : IsDistinct a.entries) where
       go None is = ap (λ (o : Option (ℕ × ℕ)). is_some (entry_found a o)) is ∙ ap (λ (o : Option (ℤ × ℕ)). is_some o) (sym (none a.entries (last-none a.entries is)))
       go (Some p) is = ap (λ (o : Option (ℕ × ℕ)). is_some (entry_found a o)) is ∙ some p ∙ ap (λ (o : Option (ℤ × ℕ)). is_some o) (last-named a.entries distinct p is).0
 
-  -- a removal of the last item by a call that found the last entry
-  pub popped-last : (found : Option Entry) (popped : Option (ℤ × ℕ)) (b left : Arena) → found ≡ entry_found a (last_pointer a.entries) → popped ≡ last_item a.entries
-      → OnSome popped (b ≡ left) → IfNone popped (b ≡ a) → (found_status found ≡ ok → b ≡ left) × (found_status found ≢ ok → b ≡ a)
-  popped-last found popped b left is_found is_popped some none = go found popped (ap (λ (o : Option Entry). is_some o) is_found ∙ last-there ∙ sym (ap (λ (o : Option (ℤ × ℕ)). is_some o) is_popped)) some none
+  -- a removal of the last entry by a call that found none
+  pub kept-last : (found : Option Entry) (b : Arena) → found ≡ entry_found a (last_pointer a.entries) → b ≡ without_last greatest_generation a → found_status found ≢ ok → b ≡ a
+  kept-last None b is after other = after ∙ without_last-none greatest_generation a (none (last_item a.entries) (ap (λ (o : Option Entry). is_some o) is ∙ last-there))
     where
-      go : (found : Option Entry) (popped : Option (ℤ × ℕ)) → is_some found ≡ is_some popped → OnSome popped (b ≡ left) → IfNone popped (b ≡ a)
-          → (found_status found ≡ ok → b ≡ left) × (found_status found ≢ ok → b ≡ a)
-      go None None same some none = ((λ is. absurd (omega arith)), (λ is. none))
-      go None (Some y) same some none = absurd (cc)
-      go (Some x) None same some none = absurd (cc)
-      go (Some x) (Some y) same some none = ((λ is. some), (λ other. absurd (other refl)))
+      none : (o : Option (ℤ × ℕ)) → is_some {T = Entry} None ≡ is_some o → None ≡ o
+      none None same = refl
+      none (Some x) same = absurd (cc)
+  kept-last (Some x) b is after other = absurd (other refl)
+
+-- a removal of the first entry by a call that found none
+module _ (a : Arena) where
+  pub kept-first : (found : Option Entry) (b : Arena) → found ≡ entry_found a (first_pointer a.entries) → b ≡ without_first greatest_generation a → found_status found ≢ ok → b ≡ a
+  kept-first None b is after other = after ∙ without_first-none greatest_generation a (none a.entries refl)
+    where
+      none : (es : List (Listed (ℤ × ℕ))) → a.entries ≡ es → None ≡ first_item es
+      none [] same = refl
+      none (e ∷ es) same =
+          let here : item_of a.entries (e.index, e.generation) ≡ Some e.item = first-named a.entries (e.index, e.generation) (ap first_pointer (sym same)) ∙ ap first_item same in
+          let found : is_some (entry_found a (first_pointer a.entries)) ≡ true = ap (λ (zs : List (Listed (ℤ × ℕ))). is_some (entry_found a (first_pointer zs))) same ∙ rw here refl in
+          absurd (let lost : is_some {T = Entry} None ≡ is_some (entry_found a (first_pointer a.entries)) = ap (λ (o : Option Entry). is_some o) is in cc)
+  kept-first (Some x) b is after other = absurd (other refl)
+
+  -- another key, by a call that found no entry
+  pub kept-rekeyed : (p : ℕ × ℕ) (k : ℤ) (found : Option ℤ) (b : Arena) → found ≡ option_map (λ (x : ℤ × ℕ). x.0) (get a p) → b ≡ with_key int_cmp a p k → found_status found ≢ ok → b ≡ a
+  kept-rekeyed p k None b is after other = after ∙ with_key-none int_cmp a p k (none (get a p) is)
+    where
+      none : (o : Option (ℤ × ℕ)) → None ≡ option_map (λ (x : ℤ × ℕ). x.0) o → None ≡ o
+      none None same = refl
+      none (Some x) same = absurd (cc)
+  kept-rekeyed p k (Some x) b is after other = absurd (other refl)
+
+-- the old key that a call found at a pointer
+pub found-rekeyed : (r : Result ℤ ℤ) (named : Option (ℤ × ℕ)) → IfOk r (λ before. option_map (λ (x : ℤ × ℕ). x.0) named ≡ Some before) → OnErr r (named ≡ None)
+    → result_ok r ≡ option_map (λ (x : ℤ × ℕ). x.0) named
+found-rekeyed (Ok x) named before stale = sym before
+found-rekeyed (Err e) named before stale = sym (ap (option_map (λ (x : ℤ × ℕ). x.0)) stale)
 
 -- two refusals of one insertion have one reason
 abbrev reason_or : {T A B : Type 0} → B → Result T (A × B) → B
@@ -125,3 +150,24 @@ pub reserved : {P : Type 0} (r : Result (Unit {0}) ReallocationError) (status : 
 reserved (Ok u) status is done fact = fact
 reserved (Err Beyond) status is done fact = absurd (omega arith)
 reserved (Err NoMemory) status is done fact = absurd (omega arith)
+
+-- a removal by a key, which came through a reference, that found none
+pub kept-key : (a inside b : Arena) (key same_key : ℤ) (result : Option (ℤ × ℕ)) (found : Option Entry) → inside ≡ a → same_key ≡ key
+    → found ≡ entry_found a (first_where (λ e. is_eq (int_cmp key (key_of e))) a.entries)
+    → result ≡ option_and_then (get inside) (first_where (λ e. is_eq (int_cmp same_key (key_of e))) inside.entries)
+    → IfNone result (b ≡ inside) → found_status found ≢ ok → b ≡ a
+kept-key a inside b key same_key result found is same is_found value none other =
+    go (first_where (λ e. is_eq (int_cmp key (key_of e))) a.entries) is_found
+    (subst (λ (i : Arena). result ≡ option_and_then (get i) (first_where (λ e. is_eq (int_cmp key (key_of e))) i.entries)) is
+    (subst (λ (k : ℤ). result ≡ option_and_then (get inside) (first_where (λ e. is_eq (int_cmp k (key_of e))) inside.entries)) same value))
+  where
+    unchanged : result ≡ None → b ≡ a
+    unchanged nothing = subst (λ r. IfNone r (b ≡ inside)) nothing none ∙ is
+
+    here : (p : ℕ × ℕ) (pair : Option (ℤ × ℕ)) → get a p ≡ pair → found ≡ entry_found a (Some p) → result ≡ get a p → b ≡ a
+    here p None at is_found is_result = unchanged (is_result ∙ at)
+    here p (Some x) at is_found is_result = let one : is_some found ≡ true = rw is_found (rw at refl) in absurd (other (rw one refl))
+
+    go : (p : Option (ℕ × ℕ)) → found ≡ entry_found a p → result ≡ option_and_then (get a) p → b ≡ a
+    go None is_found is_result = unchanged is_result
+    go (Some p) is_found is_result = here p (get a p) refl is_found is_result

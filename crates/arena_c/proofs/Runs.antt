@@ -1,10 +1,10 @@
 -- Runs of entries and of keys.
-use Rattle.std.proofs.Common.{◌≡◌, ℕ, zero, suc, ◌+◌, ◌<◌, ◌≤◌, ◌==◌, ℤ, pos, subst, min, ◌++◌, List, [], ◌∷◌, map, length, take, drop, get_or, slice_set, is_some, nat_lt, if◌then◌else◌, Bool, Option, Some, None, false, true, refl, sym, ap, ◌∙◌, append_assoc, arith}
+use Rattle.std.proofs.Common.{◌≡◌, ℕ, zero, suc, ◌+◌, ◌<◌, ◌≤◌, ◌==◌, ℤ, pos, subst, min, ◌++◌, List, [], ◌∷◌, map, length, take, drop, get_or, slice_set, is_some, if◌then◌else◌, Bool, Option, Some, None, false, true, refl, sym, ap, ◌∙◌, append_assoc, arith}
 use native.Mathlib.Numerals.{unary_clauses}
 use Rattle.std.proofs.lemmas.{Grind.common_steps, List.map-append}
-use Rattle.std.specs.{Cmp.int_cmp_total, Option.option_map, Option.option_map_or, Ordering.is_gt, Ordering.int_cmp, List.zip}
+use Rattle.std.specs.{Cmp.int_cmp_total, Option.option_map, Option.option_map_or, Ordering.is_gt, Ordering.is_le, Ordering.int_cmp, List.zip, List.AllByRecursion, declared.cmp.Ordering.TheVariants.Greater}
 use Rattle.sorted_arena.specs.{Chain.Entry, Chain.IsDistinct, Chain.item_of, Chain.first_pointer, Chain.from_index, Gap.first_of, Gap.last_of}
-use Rattle.sorted_arena.specs.Sorted.{Inserts, next_of, pointer_of, first_item, first_item_until, behind_first, entries_until, last_item, item_of as pair_in}
+use Rattle.sorted_arena.specs.Sorted.{with_entry, next_of, pointer_of, first_item, first_item_until, behind_first, entries_until, last_item, AreSorted, pair_of as pair_in}
 use Rattle.arena_c.specs.{declared.entry.Entry.Entry as Shown, Batch.first_fall}
 use Rattle.arena_c.specs.Shown.{Arena, most_entries, entry_at, entry_found, shown_entry, numbers_of}
 use Rattle.sorted_arena.proofs.CallerLemmas.{first-named, next-here, found-here, appended, last-item, first-pointer}
@@ -41,6 +41,12 @@ module _ {X : Type 0} where
   take-step [] ys x n is = absurd (grind (arith, common_steps))
   take-step (z ∷ xs) ys x zero is = grind (arith, common_steps)
   take-step (z ∷ xs) ys x (suc n) is = simp unary_clauses (ap (λ zs. z ∷ zs) (simp unary_clauses at (take-step xs ys x n is)))
+
+  -- what is taken is taken again
+  pub taken-twice : (xs : List X) (n : ℕ) → take n (take n xs) ≡ take n xs
+  taken-twice [] n = grind (arith, common_steps)
+  taken-twice (z ∷ xs) zero = grind (arith, common_steps)
+  taken-twice (z ∷ xs) (suc n) = ap (λ zs. z ∷ zs) (taken-twice xs n)
 
   drop-get : (xs : List X) (n : ℕ) (d : X) → n < length xs → drop n xs ≡ get_or xs n d ∷ drop (n + 1) xs
   drop-get [] n d fits = absurd (omega arith)
@@ -155,6 +161,11 @@ module _ (a : Arena) (k : ℤ) where
             due = ap (entries_until int_cmp k) is ∙ due-first item x back (ap (first_item_until int_cmp k) (sym is) ∙ due) ∙ ap (λ zs. x ∷ entries_until int_cmp k (behind_first zs)) (sym is);
           }
 
+-- where all keys are greater, none is due
+pub none-due : (k : ℤ) (es : List (Entry (ℤ × ℕ))) → AllByRecursion (λ (e : Entry (ℤ × ℕ)). int_cmp e.item.0 k ≡ Greater) es → entries_until int_cmp k es ≡ []
+none-due k [] late = refl
+none-due k (e ∷ es) late = rw (ap is_le late.0) (none-due k es late.1)
+
 -- one more entry is shown in an array
 pub written-step : {A B : Type 0} (shown : A → B) (xs rest : List A) (before now : List B) (n : ℕ) (x : A) (e : B) → drop n xs ≡ x ∷ rest → e ≡ shown x
     → now ≡ map shown (take n xs) ++ drop n before → n < length before → slice_set now n e ≡ map shown (take (n + 1) xs) ++ drop (n + 1) before
@@ -178,14 +189,14 @@ run-first {K = K} {V = V} (e ∷ es) p there = go (e.index == p.0) refl (run-fir
 
 -- one more pair stands behind the others, and the next key is not smaller than its key
 pub append-step : (old new : Arena) (p : ℕ × ℕ) (before : List (ℤ × ℕ)) (ks : List ℤ) (vs : List ℕ) (i : ℕ) → i < length ks → i < length vs
-    → Inserts int_cmp most_entries old p (get_or ks i (pos 0)) (get_or vs i 0) new → first_fall (option_map (λ pair. pair.0) (last_item old.entries)) (drop i ks) i ≡ None
+    → new ≡ with_entry int_cmp most_entries old p (get_or ks i (pos 0), get_or vs i 0) → AreSorted int_cmp old.entries → first_fall (option_map (λ pair. pair.0) (last_item old.entries)) (drop i ks) i ≡ None
     → map pair_in old.entries ≡ before ++ zip (take i ks) (take i vs)
     → (map pair_in new.entries ≡ before ++ zip (take (i + 1) ks) (take (i + 1) vs)) × (first_fall (option_map (λ pair. pair.0) (last_item new.entries)) (drop (i + 1) ks) (i + 1) ≡ None)
-append-step old new p before ks vs i in_ks in_vs put order held =
+append-step old new p before ks vs i in_ks in_vs put sorted order held =
     let k : ℤ = get_or ks i (pos 0) in let v : ℕ = get_or vs i 0 in
     let step = fall-step (option_map (λ (pair : ℤ × ℕ). pair.0) (last_item old.entries)) k (drop (i + 1) ks) i
     (subst (λ (zs : List ℤ). first_fall (option_map (λ (pair : ℤ × ℕ). pair.0) (last_item old.entries)) zs i ≡ None) (drop-get ks i (pos 0) in_ks) order) in
-    let added : map pair_in new.entries ≡ map pair_in old.entries ++ (k, v) ∷ [] = appended int_cmp k int_cmp_total most_entries old new p v put (sym (over (last_item old.entries) k) ∙ step.0) in (
+    let added : map pair_in new.entries ≡ map pair_in old.entries ++ (k, v) ∷ [] = appended int_cmp k int_cmp_total most_entries old new p v put sorted (sym (over (last_item old.entries) k) ∙ step.0) in (
       added ∙ ap (λ (zs : List (ℤ × ℕ)). zs ++ (k, v) ∷ []) held ∙ append_assoc before (zip (take i ks) (take i vs)) ((k, v) ∷ []) ∙ ap (λ (zs : List (ℤ × ℕ)). before ++ zs) (sym (zip-step ks vs i in_ks in_vs)),
       ap (λ (o : Option (ℤ × ℕ)). first_fall (option_map (λ (pair : ℤ × ℕ). pair.0) o) (drop (i + 1) ks) (i + 1)) (last-end new.entries (map pair_in old.entries) (k, v) added) ∙ step.1,
     )
@@ -193,10 +204,6 @@ append-step old new p before ks vs i in_ks in_vs put order held =
     over : (o : Option (ℤ × ℕ)) (k : ℤ) → option_map_or (λ b. is_gt (int_cmp b k)) (option_map (λ pair. pair.0) o) false ≡ option_map_or (λ x. is_gt (int_cmp x.0 k)) o false
     over None k = refl
     over (Some x) k = refl
-
--- an arena with room for one more entry keeps its capacity
-pub room-kept : (count capacity grown new : ℕ) → new ≡ (if nat_lt count capacity then capacity else grown) → count < capacity → new ≡ capacity
-room-kept count capacity grown new is room = grind (arith, common_steps)
 
 -- two arrays make as many pairs as the shorter one has items
 pub zip-shorter : (ks : List ℤ) (vs : List ℕ) → zip (take (min (length ks) (length vs)) ks) (take (min (length ks) (length vs)) vs) ≡ zip ks vs

@@ -1,7 +1,7 @@
 -- Calls on many entries.
 use Rattle.std.specs.Prelude.{◌≡◌, ℕ, ◌+◌, ℤ, ◌++◌, min, false, if◌then◌else◌, List, [], ◌∷◌, length, map, take, drop, Option, Some, None}
 use Rattle.std.specs.{Ordering.int_cmp, Ordering.is_gt, List.zip, Option.option_map, Option.option_map_or}
-use Rattle.sorted_arena.specs.{Chain.Entry as Listed, Sorted.item_of, Sorted.last_item}
+use Rattle.sorted_arena.specs.{Chain.Entry as Listed, Sorted.pair_of, Sorted.last_item, Sorted.Keeps}
 use Rattle.arena_c.specs.{declared.entry.Entry.Entry, Shown.Arena, Shown.shown_entry}
 
 -- the index of the first key that is smaller than the one before it; one may stand before the first key, whose index is `at`
@@ -13,9 +13,10 @@ first_fall before (k ∷ ks) at = if option_map_or (λ b. is_gt (int_cmp b k)) b
 abbrev pub fall_behind : Arena → List ℤ → Option ℕ
 fall_behind a keys = first_fall (option_map (λ pair. pair.0) (last_item a.entries)) keys 0
 
--- from one arena to another, pairs of these keys and values come behind all entries
+-- from one arena to another, pairs of these keys and values come behind all entries, and old pointers stay valid
 pub record AppendsPairs (keys : List ℤ) (values : List ℕ) (old new : Arena) : Type 0 where
-  pub entries : map item_of new.entries ≡ map item_of old.entries ++ zip keys values
+  pub entries : map pair_of new.entries ≡ map pair_of old.entries ++ zip keys values
+  pub kept : Keeps old new
   pub generation : new.generation ≡ old.generation
 
 -- as many of these entries are written to the front of an array as it has room for, and it stays as it is behind them

@@ -1,7 +1,7 @@
 -- Arenas, pointers and entries as C sees them.
 use Rattle.std.specs.Prelude.{ℕ, ℤ, List, [], ◌∷◌, Option}
 use Rattle.std.specs.Option.{option_map, option_and_then}
-use Rattle.sorted_arena.specs.{Chain.Entry as Listed, Sorted.Sorted, Sorted.pair_of}
+use Rattle.sorted_arena.specs.{Chain.Entry as Listed, Sorted.Sorted, Sorted.get}
 use Rattle.arena_c.specs.declared.entry.{Pointer.Pointer, Entry.Entry}
 -- how many entries there can be, and the greatest generation of a pointer
 pub use Rattle.sorted_arena.specs.PlainPointer.{most_entries, greatest_generation}
@@ -27,7 +27,7 @@ shown_entry e = record { pointer = shown_pointer (e.index, e.generation); key = 
 
 -- the entry at a pointer; None if it is stale
 abbrev pub entry_at : Arena → ℕ × ℕ → Option Entry
-entry_at a p = option_map (λ pair. record { pointer = shown_pointer p; key = pair.0; value = pair.1 }) (pair_of a p)
+entry_at a p = option_map (λ pair. record { pointer = shown_pointer p; key = pair.0; value = pair.1 }) (get a p)
 
 -- the entry at the pointer that a search found
 abbrev pub entry_found : Arena → Option (ℕ × ℕ) → Option Entry

@@ -21,3 +21,6 @@ equal_key = 5
 
 abbrev pub out_of_order : ℕ
 out_of_order = 6
+
+abbrev pub already_open : ℕ
+already_open = 7

@@ -4,10 +4,10 @@ ghost use Rattle.std.specs.Prelude.{◌≡◌, ◌≢◌, ◌↔◌, ◌+◌, �
 ghost use Rattle.std.specs.Option.{option_and_then};
 ghost use Rattle.std.specs.Ordering.{int_cmp};
 ghost use Rattle.sorted_arena.specs.Chain.{from_index};
-ghost use Rattle.sorted_arena.specs.Sorted.{count, entries_until, pair_of};
+ghost use Rattle.sorted_arena.specs.Sorted.{count, entries_until, generation_after, get};
 ghost use Rattle.arena_c.specs.Answer.{ChangesOpen, ChangesOrFails, found_or, look_status};
 ghost use Rattle.arena_c.specs.Batch.{fall_behind, paired_keys, AppendsPairs, Fills};
-ghost use Rattle.arena_c.specs.Shown.{most_entries, numbers_of, pointer_to};
+ghost use Rattle.arena_c.specs.Shown.{greatest_generation, most_entries, numbers_of, pointer_to};
 ghost use Rattle.arena_c.specs.Status.{ok, full, no_memory, closed, out_of_order};
 
 use crate::entry::{Entry, Pointer};
@@ -66,7 +66,7 @@ pub extern "C" fn topscedar_arena_entries_from(
     filled: &mut usize,
     rest: &mut Pointer,
 ) -> u8
-    ensures status { result ≡ look_status (λ a. pair_of a (numbers_of pointer)) arena.old.slot.held }
+    ensures status { result ≡ look_status (λ a. get a (numbers_of pointer)) arena.old.slot.held }
     ensures filled { result ≡ ok → IsSomeAnd arena.old.slot.held (λ a. Fills
         (from_index a.entries pointer.index) entries.old entries.new filled.new) }
     ensures rest { result ≡ ok → IsSomeAnd arena.old.slot.held (λ a. rest.new
@@ -104,6 +104,7 @@ pub extern "C" fn topscedar_arena_pop_until(
     filled: &mut usize,
 ) -> u8
     ensures changes { ChangesOpen (λ a b. (b.entries ≡ drop filled.new a.entries)
+        × (b.generation ≡ generation_after greatest_generation filled.new a.generation)
         × (b.capacity ≡ a.capacity)) arena.old.slot.held arena.new.slot.held result }
     ensures filled { result ≡ ok → IsSomeAnd arena.old.slot.held (λ a. Fills
         (entries_until int_cmp key a.entries) entries.old entries.new filled.new) }

@@ -1,7 +1,7 @@
 //! Pointers and entries as C sees them.
 
 ghost use Rattle.std.specs.Prelude.{◌≡◌};
-ghost use Rattle.arena_c.specs.Shown.{numbers_of, shown_pointer};
+ghost use Rattle.arena_c.specs.Shown.{numbers_of, shown_entry, shown_pointer};
 
 use sorted_arena::{BasePtr, P0};
 
@@ -44,5 +44,23 @@ impl Pointer {
         ensures { result ≡ numbers_of self }
     {
         P0::_from_raw(self.index, self.generation)
+    }
+}
+
+impl Entry {
+    /// An entry that an iterator gives.
+    pub fn of(shown: (P0, &i64, &u64)) -> Entry
+        ensures { result ≡ shown_entry (record {
+          index = shown.entry.0.0;
+          generation = shown.entry.0.1;
+          item = (shown.entry.1.now, shown.entry.2.now);
+        }) }
+    {
+        let (p, key, value) = shown;
+        Entry {
+            pointer: Pointer::of(p),
+            key: *key,
+            value: *value,
+        }
     }
 }

@@ -17,5 +17,4 @@ mod run;
 mod search;
 mod slot;
 mod status;
-#[cfg(test)]
-mod tests;
+mod transfer;

@@ -1,8 +1,10 @@
 //! A handle from opening to closing.
 
-ghost use Rattle.std.specs.Prelude.{◌≡◌, ◌↔◌, ◌+◌, ◌≤◌, ◌<◌, [], ◌∷◌, Some, None, IsSomeAnd, is_some, true, if◌then◌else◌};
+ghost use Rattle.std.specs.Prelude.{◌≡◌, ◌↔◌, ◌+◌, ◌≤◌, ◌<◌, [], ◌∷◌, Some, None, IsSomeAnd, is_some, true, max, if◌then◌else◌};
 ghost use Rattle.std.specs.List.{Contains};
-ghost use Rattle.sorted_arena.specs.Sorted.{count, with_left};
+ghost use Rattle.sorted_arena.specs.Chain.{greatest_index};
+ghost use Rattle.sorted_arena.specs.Change.{ChangesCapacity};
+ghost use Rattle.sorted_arena.specs.Sorted.{count, with_left, with_numbers};
 ghost use Rattle.arena_c.specs.Answer.{ChangesOpen, ChangesOrFails, Looks, status_of_reservation};
 ghost use Rattle.arena_c.specs.Shown.{greatest_generation, most_entries, new_arena};
 ghost use Rattle.arena_c.specs.Status.{ok, full, no_memory, closed};
@@ -25,6 +27,30 @@ pub extern "C" fn topscedar_arena_open(alloc: Global, arena: &mut Handle) -> u8
         return OK;
     }
     match Box::new(alloc, Content::new(alloc)) {
+        Ok(content) => {
+            arena.put(content);
+            OK
+        }
+        Err(_) => NO_MEMORY,
+    }
+}
+
+/// Opens a closed handle, as `topscedar_arena_open` does, with an arena whose first pointer has the generation `generation`, or 2 if that
+/// is greater. So arenas that begin far apart take each other's pointers for stale ones. `OK` or `NO_MEMORY`; then nothing changes.
+#[unsafe(no_mangle)]
+pub extern "C" fn topscedar_arena_open_at(alloc: Global, arena: &mut Handle, generation: u64) -> u8
+    ensures known { Contains (ok ∷ no_memory ∷ []) result }
+    ensures opened { arena.old.slot.held ≡ None → result ≡ ok
+        → arena.new.slot.held ≡ Some (record new_arena { generation = max 2 generation }) }
+    ensures open { is_some arena.old.slot.held ≡ true → (result ≡ ok) × (arena.new.slot.held ≡ arena.old.slot.held) }
+    ensures refused { result ≡ no_memory → arena.new.slot.held ≡ arena.old.slot.held }
+{
+    if arena.is_open() {
+        return OK;
+    }
+    let mut content = Content::new(alloc);
+    content.pairs.set_generation(generation.max(2));
+    match Box::new(alloc, content) {
         Ok(content) => {
             arena.put(content);
             OK
@@ -61,6 +87,23 @@ pub extern "C" fn topscedar_arena_length(
     arena.answer(content, Some(found), length)
 }
 
+/// Writes the capacity: how many entries the arena holds without growing. `OK` or `CLOSED`.
+#[unsafe(no_mangle)]
+pub extern "C" fn topscedar_arena_capacity(
+    alloc: Global,
+    arena: &mut Handle,
+    capacity: &mut usize,
+) -> u8
+    ensures { Looks (λ a. Some a.capacity)
+        arena.old.slot.held arena.new.slot.held result capacity.old capacity.new }
+{
+    let Some(content) = arena.take(alloc) else {
+        return CLOSED;
+    };
+    let found = content.pairs.capacity();
+    arena.answer(content, Some(found), capacity)
+}
+
 /// Makes room for `additional` more entries. `OK`, `FULL`, `NO_MEMORY` or `CLOSED`; on all but `OK` nothing changes.
 #[unsafe(no_mangle)]
 pub extern "C" fn topscedar_arena_reserve(
@@ -93,6 +136,35 @@ pub fn reservation_status(reserved: Result<(), ReallocationError>) -> u8
         Err(ReallocationError::BeyondMaxCapacity) => FULL,
         Err(ReallocationError::AllocError) => NO_MEMORY,
     }
+}
+
+/// Gives back the memory that no entry needs: the capacity becomes the greatest index of an entry. O(capacity). `OK` or `CLOSED`.
+#[unsafe(no_mangle)]
+pub extern "C" fn topscedar_arena_shrink(alloc: Global, arena: &mut Handle) -> u8
+    ensures { ChangesOpen (λ a b. ChangesCapacity a b × (b.capacity ≡ greatest_index a.entries))
+        arena.old.slot.held arena.new.slot.held result }
+{
+    let Some(mut content) = arena.take(alloc) else {
+        return CLOSED;
+    };
+    content.pairs.shrink();
+    arena.put(content);
+    OK
+}
+
+/// Gives the entries the indexes from 1 on in their order, under the next generation. All old pointers are stale then. O(capacity), and no
+/// memory. `OK` or `CLOSED`.
+#[unsafe(no_mangle)]
+pub extern "C" fn topscedar_arena_compact(alloc: Global, arena: &mut Handle) -> u8
+    ensures { ChangesOpen (λ a b. b ≡ with_numbers greatest_generation a)
+        arena.old.slot.held arena.new.slot.held result }
+{
+    let Some(mut content) = arena.take(alloc) else {
+        return CLOSED;
+    };
+    content.pairs.compact();
+    arena.put(content);
+    OK
 }
 
 /// Removes all entries; the capacity stays. `OK` or `CLOSED`.

@@ -1,15 +1,17 @@
 //! Entries by their pointers.
 
-ghost use Rattle.std.specs.Prelude.{◌≡◌};
+ghost use Rattle.std.specs.Prelude.{◌≡◌, ◌≢◌, [], ◌∷◌, Some, None, IsSomeAnd, is_some, true};
 ghost use Rattle.std.specs.Option.{option_map};
-ghost use Rattle.std.specs.Ordering.{int_cmp};
-ghost use Rattle.sorted_arena.specs.Sorted.{pair_of, with_value, without, Rekeys};
-ghost use Rattle.arena_c.specs.Answer.{Changes, Looks};
+ghost use Rattle.std.specs.Ordering.{int_cmp, is_eq};
+ghost use Rattle.sorted_arena.specs.Sorted.{first_where, get, key_of, with_key, with_value, without_entry, IsAbsent};
+ghost use Rattle.arena_c.specs.Answer.{Changes, ChangesOrFails, Looks};
 ghost use Rattle.arena_c.specs.Shown.{entry_at, greatest_generation, numbers_of};
+ghost use Rattle.arena_c.specs.Status.{ok, not_found, closed, equal_key};
 
 use crate::entry::{Entry, Pointer};
 use crate::handle::Handle;
-use crate::status::CLOSED;
+use crate::status::{CLOSED, EQUAL_KEY, NOT_FOUND, OK};
+use sorted_arena::RekeyUniqueError;
 use std::alloc::Global;
 
 /// Finds the entry at `pointer`, in O(1). `OK`, `CLOSED`, or `NOT_FOUND` if the pointer is stale.
@@ -40,8 +42,8 @@ pub extern "C" fn topscedar_arena_set_value(
     value: u64,
     before: &mut u64,
 ) -> u8
-    ensures { Changes (λ a. option_map (λ pair. pair.1) (pair_of a (numbers_of pointer)))
-        (λ a b. b ≡ with_value a (numbers_of pointer) (pair_of a (numbers_of pointer)) value)
+    ensures { Changes (λ a. option_map (λ pair. pair.1) (get a (numbers_of pointer)))
+        (λ a b. b ≡ with_value a (numbers_of pointer) (get a (numbers_of pointer)) value)
         arena.old.slot.held arena.new.slot.held result before.old before.new }
 {
     let Some(mut content) = arena.take(alloc) else {
@@ -61,8 +63,8 @@ pub extern "C" fn topscedar_arena_rekey(
     key: i64,
     before: &mut i64,
 ) -> u8
-    ensures { Changes (λ a. option_map (λ pair. pair.0) (pair_of a (numbers_of pointer)))
-        (λ a b. Rekeys int_cmp a (numbers_of pointer) key b)
+    ensures { Changes (λ a. option_map (λ pair. pair.0) (get a (numbers_of pointer)))
+        (λ a b. b ≡ with_key int_cmp a (numbers_of pointer) key)
         arena.old.slot.held arena.new.slot.held result before.old before.new }
 {
     let Some(mut content) = arena.take(alloc) else {
@@ -81,7 +83,7 @@ pub extern "C" fn topscedar_arena_remove(
     entry: &mut Entry,
 ) -> u8
     ensures { Changes (λ a. entry_at a (numbers_of pointer))
-        (λ a b. b ≡ without greatest_generation a (numbers_of pointer))
+        (λ a b. b ≡ without_entry greatest_generation a (numbers_of pointer))
         arena.old.slot.held arena.new.slot.held result entry.old entry.new }
 {
     let Some(mut content) = arena.take(alloc) else {
@@ -90,4 +92,38 @@ pub extern "C" fn topscedar_arena_remove(
     let found = content.entry_at(pointer.p0());
     let _ = content.pairs.remove(pointer.p0());
     arena.answer(content, found, entry)
+}
+
+/// Gives the entry at `pointer` the key `key`, as `topscedar_arena_rekey` does, unless an entry has an equal key: then `EQUAL_KEY`.
+/// `OK`, `CLOSED`, or `NOT_FOUND` if the pointer is stale; on all but `OK` nothing changes.
+#[unsafe(no_mangle)]
+pub extern "C" fn topscedar_arena_rekey_unique(
+    alloc: Global,
+    arena: &mut Handle,
+    pointer: Pointer,
+    key: i64,
+    before: &mut i64,
+) -> u8
+    ensures moved { ChangesOrFails (ok ∷ not_found ∷ closed ∷ equal_key ∷ [])
+        (λ a b. (b ≡ with_key int_cmp a (numbers_of pointer) key) × IsAbsent int_cmp a key
+        × (option_map (λ pair. pair.0) (get a (numbers_of pointer)) ≡ Some before.new))
+        arena.old.slot.held arena.new.slot.held result }
+    ensures kept { result ≢ ok → before.new ≡ before.old }
+    ensures stale { result ≡ not_found → IsSomeAnd arena.old.slot.held (λ a. get a (numbers_of pointer) ≡ None) }
+    ensures equal { result ≡ equal_key → IsSomeAnd arena.old.slot.held (λ a.
+        is_some (first_where (λ e. is_eq (int_cmp key (key_of e))) a.entries) ≡ true) }
+{
+    let Some(mut content) = arena.take(alloc) else {
+        return CLOSED;
+    };
+    let moved = content.pairs.rekey_unique(pointer.p0(), key);
+    arena.put(content);
+    match moved {
+        Ok(old) => {
+            *before = old;
+            OK
+        }
+        Err((_, RekeyUniqueError::EqualKey)) => EQUAL_KEY,
+        Err((_, RekeyUniqueError::Stale)) => NOT_FOUND,
+    }
 }

@@ -4,8 +4,8 @@ ghost use Rattle.std.specs.Prelude.{◌≡◌, ◌+◌, ◌<◌, ◌≤◌, leng
 ghost use Rattle.std.specs.Option.{option_map, option_map_or};
 ghost use Rattle.std.specs.Ordering.{int_cmp, is_gt};
 ghost use Rattle.sorted_arena.specs.Chain.{first_pointer, from_index};
-ghost use Rattle.sorted_arena.specs.Sorted.{count, entries_until, last_item, pair_of};
-ghost use Rattle.arena_c.specs.Shown.{most_entries};
+ghost use Rattle.sorted_arena.specs.Sorted.{count, entries_until, generation_after, get, last_item};
+ghost use Rattle.arena_c.specs.Shown.{greatest_generation, most_entries};
 ghost use Rattle.arena_c.specs.Batch.{fall_behind, first_fall, AppendsPairs, Fills};
 
 use crate::content::Content;
@@ -52,6 +52,8 @@ impl Content {
         requires room { count self.old + length keys.now ≤ self.old.capacity }
         ensures { AppendsPairs keys.now values.now self.old self.new }
     {
+        // For the prover: the keys are in order.
+        let _ = self.pairs.len();
         for (i, key) in keys.iter().enumerate() {
             match self.pairs.insert(*key, values[i]) {
                 Ok(_) => {}
@@ -80,24 +82,25 @@ impl Content {
 
     /// Fills an array with the entries from the one at `first` on. Returns how many they are, and the pointer of the one behind them.
     pub fn fill(&self, first: P0, entries: &mut [Entry]) -> (usize, Option<P0>)
-        requires { IsSome (pair_of self.now first) }
+        requires { IsSome (get self.now first) }
         ensures filled { Fills (from_index self.now.entries first.0) entries.old entries.new result.0 }
         ensures rest { result.1
             ≡ first_pointer (drop result.0 (from_index self.now.entries first.0)) }
     {
-        // For the prover: the arena is sound.
-        let _ = self.pairs.len();
-        let mut next = Some(first);
+        let Some(mut range) = self.pairs.iter_from(first) else {
+            return (0, None);
+        };
         for i in 0..entries.len() {
-            match self.entry_found(next) {
-                Some(entry) => {
-                    entries[i] = entry;
-                    next = self.pairs.next(entry.pointer.p0());
-                }
+            match range.next() {
+                Some(shown) => entries[i] = Entry::of(shown),
                 None => return (i, None),
             }
         }
-        (entries.len(), next)
+        let rest = match range.next() {
+            Some((p, _, _)) => Some(p),
+            None => None,
+        };
+        (entries.len(), rest)
     }
 
     /// Removes entries whose key is at most `until`, and fills an array with them. Returns how many they are.
@@ -105,6 +108,8 @@ impl Content {
         ensures filled { Fills (entries_until int_cmp until self.old.entries)
             entries.old entries.new result }
         ensures left { self.new.entries ≡ drop result self.old.entries }
+        ensures generation { self.new.generation
+            ≡ generation_after greatest_generation result self.old.generation }
         ensures capacity { self.new.capacity ≡ self.old.capacity }
     {
         for i in 0..entries.len() {

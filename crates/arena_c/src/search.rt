@@ -1,6 +1,6 @@
 //! Entries by their keys and by their places in the order. Each call writes the entry that it found, with its pointer.
 
-ghost use Rattle.std.specs.Prelude.{◌≡◌};
+ghost use Rattle.std.specs.Prelude.{◌≡◌, Some, count_by};
 ghost use Rattle.std.specs.Ordering.{int_cmp, is_eq, is_le, is_lt};
 ghost use Rattle.sorted_arena.specs.Chain.{first_pointer, last_pointer};
 ghost use Rattle.sorted_arena.specs.Sorted.{first_where, key_of, next_of, prev_of};
@@ -130,4 +130,22 @@ pub extern "C" fn topscedar_arena_previous(
     };
     let found = content.entry_found(content.pairs.prev(pointer.p0()));
     arena.answer(content, found, entry)
+}
+
+/// Writes how many entries have the key `key`, in O(log n), plus O(1) for each of them. `OK` or `CLOSED`.
+#[unsafe(no_mangle)]
+pub extern "C" fn topscedar_arena_count(
+    alloc: Global,
+    arena: &mut Handle,
+    key: i64,
+    count: &mut usize,
+) -> u8
+    ensures { Looks (λ a. Some (count_by (λ e. is_eq (int_cmp key (key_of e))) a.entries))
+        arena.old.slot.held arena.new.slot.held result count.old count.new }
+{
+    let Some(content) = arena.take(alloc) else {
+        return CLOSED;
+    };
+    let found = content.pairs.count_of(&key);
+    arena.answer(content, Some(found), count)
 }

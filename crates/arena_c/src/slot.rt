@@ -21,6 +21,8 @@ impl Model for Slot {
     ghost also_owns = { λ s. slot_owns s.alloc s.at s.held };
 }
 
+unsafe impl Send for Slot {}
+
 impl Slot {
     /// A slot that owns nothing.
     pub fn empty(alloc: Global) -> Slot

@@ -14,3 +14,5 @@ pub const CLOSED: u8 = 4;
 pub const EQUAL_KEY: u8 = 5;
 /// The keys are not in order.
 pub const OUT_OF_ORDER: u8 = 6;
+/// The handle is open.
+pub const ALREADY_OPEN: u8 = 7;

@@ -1,13 +1,13 @@
-//! An ordered arena whose code is proved: signed keys, unsigned values, and a pointer for each entry.
+//! A sorted map whose code is proved. Equal keys are allowed, and each entry has a pointer that stays valid while other entries come and go.
 //!
 //! ```
-//! use topscedar::OrderedArena;
+//! use topscedar::SortedArena;
 //!
-//! let mut sessions = OrderedArena::new()?;
-//! let token = sessions.insert(100, 1)?;
-//! sessions.insert(90, 2)?;
+//! let mut sessions = SortedArena::new()?;
+//! let token = sessions.insert(100, "ann")?;
+//! sessions.insert(90, "bob")?;
 //! sessions.rekey(token, 80)?;
-//! assert_eq!(sessions.iter().map(|entry| entry.value).collect::<Vec<_>>(), [1, 2]);
+//! assert_eq!(sessions.iter().map(|entry| *entry.value).collect::<Vec<_>>(), ["ann", "bob"]);
 //! # Ok::<(), topscedar::Error>(())
 //! ```
 
@@ -16,11 +16,15 @@
 mod arena;
 mod error;
 mod iter;
+mod key;
+mod pointer;
 mod raw;
 
-pub use arena::{Entry, OrderedArena, Pointer};
+pub use arena::SortedArena;
 pub use error::Error;
-pub use iter::{Iter, PopUntil};
+pub use iter::{Drain, Iter, IterMut, PopUntil};
+pub use key::Key;
+pub use pointer::{Entry, Pointer};
 
 /// Runs a script on an empty arena. Returns the exit status of the program `ordrun` and the answer.
 pub fn run(script: &[u8]) -> (u8, Vec<u8>) {

@@ -1,233 +1,283 @@
-//! An arena beside a sorted vector over 20,000 random calls, and every error.
+//! An arena beside a sorted list, over random calls; and what the compiler says of the types.
 
-use topscedar::{run, Entry, Error, OrderedArena, Pointer};
+use std::cmp::Reverse;
+use std::collections::{BTreeSet, HashSet};
+use std::rc::Rc;
+use std::sync::{Arc, Mutex};
+use std::time::Duration;
+use topscedar::{Entry, Error, Key, Pointer, SortedArena};
 
 struct Random(u64);
 
 impl Random {
-    fn below(&mut self, bound: u64) -> u64 {
+    fn below(&mut self, n: u64) -> u64 {
         self.0 ^= self.0 << 13;
         self.0 ^= self.0 >> 7;
         self.0 ^= self.0 << 17;
-        self.0 % bound
+        self.0 % n
     }
-
-    fn key(&mut self) -> i64 {
-        self.below(200) as i64 - 100
-    }
-}
-
-struct Model(Vec<Entry>);
-
-impl Model {
-    fn lower(&self, key: i64) -> usize {
-        self.0.partition_point(|entry| entry.key < key)
-    }
-
-    fn upper(&self, key: i64) -> usize {
-        self.0.partition_point(|entry| entry.key <= key)
-    }
-
-    fn insert(&mut self, entry: Entry) {
-        self.0.insert(self.upper(entry.key), entry);
-    }
-
-    fn at(&self, i: usize) -> Option<Entry> {
-        self.0.get(i).copied()
-    }
-}
-
-fn searches(random: &mut Random, arena: &OrderedArena, model: &Model) {
-    let key = random.key();
-    let (lower, upper) = (model.lower(key), model.upper(key));
-    assert_eq!(arena.lower_bound(key), model.at(lower));
-    assert_eq!(arena.upper_bound(key), model.at(upper));
-    assert_eq!(
-        arena.find(key),
-        if lower < upper { model.at(lower) } else { None }
-    );
-    assert_eq!(arena.first(), model.0.first().copied());
-    assert_eq!(arena.last(), model.0.last().copied());
-    assert_eq!(arena.len(), model.0.len());
-    assert_eq!(arena.is_empty(), model.0.is_empty());
-    assert_eq!(arena.iter_from(key).collect::<Vec<_>>(), model.0[lower..]);
-}
-
-fn changes(
-    random: &mut Random,
-    arena: &mut OrderedArena,
-    model: &mut Model,
-    i: usize,
-) -> Option<Pointer> {
-    let pointer = model.0[i].pointer;
-    let key = random.key();
-    match random.below(4) {
-        0 => {
-            let value = random.below(1000);
-            assert_eq!(arena.set_value(pointer, value), Ok(model.0[i].value));
-            model.0[i].value = value;
-            None
-        }
-        1 | 2 => {
-            let entry = model.0.remove(i);
-            assert_eq!(arena.rekey(pointer, key), Ok(entry.key));
-            model.insert(Entry { key, ..entry });
-            None
-        }
-        _ => {
-            assert_eq!(arena.remove(pointer), Some(model.0.remove(i)));
-            Some(pointer)
-        }
-    }
-}
-
-fn is_stale(arena: &mut OrderedArena, pointer: Pointer) {
-    assert_eq!(arena.get(pointer), None);
-    assert_eq!(arena.next(pointer), None);
-    assert_eq!(arena.previous(pointer), None);
-    assert_eq!(arena.remove(pointer), None);
-    assert_eq!(arena.rekey(pointer, 1), Err(Error::Stale));
-    assert_eq!(arena.set_value(pointer, 1), Err(Error::Stale));
 }
 
 #[test]
-fn random_calls() {
-    let mut random = Random(88172645463325252);
-    let mut arena = OrderedArena::new().unwrap();
-    let mut model = Model(Vec::new());
-    let mut stale = None;
-    for _ in 0..20_000 {
-        let (key, value) = (random.key(), random.below(1000));
-        let i = random.below(model.0.len().max(1) as u64) as usize;
-        match random.below(12) {
+fn does_as_a_sorted_list() {
+    let mut r = Random(0x9E3779B97F4A7C15);
+    let mut arena: SortedArena<i32, Rc<u64>> = SortedArena::new().unwrap();
+    let mut model: Vec<(i32, Rc<u64>, Pointer)> = Vec::new();
+    let at = |model: &Vec<(i32, Rc<u64>, Pointer)>, key| model.partition_point(|it| it.0 <= key);
+    for i in 0..60_000 {
+        let key = r.below(100) as i32 - 50;
+        match r.below(13) {
             0..=3 => {
-                let pointer = arena.insert(key, value).unwrap();
-                model.insert(Entry {
-                    pointer,
-                    key,
-                    value,
-                });
+                let value = Rc::new(i);
+                let p = arena.insert(key, value.clone()).unwrap();
+                let to = at(&model, key);
+                model.insert(to, (key, value, p));
             }
-            4 => match arena.insert_unique(key, value) {
-                Ok(pointer) => {
-                    assert_eq!(model.lower(key), model.upper(key));
-                    model.insert(Entry {
-                        pointer,
-                        key,
-                        value,
-                    });
-                }
-                Err(error) => {
-                    assert_eq!(error, Error::EqualKey);
-                    assert!(model.lower(key) < model.upper(key));
-                }
-            },
-            5 | 6 => searches(&mut random, &arena, &model),
-            7 | 8 if !model.0.is_empty() => {
-                stale = changes(&mut random, &mut arena, &mut model, i).or(stale)
-            }
-            9 if !model.0.is_empty() => {
-                let pointer = model.0[i].pointer;
-                assert_eq!(arena.get(pointer), model.at(i));
-                assert_eq!(arena.next(pointer), model.at(i + 1));
+            4 | 5 if !model.is_empty() => {
+                let (key, value, p) = model.remove(r.below(model.len() as u64) as usize);
                 assert_eq!(
-                    arena.previous(pointer),
-                    i.checked_sub(1).and_then(|i| model.at(i))
+                    arena.remove(p),
+                    Some(Entry {
+                        pointer: p,
+                        key,
+                        value: value.clone()
+                    })
                 );
+                assert_eq!(Rc::strong_count(&value), 1);
+                assert!(arena.get(p).is_none() && !arena.contains(p) && arena.remove(p).is_none());
+                assert_eq!(arena.rekey(p, 0), Err(Error::Stale));
             }
-            10 => {
-                let first = (!model.0.is_empty()).then(|| model.0.remove(0));
-                assert_eq!(arena.pop_first(), first);
-                assert_eq!(arena.pop_last(), model.0.pop());
+            6 if !model.is_empty() => {
+                let from = r.below(model.len() as u64) as usize;
+                let (before, value, p) = model.remove(from);
+                assert_eq!(arena.rekey(p, key), Ok(before));
+                let to = at(&model, key);
+                model.insert(to, (key, value, p));
             }
-            11 if random.below(8) == 0 => {
-                let due = model.upper(key - 50);
-                let popped: Vec<_> = arena.pop_until(key - 50).collect();
-                assert_eq!(popped, model.0.drain(..due).collect::<Vec<_>>());
+            7 if !model.is_empty() => {
+                let from = r.below(model.len() as u64) as usize;
+                let value = Rc::new(i);
+                assert_eq!(
+                    arena.set_value(model[from].2, value.clone()).unwrap(),
+                    model[from].1
+                );
+                model[from].1 = value;
+            }
+            8 => {
+                let until = -45;
+                let count = r.below(3) as usize;
+                let gone: Vec<_> = arena.pop_until(until).take(count).collect();
+                for entry in gone {
+                    let (key, value, p) = model.remove(0);
+                    assert_eq!((entry.key, entry.value, entry.pointer), (key, value, p));
+                }
+            }
+            9 => {
+                let (a, b) = (key.min(r.below(100) as i32 - 50), key);
+                let want: Vec<_> = model
+                    .iter()
+                    .filter(|it| a <= it.0 && it.0 < b)
+                    .map(|it| it.2)
+                    .collect();
+                assert_eq!(
+                    arena.range(a..b).map(|it| it.pointer).collect::<Vec<_>>(),
+                    want
+                );
+                assert_eq!(
+                    arena
+                        .range(a..b)
+                        .rev()
+                        .map(|it| it.pointer)
+                        .collect::<Vec<_>>(),
+                    want.iter().rev().copied().collect::<Vec<_>>()
+                );
+                let mut both = arena.range(a..b);
+                let (mut front, mut back) = (Vec::new(), Vec::new());
+                loop {
+                    let from_front = r.below(2) == 0;
+                    let (low, high) = both.size_hint();
+                    let left = want.len() - front.len() - back.len();
+                    assert!(low <= left && left <= high.unwrap());
+                    match if from_front {
+                        both.next()
+                    } else {
+                        both.next_back()
+                    } {
+                        Some(it) if from_front => front.push(it.pointer),
+                        Some(it) => back.push(it.pointer),
+                        None => break,
+                    }
+                }
+                back.reverse();
+                front.extend(back);
+                assert_eq!(front, want);
+            }
+            10 => assert_eq!(
+                arena.find(key).map(|it| it.pointer),
+                model.iter().find(|it| it.0 == key).map(|it| it.2)
+            ),
+            11 if i % 100 == 0 => {
+                let gone = key;
+                arena.retain(|it| it.key != gone);
+                model.retain(|it| it.0 != gone);
+            }
+            _ if i % 50 == 0 => {
+                assert_eq!(arena.len(), model.len());
+                assert!(arena
+                    .iter()
+                    .map(|it| (it.key, it.value.clone(), it.pointer))
+                    .eq(model.iter().cloned()));
+                assert_eq!(arena.iter().size_hint(), (model.len(), Some(model.len())));
+                assert!(arena
+                    .iter_mut()
+                    .rev()
+                    .map(|it| it.value.clone())
+                    .eq(model.iter().rev().map(|it| it.1.clone())));
+                let mut clone = arena.clone();
+                assert!(clone == arena && clone.iter().eq(arena.iter()));
+                assert_eq!(
+                    arena.count(key),
+                    model.iter().filter(|it| it.0 == key).count()
+                );
+                clone.compact();
+                assert!(
+                    clone == arena && clone.iter().zip(1..).all(|(it, i)| it.pointer.index() == i)
+                );
+                clone.shrink_to_fit();
+                assert_eq!(clone.capacity(), model.len());
+                assert_eq!(
+                    clone.remove_key(key).map(|it| it.value),
+                    model.iter().find(|it| it.0 == key).map(|it| it.1.clone())
+                );
+                if let Some((p, other)) =
+                    model.first().map(|it| (it.2, SortedArena::<i64, u64>::new().unwrap()))
+                {
+                    assert!(!other.contains(p) && !clone.contains(p));
+                    assert_eq!(arena.rekey_unique(p, model[0].0), Err(Error::EqualKey));
+                }
             }
             _ => {}
         }
     }
-    assert!(!model.0.is_empty());
-    assert_eq!(arena.iter().collect::<Vec<_>>(), model.0);
-    is_stale(&mut arena, stale.unwrap());
+    let values: Vec<_> = model.iter().map(|it| it.1.clone()).collect();
+    drop(model);
+    drop(arena);
+    assert!(values.iter().all(|it| Rc::strong_count(it) == 1));
 }
 
 #[test]
-fn sorted_pairs() {
-    let keys: Vec<i64> = (0..1000).map(|i| i / 2).collect();
-    let values: Vec<u64> = (0..1000).collect();
-    let mut arena = OrderedArena::from_sorted(&keys, &values).unwrap();
-    let pairs: Vec<_> = arena.iter().map(|entry| (entry.key, entry.value)).collect();
-    assert_eq!(
-        pairs,
-        keys.iter()
-            .copied()
-            .zip(values.iter().copied())
+fn keeps_the_order_of_keys() {
+    fn check<K: Key + PartialOrd + std::fmt::Debug>(keys: &[K]) {
+        for pair in keys.windows(2) {
+            assert!(pair[0].to_i64() < pair[1].to_i64(), "{pair:?}");
+        }
+        for key in keys {
+            assert_eq!(K::from_i64(key.to_i64()).to_i64(), key.to_i64());
+            assert!(K::from_i64(key.to_i64()).partial_cmp(key) != Some(std::cmp::Ordering::Less));
+        }
+    }
+    check(&[i64::MIN, -1, 0, 1, i64::MAX]);
+    check(&[0u64, 1, 1 << 63, u64::MAX]);
+    check(&[0usize, 1, usize::MAX]);
+    check(&[i8::MIN, 0, i8::MAX]);
+    check(&[
+        f64::NEG_INFINITY,
+        -1.5,
+        -5e-324,
+        -0.0,
+        0.0,
+        5e-324,
+        1.5,
+        f64::INFINITY,
+    ]);
+    check(&[
+        f32::NEG_INFINITY,
+        -1.5,
+        -0.0,
+        0.0,
+        1e-45,
+        1.5,
+        f32::INFINITY,
+    ]);
+    check(&['a', 'b', '\u{d7ff}', '\u{e000}', char::MAX]);
+    check(&[false, true]);
+    check(&[
+        Duration::ZERO,
+        Duration::from_nanos(1),
+        Duration::from_secs(u64::MAX / 1_000_000_000),
+    ]);
+    check(&[(0u32, 0u32), (0, u32::MAX), (1, 0), (u32::MAX, 0)]);
+    check(&[Reverse(5u64), Reverse(3), Reverse(0)]);
+    assert!(f64::NAN.to_i64() > f64::INFINITY.to_i64());
+}
+
+#[test]
+fn pointers_are_plain_data() {
+    let mut arena = SortedArena::<i64, u64>::new().unwrap();
+    let (p, q) = (arena.insert(1, 1).unwrap(), arena.insert(1, 2).unwrap());
+    assert_eq!(Pointer::from_u64(p.to_u64().unwrap()), Some(p));
+    assert_eq!(Pointer::new(p.index(), p.generation()), Some(p));
+    assert_eq!(Pointer::from_u64(0), None);
+    assert_eq!([p, q].into_iter().collect::<BTreeSet<_>>().len(), 2);
+    assert_eq!([p, q, p].into_iter().collect::<HashSet<_>>().len(), 2);
+    assert_eq!(std::mem::size_of::<Option<Pointer>>(), 16);
+    arena[q] += 5;
+    assert_eq!((arena[p], arena[q]), (1, 7));
+}
+
+#[test]
+fn goes_to_other_threads() {
+    fn is_send<T: Send>(_: &T) {}
+    let arena = Arc::new(Mutex::new(SortedArena::<Duration, String>::default()));
+    is_send(&arena);
+    let threads: Vec<_> = (0..4)
+        .map(|i| {
+            let arena = arena.clone();
+            std::thread::spawn(move || {
+                for j in 0..1000 {
+                    arena
+                        .lock()
+                        .unwrap()
+                        .insert(Duration::from_millis(j), format!("{i} {j}"))
+                        .unwrap();
+                }
+            })
+        })
+        .collect();
+    for it in threads {
+        it.join().unwrap();
+    }
+    let arena = Arc::try_unwrap(arena).unwrap().into_inner().unwrap();
+    assert_eq!(arena.len(), 4000);
+    let moved = std::thread::spawn(move || {
+        arena
+            .into_iter()
+            .rev()
+            .map(|it| it.value)
             .collect::<Vec<_>>()
-    );
+    })
+    .join()
+    .unwrap();
+    assert!(moved[0].ends_with(" 999") && moved[3999].ends_with(" 0"));
+}
+
+#[test]
+fn builds_and_collects() {
+    let a: SortedArena<char, usize> = "hello".chars().zip(0..).collect();
+    assert_eq!(format!("{a:?}"), "{'e': 1, 'h': 0, 'l': 2, 'l': 3, 'o': 4}");
+    let mut b = SortedArena::from_sorted([(1u8, "x"), (1, "y"), (9, "z")]).unwrap();
     assert_eq!(
-        arena.extend_sorted(&[499, 498], &[0, 0]),
+        b.extend_sorted([(9, "w"), (8, "v")]),
         Err(Error::OutOfOrder(1))
     );
-    assert_eq!(arena.extend_sorted(&[0], &[0]), Err(Error::OutOfOrder(0)));
-    assert_eq!(arena.extend_sorted(&[500], &[]), Err(Error::LengthsDiffer));
-    assert_eq!(arena.len(), 1000);
-    assert_eq!(arena.pop_until(600).count(), 1000);
-    assert!(OrderedArena::from_sorted(&[], &[]).unwrap().is_empty());
-}
-
-#[test]
-fn refusals() {
-    let mut arena = OrderedArena::new().unwrap();
-    let pointer = arena.insert(1, 1).unwrap();
-    assert_eq!(arena.reserve(usize::MAX), Err(Error::Full));
-    assert_eq!(arena.reserve(1 << 32), Err(Error::Full));
-    arena.clear();
-    is_stale(&mut arena, pointer);
-    assert_eq!(format!("{arena:?}"), "{}");
-}
-
-#[test]
-fn scripts() {
-    let (status, answer) = run(b"insert 50 1\ninsert 30 2\nlist\n");
-    assert_eq!(status, 0);
-    assert!(String::from_utf8(answer).unwrap().contains("30:2"));
-    assert_eq!(run(b"nonsense\n").0, 2);
-    assert_eq!(
-        run(&b"insert 1 1\nlist\n".repeat(300))
-            .1
-            .iter()
-            .filter(|byte| **byte == b'\n')
-            .count(),
-        600
-    );
-    assert_eq!(run(&[b'\n'; 1_048_577]), (3, Vec::new()));
-}
-
-extern "C" {
-    fn getrlimit(resource: i32, limit: *mut [u64; 2]) -> i32;
-    fn setrlimit(resource: i32, limit: *const [u64; 2]) -> i32;
-}
-
-/// The limit on a process's address space, as Linux numbers the limits.
-#[cfg(target_os = "linux")]
-const ADDRESS_SPACE: i32 = 9;
-
-#[test]
-#[cfg(target_os = "linux")]
-fn refused_memory() {
-    let mut arena = OrderedArena::new().unwrap();
-    let pointer = arena.insert(1, 1).unwrap();
-    let mut limit = [0; 2];
-    // Safety: each call reads or writes the two words that it is handed.
-    unsafe {
-        assert_eq!(getrlimit(ADDRESS_SPACE, &mut limit), 0);
-        assert_eq!(setrlimit(ADDRESS_SPACE, &[1 << 33, limit[1]]), 0);
+    assert_eq!(b.extend_sorted([(9, "w"), (10, "v")]), Ok(()));
+    assert_eq!(b.iter().map(|it| *it.value).collect::<String>(), "xyzwv");
+    assert_eq!(b.insert_unique(9, "q"), Err(Error::EqualKey));
+    for it in &mut b {
+        *it.value = "_";
     }
-    let refused = arena.reserve(4_000_000_000);
-    // Safety: as above.
-    unsafe { assert_eq!(setrlimit(ADDRESS_SPACE, &limit), 0) };
-    assert_eq!(refused, Err(Error::NoMemory));
-    assert_eq!(arena.get(pointer).unwrap().key, 1);
+    assert_eq!(
+        b.into_iter().map(|it| it.value).collect::<String>(),
+        "_____"
+    );
 }

@@ -1,7 +1,7 @@
 use Rattle.std.proofs.Common.{◌∙◌, ◌++◌, ◌∷◌, [], sym, ap, subst, refl, lit<, ℕ, ℤ, List, map, take, arith}
 use Rattle.std.proofs.lemmas.Grind.{common_steps}
 use Rattle.std.specs.List.{Contains, zip}
-use Rattle.sorted_arena.specs.Sorted.{item_of}
+use Rattle.sorted_arena.specs.Sorted.{pair_of, Keeps}
 use Rattle.arena_c.specs.{Shown.Arena, Batch.AppendsPairs, Status.ok, Status.full, Status.no_memory, Status.closed, Status.out_of_order}
 use Rattle.arena_c.proofs.{Answers.becomes, Answers.known-reservation, Answers.reserved, Runs.zip-shorter}
 use Rattle.arena_c.proofs.batch.topscedar_arena_build.Goals as goal
@@ -23,7 +23,8 @@ returns-clause-builds c =
       changed = λ done.
           let held = reserved c.extend-extended.result c.reservation_status.result c.reservation_status.ensures done c.extend-extended.ensures.appends in
           becomes (AppendsPairs ks vs) a b _ _ c.in-Some.ensures.taken c.put-2.ensures (record {
-            entries = held.entries ∙ ap (λ (zs : List (ℤ × ℕ)). map item_of c.deref_mut.result.now.entries ++ zs) pairs ∙ ap (λ (a : Arena). map item_of a.entries ++ zip ks vs) c.deref_mut.ensures.value;
+            entries = held.entries ∙ ap (λ (zs : List (ℤ × ℕ)). map pair_of c.deref_mut.result.now.entries ++ zs) pairs ∙ ap (λ (a : Arena). map pair_of a.entries ++ zip ks vs) c.deref_mut.ensures.value;
+            kept = subst (λ (z : Arena). Keeps z b) c.deref_mut.ensures.value held.kept;
             generation = c.extend-extended.ensures.generation ∙ ap (λ (a : Arena). a.generation) c.deref_mut.ensures.value;
           });
       kept = grind (arith, common_steps);
