@@ -38,7 +38,7 @@ module _ {K V : Type 0} (cmp : K → K → Ordering) where
       go Equal is rest = behind rest (rw is refl) (λ less. let both = sym is ∙ less in cc)
       go Greater is rest = behind rest (rw is refl) (λ less. let both = sym is ∙ less in cc)
 
-  -- A new entry stands behind all whose key is at most its own, and before all others.
+  -- A new entry is after every entry with a key ≤ its own, and before all others.
   pub record IsPutBetween (most : ℕ) (old : Listing (K × V)) (p : ℕ × ℕ) (item : K × V) (new : Listing (K × V)) : Type 0 where
     pub front : List (Entry (K × V))
     pub back : List (Entry (K × V))

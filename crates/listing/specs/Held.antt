@@ -18,7 +18,7 @@ module _ {K V : Type 0} (cmp : K → K → Ordering) where
     pub sorted : AreSorted cmp a.list.entries
     pub unlimited : a.list.maximum ≡ None
 
-  -- what an insertion behind all whose key is at most its own makes of the listing that an ordered arena holds
+  -- what an insertion after every entry with a key ≤ the new one makes of the listing that an ordered arena holds
   pub record Puts (most : ℕ) (old : Tree (K × V)) (p : ℕ × ℕ) (item : K × V) (new : Tree (K × V)) : Type 0 where
     pub equation : listing_of new ≡ with_entry cmp most (listing_of old) p item
     pub free : IsFree (listing_of old) p

@@ -181,7 +181,7 @@ module _ {K V : Type 0} where
     abbrev pub entries_above : K → List (Entry (K × V)) → List (Entry (K × V))
     entries_above k es = filter (λ e. is_gt (cmp (key_of e) k)) es
 
-    -- the entries with one more, behind all whose key is at most its own
+    -- the entries with one more, after every entry with a key ≤ its own
     abbrev pub put_behind : Entry (K × V) → List (Entry (K × V)) → List (Entry (K × V))
     put_behind x [] = x ∷ []
     put_behind x (e ∷ es) = if is_lt (cmp (key_of x) (key_of e)) then x ∷ e ∷ es else e ∷ put_behind x es
@@ -193,7 +193,7 @@ module _ {K V : Type 0} where
       capacity = if nat_lt (count a) a.capacity then a.capacity else doubled_capacity most a.capacity;
     }
 
-    -- the listing with another key at a pointer, given what the pointer names: its entry goes behind all others whose key is at most that
+    -- the listing with another key at a pointer, given what the pointer names: its entry goes after every other entry with a key ≤ that
     abbrev pub with_key_from : Listing (K × V) → ℕ × ℕ → Option (K × V) → K → Listing (K × V)
     with_key_from a p None k = a
     with_key_from a p (Some item) k = record a { entries = put_behind (entry_of p (k, item.1)) (without p.0 a.entries) }

@@ -1,4 +1,4 @@
-//! Insertions into the ordered arena of a listing. A new entry goes behind all whose key is at most its own.
+//! Insertions into the ordered arena of a listing. A new entry goes after every entry with a key ≤ its own.
 
 ghost use Rattle.std.specs.Prelude.{◌≡◌, ◌<◌, ◌↔◌, Err, IsOk, IfOk, IfErr, OnErr, length};
 ghost use Rattle.triple_ord.specs.Chain.{chain_limit, IsSound};
