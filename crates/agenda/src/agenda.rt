@@ -107,6 +107,13 @@ impl<J, A: Allocator> Agenda<J, A> {
     /// Removes the job of `ticket` and returns its deadline and the job, in O(log n).
     ///
     /// If the ticket names no job, returns `None` and nothing changes.
+    ///
+    /// ```
+    /// let mut agenda: Agenda<&str> = Agenda::new(rt.alloc());
+    /// let report = agenda.schedule(30, "report").map_err(|refused| refused.1)?;
+    /// assert_eq!(rt; agenda.cancel(report), Some((30, "report")));
+    /// assert_eq!(rt; agenda.cancel(report), None);
+    /// ```
     #[tactic(auto, using(listing::proofs::CallerLemmas::words))]
     pub fn cancel(&mut self, ticket: Ticket) -> Option<(u64, J)>
         ensures value { result ≡ get self.old ticket }
@@ -125,6 +132,14 @@ impl<J, A: Allocator> Agenda<J, A> {
     /// Removes the first job if its deadline is at most `now`, and returns its deadline and the job, in O(log n).
     ///
     /// If no job is due, returns `None` and nothing changes.
+    ///
+    /// ```
+    /// let mut agenda: Agenda<&str> = Agenda::new(rt.alloc());
+    /// agenda.schedule(30, "report").map_err(|refused| refused.1)?;
+    /// agenda.schedule(10, "tea").map_err(|refused| refused.1)?;
+    /// assert_eq!(rt; agenda.pop_due(20), Some((10, "tea")));
+    /// assert_eq!(rt; agenda.pop_due(20), None);
+    /// ```
     pub fn pop_due(&mut self, now: u64) -> Option<(u64, J)>
         ensures value { result ≡ first_due now self.old.entries }
         ensures due { IfSome result (λ due. due.0 ≤ now) }
@@ -146,7 +161,14 @@ impl<J, A: Allocator> Agenda<J, A> {
 }
 
 impl<J: Drop, A: Allocator> Agenda<J, A> {
-    /// Inserts a job behind all whose deadline is at most its own, and returns its ticket. If it is full, the agenda grows.
+    /// Inserts a job after every job with a deadline ≤ its own, and returns its ticket. If it is full, the agenda grows.
+    ///
+    /// ```
+    /// let mut agenda: Agenda<&str> = Agenda::new(rt.alloc());
+    /// agenda.schedule(30, "report").map_err(|refused| refused.1)?;
+    /// agenda.schedule(10, "tea").map_err(|refused| refused.1)?;
+    /// assert_eq!(rt; agenda.next_deadline(), Some(10));
+    /// ```
     ///
     /// # Errors
     ///
@@ -183,9 +205,18 @@ impl<J: Drop, A: Allocator> Agenda<J, A> {
 
     /// Gives the job of `ticket` another deadline and returns whether there is such a job, in O(log n). The ticket stays valid.
     ///
-    /// The job counts as newly scheduled: it goes behind all other jobs whose deadline is at most its own, also if its deadline doesn't
+    /// The job counts as newly scheduled: it goes after every other job with a deadline ≤ its own, also if its deadline doesn't
     /// change. [`move_to`](Self::move_to) does the same and issues a new ticket. No memory is taken. If the ticket names no job, nothing
     /// changes.
+    ///
+    /// ```
+    /// let mut agenda: Agenda<&str> = Agenda::new(rt.alloc());
+    /// let tea = agenda.schedule(10, "tea").map_err(|refused| refused.1)?;
+    /// agenda.schedule(30, "report").map_err(|refused| refused.1)?;
+    /// assert!(rt; agenda.reschedule(tea, 40));
+    /// assert_eq!(rt; agenda.next_deadline(), Some(30));
+    /// assert_eq!(rt; agenda.get(tea), Some((40, &"tea")));
+    /// ```
     #[tactic(auto, using(listing::proofs::CallerLemmas::words))]
     pub fn reschedule(&mut self, ticket: Ticket, deadline: u64) -> bool
         ensures value { result ≡ is_some (get self.old ticket) }
@@ -203,6 +234,15 @@ impl<J: Drop, A: Allocator> Agenda<J, A> {
     ///
     /// The job counts as newly scheduled, as by [`reschedule`](Self::reschedule). No memory is taken. If the ticket names no job, returns
     /// `None` and nothing changes.
+    ///
+    /// ```
+    /// let mut agenda: Agenda<&str> = Agenda::new(rt.alloc());
+    /// let tea = agenda.schedule(10, "tea").map_err(|refused| refused.1)?;
+    /// let later = agenda.move_to(tea, 40);
+    /// assert!(rt; later.is_some());
+    /// assert!(rt; !agenda.contains(tea));
+    /// assert_eq!(rt; agenda.next_deadline(), Some(40));
+    /// ```
     pub fn move_to(&mut self, ticket: Ticket, deadline: u64) -> Option<Ticket>
         ensures value { is_some result ≡ is_some (get self.old ticket) }
         ensures moved { IfSome result (λ new. Reschedules self.old ticket new deadline self.new) }

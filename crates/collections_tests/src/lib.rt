@@ -5,6 +5,8 @@
 #[cfg(test)]
 mod agendas;
 #[cfg(test)]
+mod examples;
+#[cfg(test)]
 mod order_books;
 #[cfg(test)]
 mod support;

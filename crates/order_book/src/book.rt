@@ -92,6 +92,15 @@ impl<A: Allocator> OrderBook<A> {
 
     /// Makes room for `additional` more orders on a side, which then aren't refused by it. O(capacity) if the side grows, else O(1).
     ///
+    /// ```
+    /// let mut book = OrderBook::new(rt.alloc());
+    /// let mut trades = Vec::new(rt.alloc());
+    /// book.reserve(Side::Sell, 1)?;
+    /// let room = book.capacity(Side::Sell);
+    /// book.place(NewOrder::limit(Side::Sell, 101, 10), &mut trades)?;
+    /// assert_eq!(rt; book.capacity(Side::Sell), room);
+    /// ```
+    ///
     /// # Errors
     ///
     /// The book is unchanged.
@@ -125,6 +134,14 @@ impl<A: Allocator> OrderBook<A> {
     }
 
     /// Returns the ask that trades first, the oldest at the lowest price, in O(1).
+    ///
+    /// ```
+    /// let mut book = OrderBook::new(rt.alloc());
+    /// let mut trades = Vec::new(rt.alloc());
+    /// book.place(NewOrder::limit(Side::Sell, 103, 20), &mut trades)?;
+    /// book.place(NewOrder::limit(Side::Sell, 101, 10), &mut trades)?;
+    /// assert_eq!(rt; book.best_ask().map(|ask| ask.price), Some(101));
+    /// ```
     #[tactic(auto, using(crate::proofs::Apart::first_above))]
     pub fn best_ask(&self) -> Option<Order>
         ensures value { result ≡ first_of self.now.asks.orders }
@@ -135,6 +152,18 @@ impl<A: Allocator> OrderBook<A> {
     }
 
     /// Returns an iterator over the orders of a side, first the one that trades first. Each step is O(1).
+    ///
+    /// ```
+    /// let mut book = OrderBook::new(rt.alloc());
+    /// let mut trades = Vec::new(rt.alloc());
+    /// book.place(NewOrder::limit(Side::Sell, 101, 10), &mut trades)?;
+    /// book.place(NewOrder::limit(Side::Sell, 103, 20), &mut trades)?;
+    /// let mut prices = Vec::new(rt.alloc());
+    /// for order in book.iter(Side::Sell) {
+    ///     prices.push(order.price)?;
+    /// }
+    /// assert_eq!(rt; prices.as_slice(), [101, 103].as_slice());
+    /// ```
     pub fn iter(&self, side: Side) -> Orders<'_, A>
         ensures { result ≡ (queue self.now side).orders }
     {
@@ -144,6 +173,15 @@ impl<A: Allocator> OrderBook<A> {
     /// Returns an iterator over the first `levels` price levels of a side, the best price first: fewer if there are fewer.
     ///
     /// A step is O(1) for each order of its level.
+    ///
+    /// ```
+    /// let mut book = OrderBook::new(rt.alloc());
+    /// let mut trades = Vec::new(rt.alloc());
+    /// book.place(NewOrder::limit(Side::Sell, 101, 10), &mut trades)?;
+    /// book.place(NewOrder::limit(Side::Sell, 101, 5), &mut trades)?;
+    /// let level = book.depth(Side::Sell, 5).next();
+    /// assert_eq!(rt; level.map(|level| (level.price, level.quantity, level.count)), Some((101, 15, 2)));
+    /// ```
     pub fn depth(&self, side: Side, levels: usize) -> Depth<'_, A>
         ensures { result ≡ first_levels levels (queue self.now side).orders }
     {
@@ -159,6 +197,15 @@ impl<A: Allocator> OrderBook<A> {
 
     /// Returns how much of an order of a side with this limit would trade at once. Nothing changes. O(1) for each order that it would
     /// trade with.
+    ///
+    /// ```
+    /// let mut book = OrderBook::new(rt.alloc());
+    /// let mut trades = Vec::new(rt.alloc());
+    /// book.place(NewOrder::limit(Side::Sell, 101, 10), &mut trades)?;
+    /// book.place(NewOrder::limit(Side::Sell, 103, 20), &mut trades)?;
+    /// assert_eq!(rt; book.offered(Side::Buy, 102, 15), 10);
+    /// assert_eq!(rt; book.offered(Side::Buy, 103, 15), 15);
+    /// ```
     pub fn offered(&self, side: Side, limit: u64, quantity: u64) -> u64
         ensures { result ≡ traded (queue self.now (opposite side)) limit quantity }
     {
@@ -169,6 +216,15 @@ impl<A: Allocator> OrderBook<A> {
     }
 
     /// Returns how much the other side offers an order of a side with this limit in all. O(1) for each order within the limit.
+    ///
+    /// ```
+    /// let mut book = OrderBook::new(rt.alloc());
+    /// let mut trades = Vec::new(rt.alloc());
+    /// book.place(NewOrder::limit(Side::Sell, 101, 10), &mut trades)?;
+    /// book.place(NewOrder::limit(Side::Sell, 103, 20), &mut trades)?;
+    /// assert_eq!(rt; book.volume_within(Side::Buy, 102), 10);
+    /// assert_eq!(rt; book.volume_within(Side::Buy, 103), 30);
+    /// ```
     pub fn volume_within(&self, side: Side, limit: u64) -> u128
         ensures { result ≡ within (opposite side) limit (queue self.now (opposite side)).orders }
     {
@@ -181,6 +237,15 @@ impl<A: Allocator> OrderBook<A> {
     /// Removes an order and returns it, in O(log n).
     ///
     /// If `id` names no order, returns `None` and nothing changes.
+    ///
+    /// ```
+    /// let mut book = OrderBook::new(rt.alloc());
+    /// let mut trades = Vec::new(rt.alloc());
+    /// let ask = book.place(NewOrder::limit(Side::Sell, 101, 10), &mut trades)?;
+    /// let cancelled = ask.and_then(|ask| book.cancel(ask));
+    /// assert_eq!(rt; cancelled.map(|order| order.quantity), Some(10));
+    /// assert_eq!(rt; book.best_ask(), None);
+    /// ```
     pub fn cancel(&mut self, id: OrderId) -> Option<Order>
         ensures value { result ≡ named self.old id }
         ensures changes { ChangesOrder self.old id None result self.new }
@@ -198,6 +263,16 @@ impl<A: Allocator> OrderBook<A> {
     ///
     /// The order keeps its id and its place in the queue. If nothing of it is left, it leaves. If `id` names no order, returns `None` and
     /// nothing changes. O(1), or O(log n) if the order leaves.
+    ///
+    /// ```
+    /// let mut book = OrderBook::new(rt.alloc());
+    /// let mut trades = Vec::new(rt.alloc());
+    /// let ask = book.place(NewOrder::limit(Side::Sell, 101, 10), &mut trades)?;
+    /// if let Some(ask) = ask {
+    ///     assert_eq!(rt; book.reduce(ask, 3), Some(7));
+    ///     assert_eq!(rt; book.get(ask).map(|order| order.quantity), Some(7));
+    /// }
+    /// ```
     pub fn reduce(&mut self, id: OrderId, quantity: u64) -> Option<u64>
         ensures value { result ≡ option_map (λ x. x.quantity - quantity) (named self.old id) }
         ensures changes { ChangesOrder self.old id
@@ -248,6 +323,16 @@ impl<A: Allocator> OrderBook<A> {
 
     /// Places an order: it trades as far as its limit and its kind allow, and the rest of it rests if its kind rests. Appends its trades to
     /// the list and returns the id of what rests, `None` if nothing does.
+    ///
+    /// ```
+    /// let mut book = OrderBook::new(rt.alloc());
+    /// let mut trades = Vec::new(rt.alloc());
+    /// book.place(NewOrder::limit(Side::Sell, 101, 10), &mut trades)?;
+    /// let rest = book.place(NewOrder::limit(Side::Buy, 102, 4), &mut trades)?;
+    /// assert_eq!(rt; rest, None);
+    /// assert_eq!(rt; trades.len(), 1);
+    /// assert_eq!(rt; book.best_ask().map(|ask| ask.quantity), Some(6));
+    /// ```
     ///
     /// # Errors
     ///
@@ -331,6 +416,16 @@ impl<A: Allocator> OrderBook<A> {
 
     /// Removes an order, and places a limit order of its side with its tag and another price and quantity. That counts as new, also at the
     /// same price, and gets a new id. Returns what [`place`](Self::place) returns, at the same cost.
+    ///
+    /// ```
+    /// let mut book = OrderBook::new(rt.alloc());
+    /// let mut trades = Vec::new(rt.alloc());
+    /// let ask = book.place(NewOrder::limit(Side::Sell, 101, 10), &mut trades)?;
+    /// if let Some(ask) = ask {
+    ///     book.replace(ask, 103, 5, &mut trades)?;
+    /// }
+    /// assert_eq!(rt; book.best_ask().map(|ask| (ask.price, ask.quantity)), Some((103, 5)));
+    /// ```
     ///
     /// # Errors
     ///

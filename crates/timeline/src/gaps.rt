@@ -29,6 +29,14 @@ impl<'a, V, A: Allocator> Model for Gaps<'a, V, A> {
 
 impl<V, A: Allocator> Timeline<V, A> {
     /// Returns an iterator over the stretches without a value from `from` until before `until`, in order. O(log n), and each step is O(1).
+    ///
+    /// ```
+    /// let mut day: Timeline<u8> = Timeline::new(rt.alloc());
+    /// day.set(9, 12, 1)?;
+    /// day.set(13, 17, 1)?;
+    /// let gap = day.gaps(9, 17).next().map(|gap| (gap.from, gap.until));
+    /// assert_eq!(rt; gap, Some((12, 13)));
+    /// ```
     pub fn gaps(&self, from: u64, until: u64) -> Gaps<'_, V, A>
         ensures { AreGaps self.now.changes from until result }
     {

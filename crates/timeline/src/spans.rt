@@ -29,6 +29,19 @@ impl<'a, V, A: Allocator> Model for Spans<'a, V, A> {
 
 impl<V, A: Allocator> Timeline<V, A> {
     /// Returns an iterator over the spans from `from` until before `until`, in order. O(log n), and each step is O(1).
+    ///
+    /// ```
+    /// let mut day: Timeline<u8> = Timeline::new(rt.alloc());
+    /// day.set(9, 17, 1)?;
+    /// day.set(12, 13, 2)?;
+    /// let mut hours = 0;
+    /// for span in day.spans(10, 24) {
+    ///     if *span.value == 1 {
+    ///         hours += span.until.wrapping_sub(span.from);
+    ///     }
+    /// }
+    /// assert_eq!(rt; hours, 6);
+    /// ```
     pub fn spans(&self, from: u64, until: u64) -> Spans<'_, V, A>
         ensures { AreSpans self.now.changes from until result }
     {
@@ -40,6 +53,13 @@ impl<V, A: Allocator> Timeline<V, A> {
     /// Returns the first span of a value within the time from `from` until before `until`, in O(log n). `None` if no value holds there.
     ///
     /// The span ends where another value or none begins, at the latest at `until`. Called again from its end on, it returns the next one.
+    ///
+    /// ```
+    /// let mut day: Timeline<u8> = Timeline::new(rt.alloc());
+    /// day.set(9, 17, 1)?;
+    /// let span = day.next_span(10, 24).map(|span| (span.from, span.until, *span.value));
+    /// assert_eq!(rt; span, Some((10, 17, 1)));
+    /// ```
     pub fn next_span(&self, from: u64, until: u64) -> Option<Span<&V>>
         ensures span { IfSome result
             (λ span. IsNextSpan self.now.changes from until (shown_span span)) }

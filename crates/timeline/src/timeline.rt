@@ -79,6 +79,13 @@ impl<V, A: Allocator> Timeline<V, A> {
     /// Returns the whole stretch of time around `time` over which its value holds, in O(log n). `None` if no value holds.
     ///
     /// It begins with the change that brought the value, and ends at the next one; `until` is `None` if no change follows.
+    ///
+    /// ```
+    /// let mut day: Timeline<u8> = Timeline::new(rt.alloc());
+    /// day.set(9, 17, 1)?;
+    /// let span = day.span_at(12).map(|span| (span.from, span.until));
+    /// assert_eq!(rt; span, Some((9, Some(17))));
+    /// ```
     pub fn span_at(&self, time: u64) -> Option<WholeSpan<&V>>
         ensures span { IfSome result
             (λ span. IsWholeSpan self.now.changes time (shown_whole span)) }
@@ -96,6 +103,14 @@ impl<V, A: Allocator> Timeline<V, A> {
     }
 
     /// Returns the first time after `time` at which another value holds, or none, in O(log n). `None` if there is no such time.
+    ///
+    /// ```
+    /// let mut day: Timeline<u8> = Timeline::new(rt.alloc());
+    /// day.set(9, 17, 1)?;
+    /// assert_eq!(rt; day.next_change(0), Some(9));
+    /// assert_eq!(rt; day.next_change(9), Some(17));
+    /// assert_eq!(rt; day.next_change(17), None);
+    /// ```
     pub fn next_change(&self, time: u64) -> Option<u64>
         ensures { IsNextChange self.now.changes time result }
     {
@@ -122,6 +137,14 @@ impl<V, A: Allocator> Timeline<V, A> {
     /// Makes room for this many more settings: each takes the room of two changes at most, so that so many of them never grow the timeline.
     ///
     /// O(n) if the timeline grows, else O(1). If it grows, its capacity at least doubles, up to the limit.
+    ///
+    /// ```
+    /// let mut day: Timeline<u8> = Timeline::new(rt.alloc());
+    /// day.reserve(1)?;
+    /// let room = day.capacity();
+    /// day.set(9, 17, 1)?;
+    /// assert_eq!(rt; day.capacity(), room);
+    /// ```
     ///
     /// # Errors
     ///
@@ -161,6 +184,15 @@ impl<V: TimelineValue, A: Allocator> Timeline<V, A> {
     ///
     /// If `until` isn't later than `from`, nothing changes. If a stretch that began before `from` goes on at `until`, its value is cloned.
     ///
+    /// ```
+    /// let mut day: Timeline<u8> = Timeline::new(rt.alloc());
+    /// day.set(9, 17, 1)?;
+    /// day.set(12, 13, 2)?;
+    /// assert_eq!(rt; day.get(12), Some(&2));
+    /// assert_eq!(rt; day.get(13), Some(&1));
+    /// assert_eq!(rt; day.get(17), None);
+    /// ```
+    ///
     /// # Errors
     ///
     /// The timeline is unchanged, and `value` is dropped.
@@ -179,6 +211,14 @@ impl<V: TimelineValue, A: Allocator> Timeline<V, A> {
 
     /// Removes all values from `from` until before `until`. At all other times the value stays.
     ///
+    /// ```
+    /// let mut day: Timeline<u8> = Timeline::new(rt.alloc());
+    /// day.set(9, 17, 1)?;
+    /// day.clear(12, 13)?;
+    /// assert_eq!(rt; day.get(12), None);
+    /// assert_eq!(rt; day.get(13), Some(&1));
+    /// ```
+    ///
     /// # Errors
     ///
     /// Those of [`set`](Self::set), at the same cost.
@@ -189,6 +229,13 @@ impl<V: TimelineValue, A: Allocator> Timeline<V, A> {
     }
 
     /// Makes `value` hold from `from` on, without end: also at `u64::MAX`. Before, the value stays. Nothing is cloned.
+    ///
+    /// ```
+    /// let mut day: Timeline<u8> = Timeline::new(rt.alloc());
+    /// day.set_from(20, 3)?;
+    /// assert_eq!(rt; day.get(19), None);
+    /// assert_eq!(rt; day.get(u64::MAX), Some(&3));
+    /// ```
     ///
     /// # Errors
     ///
@@ -206,6 +253,14 @@ impl<V: TimelineValue, A: Allocator> Timeline<V, A> {
     }
 
     /// Removes all values from `from` on, without end. Before, the value stays.
+    ///
+    /// ```
+    /// let mut day: Timeline<u8> = Timeline::new(rt.alloc());
+    /// day.set(9, 17, 1)?;
+    /// day.clear_from(12)?;
+    /// assert_eq!(rt; day.next_change(9), Some(12));
+    /// assert_eq!(rt; day.next_change(12), None);
+    /// ```
     ///
     /// # Errors
     ///

@@ -14,6 +14,15 @@ impl<J, A: Allocator> Agenda<J, A> {
     ///
     /// If it grows, it grows at least as much as for one more job, so that repeated reservations cost amortized O(1) for each job.
     ///
+    /// ```
+    /// let mut agenda: Agenda<&str> = Agenda::new(rt.alloc());
+    /// agenda.reserve(2)?;
+    /// let room = agenda.capacity();
+    /// agenda.schedule(30, "report").map_err(|refused| refused.1)?;
+    /// agenda.schedule(10, "tea").map_err(|refused| refused.1)?;
+    /// assert_eq!(rt; agenda.capacity(), room);
+    /// ```
+    ///
     /// # Errors
     ///
     /// The agenda is unchanged.
@@ -38,6 +47,14 @@ impl<J, A: Allocator> Agenda<J, A> {
 
 impl<J: Drop, A: Allocator> Agenda<J, A> {
     /// Removes and drops all jobs, in O(capacity). Their tickets end. The capacity stays.
+    ///
+    /// ```
+    /// let mut agenda: Agenda<&str> = Agenda::new(rt.alloc());
+    /// let tea = agenda.schedule(10, "tea").map_err(|refused| refused.1)?;
+    /// agenda.clear();
+    /// assert!(rt; agenda.is_empty());
+    /// assert_eq!(rt; agenda.get(tea), None);
+    /// ```
     pub fn clear(&mut self)
         ensures after { self.new ≡ with_left greatest_generation self.old [] }
         ensures count { count self.new ≡ 0 }
@@ -51,6 +68,14 @@ impl<J: Clone + Drop, A: Allocator + Copy> Agenda<J, A> {
     /// Returns a clone on the same allocator: the same jobs under the same tickets. A clone of a job has to equal it. O(capacity).
     ///
     /// The clone's capacity is the greatest index of a ticket, which is at least the number of jobs and at most this agenda's capacity.
+    ///
+    /// ```
+    /// let mut agenda: Agenda<&str> = Agenda::new(rt.alloc());
+    /// let tea = agenda.schedule(10, "tea").map_err(|refused| refused.1)?;
+    /// let copy = agenda.try_clone()?;
+    /// agenda.clear();
+    /// assert_eq!(rt; copy.get(tea), Some((10, &"tea")));
+    /// ```
     ///
     /// # Errors
     ///

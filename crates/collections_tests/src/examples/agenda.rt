@@ -1,0 +1,102 @@
+//! The examples in the text of `Agenda`'s calls.
+
+use agenda::Agenda;
+use std::test::Fail;
+
+#[test]
+fn schedule(rt: HostRuntime) -> Result<(), Fail> {
+    let mut agenda: Agenda<&str> = Agenda::new(rt.alloc());
+    agenda.schedule(30, "report").map_err(|refused| refused.1)?;
+    agenda.schedule(10, "tea").map_err(|refused| refused.1)?;
+    assert_eq!(rt; agenda.next_deadline(), Some(10));
+    Ok(())
+}
+
+#[test]
+fn cancel(rt: HostRuntime) -> Result<(), Fail> {
+    let mut agenda: Agenda<&str> = Agenda::new(rt.alloc());
+    let report = agenda.schedule(30, "report").map_err(|refused| refused.1)?;
+    assert_eq!(rt; agenda.cancel(report), Some((30, "report")));
+    assert_eq!(rt; agenda.cancel(report), None);
+    Ok(())
+}
+
+#[test]
+fn pop_due(rt: HostRuntime) -> Result<(), Fail> {
+    let mut agenda: Agenda<&str> = Agenda::new(rt.alloc());
+    agenda.schedule(30, "report").map_err(|refused| refused.1)?;
+    agenda.schedule(10, "tea").map_err(|refused| refused.1)?;
+    assert_eq!(rt; agenda.pop_due(20), Some((10, "tea")));
+    assert_eq!(rt; agenda.pop_due(20), None);
+    Ok(())
+}
+
+#[test]
+fn reschedule(rt: HostRuntime) -> Result<(), Fail> {
+    let mut agenda: Agenda<&str> = Agenda::new(rt.alloc());
+    let tea = agenda.schedule(10, "tea").map_err(|refused| refused.1)?;
+    agenda.schedule(30, "report").map_err(|refused| refused.1)?;
+    assert!(rt; agenda.reschedule(tea, 40));
+    assert_eq!(rt; agenda.next_deadline(), Some(30));
+    assert_eq!(rt; agenda.get(tea), Some((40, &"tea")));
+    Ok(())
+}
+
+#[test]
+fn move_to(rt: HostRuntime) -> Result<(), Fail> {
+    let mut agenda: Agenda<&str> = Agenda::new(rt.alloc());
+    let tea = agenda.schedule(10, "tea").map_err(|refused| refused.1)?;
+    let later = agenda.move_to(tea, 40);
+    assert!(rt; later.is_some());
+    assert!(rt; !agenda.contains(tea));
+    assert_eq!(rt; agenda.next_deadline(), Some(40));
+    Ok(())
+}
+
+#[test]
+fn get(rt: HostRuntime) -> Result<(), Fail> {
+    let mut agenda: Agenda<&str> = Agenda::new(rt.alloc());
+    let tea = agenda.schedule(10, "tea").map_err(|refused| refused.1)?;
+    assert_eq!(rt; agenda.get(tea), Some((10, &"tea")));
+    Ok(())
+}
+
+#[test]
+fn peek(rt: HostRuntime) -> Result<(), Fail> {
+    let mut agenda: Agenda<&str> = Agenda::new(rt.alloc());
+    agenda.schedule(30, "report").map_err(|refused| refused.1)?;
+    let tea = agenda.schedule(10, "tea").map_err(|refused| refused.1)?;
+    assert_eq!(rt; agenda.peek(), Some((tea, 10, &"tea")));
+    Ok(())
+}
+
+#[test]
+fn reserve(rt: HostRuntime) -> Result<(), Fail> {
+    let mut agenda: Agenda<&str> = Agenda::new(rt.alloc());
+    agenda.reserve(2)?;
+    let room = agenda.capacity();
+    agenda.schedule(30, "report").map_err(|refused| refused.1)?;
+    agenda.schedule(10, "tea").map_err(|refused| refused.1)?;
+    assert_eq!(rt; agenda.capacity(), room);
+    Ok(())
+}
+
+#[test]
+fn clear(rt: HostRuntime) -> Result<(), Fail> {
+    let mut agenda: Agenda<&str> = Agenda::new(rt.alloc());
+    let tea = agenda.schedule(10, "tea").map_err(|refused| refused.1)?;
+    agenda.clear();
+    assert!(rt; agenda.is_empty());
+    assert_eq!(rt; agenda.get(tea), None);
+    Ok(())
+}
+
+#[test]
+fn try_clone(rt: HostRuntime) -> Result<(), Fail> {
+    let mut agenda: Agenda<&str> = Agenda::new(rt.alloc());
+    let tea = agenda.schedule(10, "tea").map_err(|refused| refused.1)?;
+    let copy = agenda.try_clone()?;
+    agenda.clear();
+    assert_eq!(rt; copy.get(tea), Some((10, &"tea")));
+    Ok(())
+}
