@@ -24,7 +24,9 @@ fn does_as_a_sorted_list() {
     let mut arena: SortedArena<i32, Rc<u64>> = SortedArena::new().unwrap();
     let mut model: Vec<(i32, Rc<u64>, Pointer)> = Vec::new();
     let at = |model: &Vec<(i32, Rc<u64>, Pointer)>, key| model.partition_point(|it| it.0 <= key);
-    for i in 0..60_000 {
+    // more calls than usual, as `bindings/check --long` asks for
+    let calls = std::env::var("TOPSCEDAR_CALLS").map_or(60_000, |calls| calls.parse().unwrap());
+    for i in 0..calls {
         let key = r.below(100) as i32 - 50;
         match r.below(13) {
             0..=3 => {
