@@ -37,7 +37,7 @@ impl<V, A: Allocator> Timeline<V, A> {
     /// let mut hours = 0;
     /// for span in day.spans(10, 24) {
     ///     if *span.value == 1 {
-    ///         hours += span.until.wrapping_sub(span.from);
+    ///         hours = span.until.wrapping_sub(span.from).wrapping_add(hours);
     ///     }
     /// }
     /// assert_eq!(rt; hours, 6);
