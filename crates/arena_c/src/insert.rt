@@ -13,7 +13,7 @@ use crate::status::{CLOSED, EQUAL_KEY, FULL, NO_MEMORY, OK};
 use sorted_arena::{ReallocationError, UniqueInsertionError};
 use std::alloc::Global;
 
-/// Inserts an entry behind all whose key is at most `key`, and writes its pointer. `OK`, `FULL`, `NO_MEMORY` or `CLOSED`; on all but
+/// Inserts an entry after every entry with a key ≤ `key`, and writes its pointer. `OK`, `FULL`, `NO_MEMORY` or `CLOSED`; on all but
 /// `OK` nothing changes. O(log n), plus O(n) when the arena grows (amortized O(1)).
 #[unsafe(no_mangle)]
 pub extern "C" fn topscedar_arena_insert(

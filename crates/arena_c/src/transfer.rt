@@ -47,7 +47,7 @@ pub extern "C" fn topscedar_arena_clone(alloc: Global, arena: &mut Handle, copy:
     }
 }
 
-/// Moves all entries of `other` into the arena, under new pointers. Each goes behind all whose key is at most its own; `other` is empty then.
+/// Moves all entries of `other` into the arena, under new pointers. Each goes after every entry with a key ≤ its own; `other` is empty then.
 /// `OK`, `FULL`, `NO_MEMORY`, or `CLOSED` if either handle is closed; on all but `OK` nothing changes. O(log n) for each entry that is moved,
 /// plus O(n) when the arena grows.
 #[unsafe(no_mangle)]

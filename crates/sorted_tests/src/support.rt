@@ -35,7 +35,7 @@ pub(crate) const ORDERS: [(usize, usize); 7] = [
     (6, 729),
 ];
 
-/// Puts an entry into the vector, behind all whose key is at most its own.
+/// Puts an entry into the vector, after every entry with a key ≤ its own.
 pub(crate) fn put(entries: &mut Vec<Entry>, entry: Entry) -> bool {
     let mut place = 0usize;
     for other in entries.iter() {

@@ -202,7 +202,7 @@ impl<K: Key, V> SortedArena<K, V> {
         Ok(pointer)
     }
 
-    /// Inserts an entry behind all whose key is at most `key`, and returns its pointer. O(log n), plus O(n) when the arena grows
+    /// Inserts an entry after every entry with a key ≤ `key`, and returns its pointer. O(log n), plus O(n) when the arena grows
     /// (amortized O(1)).
     ///
     /// # Errors

@@ -10,7 +10,7 @@ use std::alloc::Allocator;
 use triple_ord::{BasePtr, ReallocationError};
 
 impl<K: Ord + Drop, V: Drop, P: BasePtr, A: Allocator> SortedArena<K, V, P, A> {
-    /// Moves all entries of `other` into this arena, under new pointers. Each goes behind all whose key is at most its own. `other` is
+    /// Moves all entries of `other` into this arena, under new pointers. Each goes after every entry with a key ≤ its own. `other` is
     /// empty then.
     ///
     /// # Errors

@@ -15,7 +15,7 @@ use triple_ord::{BasePtr, ReallocationError, SimpleOrdArena};
 impl<K: Ord + Drop, V: Drop, P: BasePtr, A: Allocator> SortedArena<K, V, P, A> {
     /// Inserts pairs that are in order behind all entries. One comparison and amortized O(1) for each.
     ///
-    /// At least as many pairs as entries are appended at once, and the tree is built anew, if all are in order and there is memory for all.
+    /// At least as many pairs as entries are appended at once, and the tree is rebuilt, if all are in order and there is memory for all.
     /// Otherwise they are inserted one after another.
     ///
     /// # Errors

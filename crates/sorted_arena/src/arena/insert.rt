@@ -12,7 +12,7 @@ use std::alloc::Allocator;
 use triple_ord::{BasePtr, ReallocationError};
 
 impl<K: Ord + Drop, V: Drop, P: BasePtr, A: Allocator> SortedArena<K, V, P, A> {
-    /// Inserts an entry behind all whose key is at most `k`, and returns its pointer. If it is full, the arena grows.
+    /// Inserts an entry after every entry with a key ≤ `k`, and returns its pointer. If it is full, the arena grows.
     ///
     /// # Errors
     ///

@@ -49,7 +49,7 @@ fn answer(count: u64) -> Result<(), SortedError> {
     }
 }
 
-/// Whether an arena of nine pairs can be made; `None` if the refusal is another one than want of memory.
+/// Whether an arena of nine pairs can be made; `None` if the refusal is another one than a lack of memory.
 fn is_made(alloc: Global, heap: &LocalHeap) -> Option<bool> {
     match OnHeap::from_sorted(heap, rising(alloc, 0)?) {
         Ok(arena) => Some(count(&arena) == Some(9)),
