@@ -1,4 +1,4 @@
 //! The examples in the text of public calls, as tests: the same lines.
-mod agenda;
-mod order_book;
-mod timeline;
+mod jobs;
+mod orders;
+mod spans;
