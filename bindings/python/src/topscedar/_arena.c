@@ -387,6 +387,14 @@ failure:
     return NULL;
 }
 
+/* A place for each pair, if every entry is to be removed: then one `clear` takes the place of the removals. NULL otherwise, and without memory. */
+static Pair **places_for_all(Arena *self, int64_t until, Py_ssize_t most) {
+    struct topscedar_entry last;
+    Py_ssize_t length = arena_length(self);
+    if (most < length || topscedar_arena_last(&self->handle, &last) != TOPSCEDAR_OK || last.key > until) return NULL;
+    return PyMem_Malloc((size_t)length * sizeof(Pair *));
+}
+
 /* The list is whole before the first entry is removed. */
 static PyObject *arena_pop_until(Arena *self, PyObject *const *args, Py_ssize_t given) {
     int64_t until;
@@ -402,6 +410,7 @@ static PyObject *arena_pop_until(Arena *self, PyObject *const *args, Py_ssize_t 
     struct topscedar_entry entry, batch[BATCH];
     struct topscedar_pointer rest = {0, 0};
     uint64_t shape = self->shape;
+    Pair **pairs = places_for_all(self, until, most);
     if (topscedar_arena_first(&self->handle, &entry) == TOPSCEDAR_OK) rest = entry.pointer;
     while (rest.index && count < most) {
         size_t filled = 0;
@@ -411,6 +420,7 @@ static PyObject *arena_pop_until(Arena *self, PyObject *const *args, Py_ssize_t 
                 rest.index = 0;
                 break;
             }
+            if (pairs) pairs[count] = pair_of(&batch[i]);
             PyObject *pair = pair_out(&batch[i]);
             int status = pair ? PyList_Append(list, pair) : -1;
             Py_XDECREF(pair);
@@ -418,9 +428,14 @@ static PyObject *arena_pop_until(Arena *self, PyObject *const *args, Py_ssize_t 
             if (self->shape != shape) goto changed;
         }
     }
-    if (!count) return list;
-    self->shape++;
+    if (count) self->shape++;
     /* The list holds a reference of each key and value now, so those of the pairs are not the last. */
+    if (pairs) {
+        topscedar_arena_clear(&self->handle);
+        for (Py_ssize_t i = 0; i < count; i++) pair_drop(pairs[i]);
+        PyMem_Free(pairs);
+        return list;
+    }
     for (Py_ssize_t left = count; left > 0;) {
         size_t filled = 0;
         topscedar_arena_pop_until(&self->handle, until, batch, left < BATCH ? (size_t)left : BATCH, &filled);
@@ -431,6 +446,7 @@ static PyObject *arena_pop_until(Arena *self, PyObject *const *args, Py_ssize_t 
 changed:
     PyErr_SetString(PyExc_RuntimeError, "the arena was changed meanwhile");
 failure:
+    PyMem_Free(pairs);
     Py_DECREF(list);
     return NULL;
 }
