@@ -1,4 +1,4 @@
-//! A room's calendar: who has it at which time, and when it is free.
+//! A room's calendar: who has booked it, and when it is free.
 #![tactic(auto)]
 
 ghost use Rattle.std.specs.Prelude.{◌≡◌, IfOk};
