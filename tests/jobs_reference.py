@@ -29,7 +29,9 @@ class Agenda:
             self.put(number, int(words[1]), self.jobs[number][2])
             return ["done"]
         if word == "due":
-            return [self.shown(number) for number in self.order() if self.jobs[number][0] <= int(words[0])] + self.drop(int(words[0]))
+            due = [self.shown(number) for number in self.order() if self.jobs[number][0] <= int(words[0])]
+            self.jobs = {number: job for number, job in self.jobs.items() if job[0] > int(words[0])}
+            return due or ["no job"]
         if word == "claim":
             for number in self.order()[:1]:
                 if self.jobs[number][0] <= int(words[0]):
@@ -46,10 +48,6 @@ class Agenda:
         self.turn += 1
         self.jobs[number] = (deadline, self.turn, payload)
 
-    def drop(self, now):
-        self.jobs = {number: job for number, job in self.jobs.items() if job[0] > now}
-        return []
-
     def order(self):
         return sorted(self.jobs, key=lambda number: self.jobs[number][:2])
 
@@ -57,7 +55,7 @@ class Agenda:
         return f"{number} {self.jobs[number][0]} {self.jobs[number][2]}"
 
     def listed(self):
-        return [self.shown(number) for number in self.order()]
+        return [self.shown(number) for number in self.order()] or ["no job"]
 
     def answers(self, lines, first):
         """The answers to lines, the first of which has this number among all."""

@@ -65,6 +65,9 @@ def one_by_one(hooks):
     calls = {
         "insert": lambda arena: arena.insert(7, "x"),
         "replace": lambda arena: arena.__setitem__(3, "x"),
+        "set_value": lambda arena: arena.set_value(arena.first()[0], "x"),
+        "set_value of a pair that is held": lambda arena: arena.set_value(tokens[0], "x"),
+        "rekey": lambda arena: arena.rekey(tokens[1], 100),
         "extend": lambda arena: arena.extend_sorted([100, 101], ["x", "y"]),
         "update": lambda arena: arena.update([(5, "x"), (1, "y")]),
         "pop_until": lambda arena: arena.pop_until(4),
@@ -79,6 +82,7 @@ def one_by_one(hooks):
         for request in range(40):
             arena = SortedArena((key, str(key)) for key in range(9))
             before = list(arena.entries())
+            tokens, held = [token for token, _, _ in before], list(arena.items())
             hooks.set_nomemory(request, request + 1)
             try:
                 call(arena)
@@ -89,6 +93,7 @@ def one_by_one(hooks):
                 hooks.remove_mem_hooks()
             refused += is_refused
             assert not is_refused or list(arena.entries()) == before, (name, request)
+            assert held == [(key, value) for _, key, value in before]
             assert list(arena) == sorted(arena)
     assert refused > 0
     print(f"refused one by one: {refused} calls")

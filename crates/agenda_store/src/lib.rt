@@ -9,6 +9,7 @@ mod planner;
 mod requests;
 mod store;
 
+pub use history::Session;
 pub use iter::Iter;
 pub use job::{Job, JobId, JobRef};
 pub use job_table::{Checkpoint, MAX_BYTES, MAX_DEADLINE, StoreError};

@@ -1,6 +1,6 @@
 //! `Store`: an agenda in a table.
 
-ghost use Rattle.std.specs.Prelude.{◌≡◌, ◌<◌, ◌⊎◌, IsTrue, IfOk, IfErr, OnOk, OnErr, length, is_some};
+ghost use Rattle.std.specs.Prelude.{⊤, ◌≡◌, ◌<◌, ◌⊎◌, IsTrue, IsSomeAnd, IfOk, IfErr, OnOk, OnErr, length, is_some};
 ghost use Rattle.std.specs.Option.{option_map};
 ghost use Rattle.sqlite_trees.specs.Tree.{Trees};
 ghost use Rattle.sqlite_trees.specs.View.{IsClean};
@@ -51,6 +51,12 @@ impl<S: Rows> Store<S> {
     ///
     /// A table without a row was just made, or a crash came while it was being made: the row of the first number is committed. Any other
     /// table is only read.
+    ///
+    /// ```
+    /// let rows = MemStore::new(rt.alloc(), &[JOB_OBJECT])?;
+    /// let store = Store::open(rt.alloc(), rows).map_err(|failed| failed.0)?;
+    /// assert_eq!(rt; store.len(), 0);
+    /// ```
     ///
     /// # Errors
     ///
@@ -152,6 +158,16 @@ impl<S: Rows> Store<S> {
 
     /// Schedules a job after every job with a deadline at most its own, and returns its number.
     ///
+    /// ```
+    /// let rows = MemStore::new(rt.alloc(), &[JOB_OBJECT])?;
+    /// let mut store = Store::open(rt.alloc(), rows).map_err(|failed| failed.0)?;
+    /// let report = store.schedule(30, b"report")?;
+    /// let tea = store.schedule(10, b"tea")?;
+    /// store.commit()?;
+    /// assert!(rt; report < tea);
+    /// assert_eq!(rt; store.next_deadline(), Some(10));
+    /// ```
+    ///
     /// # Errors
     ///
     /// - `TooLong`: more than 65,536 bytes. `TooLate`: the deadline is above 2^63 - 1. `Closed`. The store is unchanged.
@@ -165,7 +181,7 @@ impl<S: Rows> Store<S> {
         ensures open { OnOk result (IsTrue self.new.is_open) }
         ensures id { IfOk result (λ id. id.0 ≡ self.old.plan.next) }
         ensures cause { IfErr result (λ e. IsClean (S.Store.view (rows_of self.new.table))
-            → IsCause (HasFault S.Store (rows_of self.old.table) (rows_of self.new.table)) (IsClosed self.old) (MAX_BYTES < length bytes.now) (MAX_DEADLINE < deadline) e) }
+            → IsCause (HasFault S.Store (rows_of self.old.table) (rows_of self.new.table)) (IsClosed self.old) ⊤ (MAX_BYTES < length bytes.now) (MAX_DEADLINE < deadline) e) }
         ensures err { OnErr result ((self.new ≡ self.old) ⊎ IsClosed self.new) }
         ensures clean { IsClean (S.Store.view (rows_of self.new.table)) → IsClean (S.Store.view (rows_of self.old.table)) }
         ensures crash { (trees : Trees) → S.Store.recovers (rows_of self.new.table) trees → S.Store.recovers (rows_of self.old.table) trees }
@@ -189,6 +205,14 @@ impl<S: Rows> Store<S> {
 
     /// Removes the job of a number and returns it, in O(log n). If the number names no job, returns `None` and nothing changes.
     ///
+    /// ```
+    /// let rows = MemStore::new(rt.alloc(), &[JOB_OBJECT])?;
+    /// let mut store = Store::open(rt.alloc(), rows).map_err(|failed| failed.0)?;
+    /// let tea = store.schedule(10, b"tea")?;
+    /// assert_eq!(rt; store.cancel(tea)?.map(|job| job.deadline), Some(10));
+    /// assert!(rt; store.cancel(tea)?.is_none());
+    /// ```
+    ///
     /// # Errors
     ///
     /// The store is unchanged, or closed.
@@ -197,7 +221,7 @@ impl<S: Rows> Store<S> {
         ensures open { OnOk result (IsTrue self.new.is_open) }
         ensures value { IfOk result (λ job. option_map owned job ≡ job_at id.0 self.old.plan.jobs) }
         ensures cause { IfErr result (λ e. IsClean (S.Store.view (rows_of self.new.table))
-            → IsCause (HasFault S.Store (rows_of self.old.table) (rows_of self.new.table)) (IsClosed self.old) ⊥ ⊥ e) }
+            → IsCause (HasFault S.Store (rows_of self.old.table) (rows_of self.new.table)) (IsClosed self.old) (MAX_NUMBER < id.0) ⊥ ⊥ e) }
         ensures err { OnErr result ((self.new ≡ self.old) ⊎ IsClosed self.new) }
         ensures clean { IsClean (S.Store.view (rows_of self.new.table)) → IsClean (S.Store.view (rows_of self.old.table)) }
         ensures crash { (trees : Trees) → S.Store.recovers (rows_of self.new.table) trees → S.Store.recovers (rows_of self.old.table) trees }
@@ -219,6 +243,14 @@ impl<S: Rows> Store<S> {
     ///
     /// The job goes behind all other jobs whose deadline is at most its own, also if its deadline doesn't change.
     ///
+    /// ```
+    /// let rows = MemStore::new(rt.alloc(), &[JOB_OBJECT])?;
+    /// let mut store = Store::open(rt.alloc(), rows).map_err(|failed| failed.0)?;
+    /// let tea = store.schedule(10, b"tea")?;
+    /// assert!(rt; store.reschedule(tea, 40)?);
+    /// assert_eq!(rt; store.get(tea).map(|job| job.deadline), Some(40));
+    /// ```
+    ///
     /// # Errors
     ///
     /// - `TooLate`: the deadline is above 2^63 - 1. The store is unchanged.
@@ -228,7 +260,7 @@ impl<S: Rows> Store<S> {
         ensures value { IfOk result (λ is_found. is_found ≡ is_some (job_at id.0 self.old.plan.jobs)) }
         ensures open { OnOk result (IsTrue self.new.is_open) }
         ensures cause { IfErr result (λ e. IsClean (S.Store.view (rows_of self.new.table))
-            → IsCause (HasFault S.Store (rows_of self.old.table) (rows_of self.new.table)) (IsClosed self.old) ⊥ (MAX_DEADLINE < deadline) e) }
+            → IsCause (HasFault S.Store (rows_of self.old.table) (rows_of self.new.table)) (IsClosed self.old) ⊤ ⊥ (MAX_DEADLINE < deadline) e) }
         ensures err { OnErr result ((self.new ≡ self.old) ⊎ IsClosed self.new) }
         ensures clean { IsClean (S.Store.view (rows_of self.new.table)) → IsClean (S.Store.view (rows_of self.old.table)) }
         ensures crash { (trees : Trees) → S.Store.recovers (rows_of self.new.table) trees → S.Store.recovers (rows_of self.old.table) trees }
@@ -269,6 +301,14 @@ impl<S: Rows> Store<S> {
     }
 
     /// Returns the first job, in O(1).
+    ///
+    /// ```
+    /// let rows = MemStore::new(rt.alloc(), &[JOB_OBJECT])?;
+    /// let mut store = Store::open(rt.alloc(), rows).map_err(|failed| failed.0)?;
+    /// store.schedule(30, b"report")?;
+    /// let tea = store.schedule(10, b"tea")?;
+    /// assert_eq!(rt; store.peek().map(|job| job.id), Some(tea));
+    /// ```
     pub fn peek(&self) -> Option<JobRef<'_>>
         ensures { option_map lent result ≡ first_job self.now.plan.jobs }
     {
@@ -279,6 +319,14 @@ impl<S: Rows> Store<S> {
     ///
     /// A caller that fails before the work is done has lost the job: [`claim_due`](Self::claim_due) keeps it.
     ///
+    /// ```
+    /// let rows = MemStore::new(rt.alloc(), &[JOB_OBJECT])?;
+    /// let mut store = Store::open(rt.alloc(), rows).map_err(|failed| failed.0)?;
+    /// let tea = store.schedule(10, b"tea")?;
+    /// assert!(rt; store.pop_due(9)?.is_none());
+    /// assert_eq!(rt; store.pop_due(10)?.map(|job| job.id), Some(tea));
+    /// ```
+    ///
     /// # Errors
     ///
     /// The store is unchanged, or closed.
@@ -287,7 +335,7 @@ impl<S: Rows> Store<S> {
         ensures value { IfOk result (λ job. option_map owned job ≡ first_due now self.old.plan.jobs) }
         ensures open { OnOk result (IsTrue self.new.is_open) }
         ensures cause { IfErr result (λ e. IsClean (S.Store.view (rows_of self.new.table))
-            → IsCause (HasFault S.Store (rows_of self.old.table) (rows_of self.new.table)) (IsClosed self.old) ⊥ ⊥ e) }
+            → IsCause (HasFault S.Store (rows_of self.old.table) (rows_of self.new.table)) (IsClosed self.old) (IsSomeAnd (first_due now self.old.plan.jobs) (λ job. MAX_NUMBER < job.id)) ⊥ ⊥ e) }
         ensures err { OnErr result ((self.new ≡ self.old) ⊎ IsClosed self.new) }
         ensures clean { IsClean (S.Store.view (rows_of self.new.table)) → IsClean (S.Store.view (rows_of self.old.table)) }
         ensures crash { (trees : Trees) → S.Store.recovers (rows_of self.new.table) trees → S.Store.recovers (rows_of self.old.table) trees }
@@ -308,6 +356,14 @@ impl<S: Rows> Store<S> {
     /// A worker that fails before it has called [`cancel`](Self::cancel) leaves the job to be claimed again from `until` on, so each job is
     /// done at least once.
     ///
+    /// ```
+    /// let rows = MemStore::new(rt.alloc(), &[JOB_OBJECT])?;
+    /// let mut store = Store::open(rt.alloc(), rows).map_err(|failed| failed.0)?;
+    /// let tea = store.schedule(10, b"tea")?;
+    /// assert_eq!(rt; store.claim_due(20, 80)?.map(|job| job.id), Some(tea));
+    /// assert_eq!(rt; store.get(tea).map(|job| (job.deadline, job.attempts)), Some((80, 1)));
+    /// ```
+    ///
     /// # Errors
     ///
     /// - `TooLate`: `until` is above 2^63 - 1. The store is unchanged.
@@ -317,7 +373,7 @@ impl<S: Rows> Store<S> {
         ensures value { IfOk result (λ job. option_map owned job ≡ option_map (attempted until) (first_due now self.old.plan.jobs)) }
         ensures open { OnOk result (IsTrue self.new.is_open) }
         ensures cause { IfErr result (λ e. IsClean (S.Store.view (rows_of self.new.table))
-            → IsCause (HasFault S.Store (rows_of self.old.table) (rows_of self.new.table)) (IsClosed self.old) ⊥ (MAX_DEADLINE < until) e) }
+            → IsCause (HasFault S.Store (rows_of self.old.table) (rows_of self.new.table)) (IsClosed self.old) ⊤ ⊥ (MAX_DEADLINE < until) e) }
         ensures err { OnErr result ((self.new ≡ self.old) ⊎ IsClosed self.new) }
         ensures clean { IsClean (S.Store.view (rows_of self.new.table)) → IsClean (S.Store.view (rows_of self.old.table)) }
         ensures crash { (trees : Trees) → S.Store.recovers (rows_of self.new.table) trees → S.Store.recovers (rows_of self.old.table) trees }
@@ -349,6 +405,16 @@ impl<S: Rows> Store<S> {
     }
 
     /// Goes back to the last commit. A store that a failed call has closed is open again.
+    ///
+    /// ```
+    /// let rows = MemStore::new(rt.alloc(), &[JOB_OBJECT])?;
+    /// let mut store = Store::open(rt.alloc(), rows).map_err(|failed| failed.0)?;
+    /// store.schedule(10, b"tea")?;
+    /// store.commit()?;
+    /// store.schedule(30, b"report")?;
+    /// store.rollback()?;
+    /// assert_eq!(rt; store.len(), 1);
+    /// ```
     ///
     /// # Errors
     ///
@@ -393,7 +459,7 @@ impl<S: Rows> Store<S> {
         ensures durable { OnOk result (IsClean (S.Store.view (rows_of self.new.table)) → (trees : Trees)
             → S.Store.recovers (rows_of self.new.table) trees → TreesStandFor trees self.new.plan) }
         ensures cause { IfErr result (λ e. IsClean (S.Store.view (rows_of self.new.table))
-            → IsCause (HasFault S.Store (rows_of self.old.table) (rows_of self.new.table)) (IsClosed self.old) ⊥ ⊥ e) }
+            → IsCause (HasFault S.Store (rows_of self.old.table) (rows_of self.new.table)) (IsClosed self.old) ⊥ ⊥ ⊥ e) }
         ensures err { OnErr result ((self.new ≡ self.old) ⊎ IsClosed self.new) }
         ensures undone { OnErr result (IsClean (S.Store.view (rows_of self.new.table)) → IsTrue (S.Store.view (rows_of self.new.table)).is_open
             → (trees : Trees) → S.Store.recovers (rows_of self.new.table) trees → S.Store.recovers (rows_of self.old.table) trees) }
@@ -421,7 +487,7 @@ impl<S: Checkpoint> Store<S> {
         ensures plan { self.new.plan ≡ self.old.plan }
         ensures open { OnOk result (IsTrue self.new.is_open) }
         ensures cause { IfErr result (λ e. IsClean (S.Store.view (rows_of self.new.table))
-            → IsCause (HasFault S.Store (rows_of self.old.table) (rows_of self.new.table)) (IsClosed self.old) ⊥ ⊥ e) }
+            → IsCause (HasFault S.Store (rows_of self.old.table) (rows_of self.new.table)) (IsClosed self.old) ⊥ ⊥ ⊥ e) }
         ensures err { OnErr result ((self.new ≡ self.old) ⊎ IsClosed self.new) }
         ensures clean { IsClean (S.Store.view (rows_of self.new.table)) → IsClean (S.Store.view (rows_of self.old.table)) }
         ensures crash { (trees : Trees) → S.Store.recovers (rows_of self.new.table) trees → S.Store.recovers (rows_of self.old.table) trees }

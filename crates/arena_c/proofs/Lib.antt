@@ -1,4 +1,5 @@
 -- What the proofs share.
 pub mod Owned
 pub mod Runs
+pub mod Extending
 pub mod Answers

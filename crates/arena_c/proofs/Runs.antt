@@ -1,13 +1,13 @@
 -- Runs of entries and of keys.
-use Rattle.std.proofs.Common.{◌≡◌, ℕ, zero, suc, ◌+◌, ◌<◌, ◌≤◌, ◌==◌, ℤ, pos, subst, min, ◌++◌, List, [], ◌∷◌, map, length, take, drop, get_or, slice_set, is_some, if◌then◌else◌, Bool, Option, Some, None, false, true, refl, sym, ap, ◌∙◌, append_assoc, arith}
+use Rattle.std.proofs.Common.{◌≡◌, ℕ, zero, suc, ◌+◌, ◌<◌, ◌≤◌, ◌==◌, ℤ, pos, subst, min, ◌++◌, List, [], ◌∷◌, map, length, reverse, take, drop, get_or, slice_set, is_some, Bool, Option, Some, None, false, true, refl, sym, ap, ◌∙◌, append_assoc, arith}
 use native.Mathlib.Numerals.{unary_clauses}
-use Rattle.std.proofs.lemmas.{Grind.common_steps, List.map-append}
+use Rattle.std.proofs.lemmas.{Grind.common_steps, List.map-append, List.reverse-append, List.reverse-reverse}
 use Rattle.std.specs.{Cmp.int_cmp_total, Option.option_map, Option.option_map_or, Ordering.is_gt, Ordering.is_le, Ordering.int_cmp, List.zip, List.AllByRecursion, declared.cmp.Ordering.TheVariants.Greater}
-use Rattle.sorted_arena.specs.{Chain.Entry, Chain.IsDistinct, Chain.item_of, Chain.first_pointer, Chain.from_index, Gap.first_of, Gap.last_of}
-use Rattle.sorted_arena.specs.Sorted.{with_entry, next_of, pointer_of, first_item, first_item_until, behind_first, entries_until, last_item, AreSorted, pair_of as pair_in}
+use Rattle.sorted_arena.specs.{Chain.Entry, Chain.IsDistinct, Chain.item_of, Chain.times, Chain.first_pointer, Chain.from_index, Gap.last_of}
+use Rattle.sorted_arena.specs.Sorted.{with_entry, next_of, prev_of, pointer_of, first_item, first_item_until, behind_first, entries_until, last_item, AreSorted, pair_of as pair_in}
 use Rattle.arena_c.specs.{declared.entry.Entry.Entry as Shown, Batch.first_fall}
 use Rattle.arena_c.specs.Shown.{Arena, most_entries, entry_at, entry_found, shown_entry, numbers_of}
-use Rattle.sorted_arena.proofs.CallerLemmas.{first-named, next-here, found-here, appended, last-item, first-pointer}
+use Rattle.sorted_arena.proofs.CallerLemmas.{first-named, next-here, prev-here, found-here, appended, last-item, first-pointer}
 
 -- a key that is not smaller than the one before it, and then the rest
 pub fall-step : (before : Option ℤ) (k : ℤ) (ks : List ℤ) (i : ℕ) → first_fall before (k ∷ ks) i ≡ None
@@ -20,7 +20,7 @@ fall-step before k ks i none = go (option_map_or (λ b. is_gt (int_cmp b k)) bef
     go false is = (is, let rest : first_fall before (k ∷ ks) i ≡ first_fall (Some k) ks (i + 1) = rw is refl in sym rest ∙ none)
 
 -- the pairs so far, and one more
-zip-step : (ks : List ℤ) (vs : List ℕ) (i : ℕ) → i < length ks → i < length vs → zip (take (i + 1) ks) (take (i + 1) vs) ≡ zip (take i ks) (take i vs) ++ (get_or ks i (pos 0), get_or vs i 0) ∷ []
+pub zip-step : (ks : List ℤ) (vs : List ℕ) (i : ℕ) → i < length ks → i < length vs → zip (take (i + 1) ks) (take (i + 1) vs) ≡ zip (take i ks) (take i vs) ++ (get_or ks i (pos 0), get_or vs i 0) ∷ []
 zip-step [] vs i in_ks in_vs = absurd (omega arith)
 zip-step (x ∷ ks) [] i in_ks in_vs = absurd (omega arith)
 zip-step (x ∷ ks) (y ∷ vs) zero in_ks in_vs = grind (arith, common_steps)
@@ -48,7 +48,7 @@ module _ {X : Type 0} where
   taken-twice (z ∷ xs) zero = grind (arith, common_steps)
   taken-twice (z ∷ xs) (suc n) = ap (λ zs. z ∷ zs) (taken-twice xs n)
 
-  drop-get : (xs : List X) (n : ℕ) (d : X) → n < length xs → drop n xs ≡ get_or xs n d ∷ drop (n + 1) xs
+  pub drop-get : (xs : List X) (n : ℕ) (d : X) → n < length xs → drop n xs ≡ get_or xs n d ∷ drop (n + 1) xs
   drop-get [] n d fits = absurd (omega arith)
   drop-get (z ∷ xs) zero d fits = grind (arith, common_steps)
   drop-get (z ∷ xs) (suc n) d fits = simp unary_clauses (simp unary_clauses at (drop-get xs n d (omega arith)))
@@ -134,6 +134,55 @@ module _ (a : Arena) (distinct : IsDistinct a.entries) (i n : ℕ) where
           let whole = run-cut a.entries i n in let cut : a.entries ≡ whole.0 ++ x ∷ back = whole.1 ∙ ap (λ zs. whole.0 ++ zs) is in
           absurd (let there : entry_found a (first_pointer (drop n run)) ≡ Some (shown_entry x) = rw is (rw (found-here a.entries distinct whole.0 x back cut) refl) in cc)
 
+-- the last of some entries is the first of them backwards
+last-backwards : (back : List (Entry (ℤ × ℕ))) → option_map pointer_of (last_of None (reverse back)) ≡ first_pointer back
+last-backwards [] = refl
+last-backwards (x ∷ back) = ap (λ zs. option_map pointer_of (last_of None zs)) (reverse-append (x ∷ []) back) ∙ ap (option_map pointer_of) (last-append None (reverse back) x)
+
+-- A run of entries backwards, from an index on, in which n entries were passed.
+module _ (a : Arena) (distinct : IsDistinct a.entries) (i n : ℕ) where
+  abbrev back-run : List (Entry (ℤ × ℕ))
+  back-run = from_index (reverse a.entries) i
+
+  -- the list is cut at an entry that comes next
+  back-cut : (x : Entry (ℤ × ℕ)) (rest : List (Entry (ℤ × ℕ))) → drop n back-run ≡ x ∷ rest → (front : List (Entry (ℤ × ℕ))) × (a.entries ≡ reverse rest ++ x ∷ front)
+  back-cut x rest is =
+      let whole = run-cut (reverse a.entries) i n in
+      let cut : reverse a.entries ≡ whole.0 ++ x ∷ rest = whole.1 ∙ ap (λ zs. whole.0 ++ zs) is in
+      (reverse whole.0, sym (reverse-reverse a.entries) ∙ ap reverse cut ∙ reverse-append whole.0 (x ∷ rest) ∙ ap (λ zs. zs ++ reverse whole.0) (reverse-append (x ∷ []) rest) ∙ append_assoc (reverse rest) (x ∷ []) (reverse whole.0))
+
+  -- the next entry is the one that is found, and the pointer before it is that of the rest
+  pub record BackSteps (e : Shown) : Type 0 where
+    pub entry : Entry (ℤ × ℕ)
+    pub cut : drop n back-run ≡ entry ∷ drop (n + 1) back-run
+    pub shown : e ≡ shown_entry entry
+    pub next : prev_of a.entries (numbers_of e.pointer) ≡ first_pointer (drop (n + 1) back-run)
+
+  pub back-step : (e : Shown) → entry_found a (first_pointer (drop n back-run)) ≡ Some e → BackSteps e
+  back-step e found = go (drop n back-run) refl
+    where
+      go : (rest : List (Entry (ℤ × ℕ))) → drop n back-run ≡ rest → BackSteps e
+      go [] is = absurd (let none : entry_found a (first_pointer (drop n back-run)) ≡ None = rw is refl in cc)
+      go (x ∷ rest) is =
+          let whole = back-cut x rest is in
+          let there : entry_found a (first_pointer (drop n back-run)) ≡ Some (shown_entry x) = rw is (rw (found-here a.entries distinct (reverse rest) x whole.0 whole.1) refl) in
+          let same : e ≡ shown_entry x = cc in let behind = drop-step back-run rest x n is in
+          record {
+            entry = x;
+            cut = is ∙ ap (λ zs. x ∷ zs) (sym behind);
+            shown = same;
+            next = ap (λ (s : Shown). prev_of a.entries (numbers_of s.pointer)) same ∙ prev-here a.entries distinct (reverse rest) x whole.0 whole.1 ∙ last-backwards rest ∙ ap first_pointer (sym behind);
+          }
+
+  pub back-done : entry_found a (first_pointer (drop n back-run)) ≡ None → drop n back-run ≡ []
+  back-done missing = go (drop n back-run) refl
+    where
+      go : (rest : List (Entry (ℤ × ℕ))) → drop n back-run ≡ rest → drop n back-run ≡ []
+      go [] is = is
+      go (x ∷ rest) is =
+          let whole = back-cut x rest is in
+          absurd (let there : entry_found a (first_pointer (drop n back-run)) ≡ Some (shown_entry x) = rw is (rw (found-here a.entries distinct (reverse rest) x whole.0 whole.1) refl) in cc)
+
 -- The first entry of an arena, if its key is at most k.
 module _ (a : Arena) (k : ℤ) where
   pub record Pops (e : Shown) : Type 0 where
@@ -186,6 +235,40 @@ run-first {K = K} {V = V} (e ∷ es) p there = go (e.index == p.0) refl (run-fir
     go : (b : Bool) → (e.index == p.0) ≡ b → (is_some (item_of es p) ≡ true → Some p ≡ first_pointer (from_index es p.0)) → Some p ≡ first_pointer (from_index (e ∷ es) p.0)
     go true is rest = grind (arith, common_steps)
     go false is rest = let later : is_some (item_of es p) ≡ true = grind (arith, common_steps) in rw is (rest later)
+
+-- Backwards, each index stands as often.
+times-append : (i : ℕ) (xs ys : List (Entry (ℤ × ℕ))) → times i (xs ++ ys) ≡ times i xs + times i ys
+times-append i [] ys = omega arith
+times-append i (x ∷ xs) ys = let rest = times-append i xs ys in go (x.index == i) refl rest
+  where
+    go : (b : Bool) → (x.index == i) ≡ b → times i (xs ++ ys) ≡ times i xs + times i ys → times i (x ∷ (xs ++ ys)) ≡ times i (x ∷ xs) + times i ys
+    go true is rest = rw is (omega (arith, rest))
+    go false is rest = rw is (omega (arith, rest))
+
+times-reverse : (i : ℕ) (xs : List (Entry (ℤ × ℕ))) → times i (reverse xs) ≡ times i xs
+times-reverse i [] = refl
+times-reverse i (x ∷ xs) =
+    let rest = times-reverse i xs in
+    let cut : times i (reverse (x ∷ xs)) ≡ times i (reverse xs) + times i (x ∷ []) = ap (times i) (reverse-append (x ∷ []) xs) ∙ times-append i (reverse xs) (x ∷ []) in
+    let whole : times i (x ∷ xs) ≡ times i (x ∷ []) + times i xs = times-append i (x ∷ []) xs in
+    omega (arith, rest, cut, whole)
+
+-- An entry that a pointer names is the first from its index on backwards too.
+pub back-first : (es : List (Entry (ℤ × ℕ))) (p : ℕ × ℕ) → IsDistinct es → is_some (item_of es p) ≡ true → Some p ≡ first_pointer (from_index (reverse es) p.0)
+back-first es p distinct there = go (from_index es p.0) refl (run-first es p there)
+  where
+    apart : IsDistinct (reverse es)
+    apart i = let same = times-reverse i es in let once = distinct i in omega (arith, same, once)
+
+    go : (rest : List (Entry (ℤ × ℕ))) → from_index es p.0 ≡ rest → Some p ≡ first_pointer (from_index es p.0) → Some p ≡ first_pointer (from_index (reverse es) p.0)
+    go [] is first = absurd (let none : Some p ≡ None = first ∙ ap first_pointer is in cc)
+    go (x ∷ back) is first =
+        let cut = from-cut es p.0 in
+        let whole : es ≡ cut.0 ++ x ∷ back = cut.1 ∙ ap (λ zs. cut.0 ++ zs) is in
+        let turned : reverse es ≡ reverse back ++ x ∷ reverse cut.0 = ap reverse whole ∙ reverse-append cut.0 (x ∷ back) ∙ ap (λ zs. zs ++ reverse cut.0) (reverse-append (x ∷ []) back) ∙ append_assoc (reverse back) (x ∷ []) (reverse cut.0) in
+        let named : Some p ≡ Some (pointer_of x) = first ∙ ap first_pointer is in
+        let same : p ≡ pointer_of x = cc in
+        run-first (reverse es) p (ap (λ (q : ℕ × ℕ). is_some (item_of (reverse es) q)) same ∙ ap (λ o. is_some o) (found-here (reverse es) apart (reverse back) x (reverse cut.0) turned))
 
 -- one more pair stands behind the others, and the next key is not smaller than its key
 pub append-step : (old new : Arena) (p : ℕ × ℕ) (before : List (ℤ × ℕ)) (ks : List ℤ) (vs : List ℕ) (i : ℕ) → i < length ks → i < length vs

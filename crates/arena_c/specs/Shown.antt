@@ -21,6 +21,10 @@ numbers_of p = (p.index, p.generation)
 abbrev pub shown_pointer : ℕ × ℕ → Pointer
 shown_pointer p = record { index = p.0; generation = p.1 }
 
+-- the pointer of an entry of an arena's list
+abbrev pub pointer_shown : Listed (ℤ × ℕ) → Pointer
+pointer_shown e = shown_pointer (e.index, e.generation)
+
 -- an entry of an arena's list, with its pointer
 abbrev pub shown_entry : Listed (ℤ × ℕ) → Entry
 shown_entry e = record { pointer = shown_pointer (e.index, e.generation); key = e.item.0; value = e.item.1 }

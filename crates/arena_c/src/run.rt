@@ -1,16 +1,18 @@
 //! Runs of entries: pairs that come in, and entries that go out.
 
-ghost use Rattle.std.specs.Prelude.{◌≡◌, ◌+◌, ◌<◌, ◌≤◌, length, drop, false, None, IsSome, Err, OnOk, OnErr};
+ghost use Rattle.std.specs.Prelude.{◌≡◌, ◌+◌, ◌-◌, ◌<◌, ◌≤◌, length, slice_set, drop, reverse, false, None, IsSome, Err, IfOk, IsOk, OnOk, OnErr};
+ghost use Rattle.std.specs.List.{zip};
 ghost use Rattle.std.specs.Option.{option_map, option_map_or};
 ghost use Rattle.std.specs.Ordering.{int_cmp, is_gt};
 ghost use Rattle.sorted_arena.specs.Chain.{first_pointer, from_index};
 ghost use Rattle.sorted_arena.specs.Sorted.{count, entries_until, generation_after, get, last_item};
 ghost use Rattle.arena_c.specs.Shown.{greatest_generation, most_entries};
-ghost use Rattle.arena_c.specs.Batch.{fall_behind, first_fall, AppendsPairs, Fills};
+ghost use Rattle.arena_c.specs.Batch.{fall_behind, first_fall, with_pointers, AppendsPairs, ExtendsAtOnce, Fills};
 
 use crate::content::Content;
-use crate::entry::Entry;
+use crate::entry::{Entry, Pointer};
 use sorted_arena::{P0, ReallocationError};
+use std::alloc::{AllocError, Global};
 
 // Whether a key is smaller than the one before it, if there is one.
 fn is_fall(before: Option<i64>, key: i64) -> bool
@@ -34,6 +36,30 @@ pub fn first_fall(before: Option<i64>, keys: &[i64]) -> Option<usize>
         before = Some(*key);
     }
     None
+}
+
+// The pairs of two arrays of one length.
+fn zipped(alloc: Global, keys: &[i64], values: &[u64]) -> Result<Vec<(i64, u64)>, AllocError>
+    requires { length keys.now ≡ length values.now }
+    ensures pairs { IfOk result (λ v. v.items ≡ zip keys.now values.now) }
+    ensures none { length keys.now ≡ 0 → IsOk result }
+{
+    let mut pairs = Vec::with_capacity(alloc, keys.len())?;
+    for (i, key) in keys.iter().enumerate() {
+        pairs.push((*key, values[i]))?;
+    }
+    Ok(pairs)
+}
+
+// Writes an item of an array, if it has room for it.
+fn put_at(pointers: &mut [Pointer], place: usize, p: Pointer)
+    ensures inside { place < length pointers.old
+        → pointers.new ≡ slice_set pointers.old place p }
+    ensures outside { length pointers.old ≤ place → pointers.new ≡ pointers.old }
+{
+    if place < pointers.len() {
+        pointers[place] = p;
+    }
 }
 
 impl Content {
@@ -80,6 +106,56 @@ impl Content {
         Ok(())
     }
 
+    /// Makes room, inserts pairs in order behind all entries, at once if they are as many as the entries, and writes their pointers into an
+    /// array, as far as it has room. On `Err` nothing changes.
+    pub fn extend_sorted(
+        &mut self,
+        alloc: Global,
+        keys: &[i64],
+        values: &[u64],
+        pointers: &mut [Pointer],
+    ) -> Result<(), ReallocationError>
+        requires order { fall_behind self.old keys.now ≡ None }
+        requires lengths { length keys.now ≡ length values.now }
+        ensures extends { OnOk result (ExtendsAtOnce (zip keys.now values.now)
+            self.old self.new pointers.old pointers.new) }
+        ensures full { result ≡ Err ReallocationError.BeyondMaxCapacity
+            → most_entries < count self.old + length keys.now }
+        ensures memory { result ≡ Err ReallocationError.AllocError → 0 < length keys.now }
+        ensures err { OnErr result (self.new ≡ self.old) }
+        ensures kept { OnErr result (pointers.new ≡ pointers.old) }
+    {
+        // For the prover: the arena is sound.
+        let _ = self.pairs.len();
+        let Ok(pairs) = zipped(alloc, keys, values) else {
+            return Err(ReallocationError::AllocError);
+        };
+        self.pairs.reserve(keys.len())?;
+        match self.pairs.extend_sorted(pairs) {
+            Ok(()) => {}
+            // they are in order, and there is room
+            Err(_) => unreachable!(),
+        }
+        self.write_last(keys.len(), pointers);
+        Ok(())
+    }
+
+    /// Writes the pointers of the last `n` entries into an array, in order, as far as it has room.
+    fn write_last(&self, n: usize, pointers: &mut [Pointer])
+        requires { n ≤ count self.now }
+        ensures { pointers.new ≡ with_pointers
+            (drop (count self.now - n) self.now.entries) pointers.old }
+    {
+        let mut range = self.pairs.iter();
+        for i in 0..n {
+            let place = n - 1 - i;
+            match range.next_back() {
+                Some(shown) => put_at(pointers, place, Pointer::of(shown.0)),
+                None => return,
+            }
+        }
+    }
+
     /// Fills an array with the entries from the one at `first` on. Returns how many they are, and the pointer of the one behind them.
     pub fn fill(&self, first: P0, entries: &mut [Entry]) -> (usize, Option<P0>)
         requires { IsSome (get self.now first) }
@@ -101,6 +177,29 @@ impl Content {
             None => None,
         };
         (entries.len(), rest)
+    }
+
+    /// Fills an array with the entries from the one at `first` on, backwards. Returns how many they are, and the pointer of the one before
+    /// them.
+    pub fn fill_back(&self, first: P0, entries: &mut [Entry]) -> (usize, Option<P0>)
+        requires { IsSome (get self.now first) }
+        ensures filled { Fills (from_index (reverse self.now.entries) first.0) entries.old entries.new result.0 }
+        ensures rest { result.1
+            ≡ first_pointer (drop result.0 (from_index (reverse self.now.entries) first.0)) }
+    {
+        // For the prover: the arena is sound.
+        let _ = self.pairs.len();
+        let mut next = Some(first);
+        for i in 0..entries.len() {
+            match self.entry_found(next) {
+                Some(entry) => {
+                    entries[i] = entry;
+                    next = self.pairs.prev(entry.pointer.p0());
+                }
+                None => return (i, None),
+            }
+        }
+        (entries.len(), next)
     }
 
     /// Removes entries whose key is at most `until`, and fills an array with them. Returns how many they are.

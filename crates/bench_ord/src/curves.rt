@@ -1,84 +1,52 @@
-//! Curves of what was measured: nanoseconds an operation against the number of entries, both axes logarithmic.
-use crate::log::log2;
+//! Curves of what was measured: nanoseconds an operation against the number of entries. Each comparison has a panel, and all have one scale.
+use crate::axes::{Axes, PLOT_HEIGHT, PLOT_WIDTH};
 use crate::measured::Point;
-use std::alloc::{AllocError, Global};
+use crate::names::{self, Name};
+use crate::theme::{STYLE, class_of};
+use std::alloc::Global;
 use std::io;
 use std::io::Write;
 
-/// The measures that are drawn, in two rows.
-const MEASURES: [&str; 4] = [
-    "find hits",
-    "insert random keys",
-    "remove by pointer",
-    "range of 1000",
+/// The measures that are drawn, each with the structures that it compares.
+const PANELS: [(&str, &[&str]); 12] = [
+    ("insert random keys", &["arena", "BTreeMap"]),
+    ("find hits", &["arena", "BTreeMap"]),
+    ("remove by pointer", &["arena", "BTreeMap"]),
+    ("go through in order", &["arena", "BTreeMap"]),
+    ("range of 1000", &["sorted arena", "BTreeMap"]),
+    ("compact range of 1000", &["sorted arena", "BTreeMap"]),
+    ("schedule", &["agenda", "BinaryHeap", "BTreeMap"]),
+    ("cancel half", &["agenda", "BinaryHeap", "BTreeMap"]),
+    ("pop the rest", &["agenda", "BinaryHeap", "BTreeMap"]),
+    ("spans over 1000", &["timeline", "BTreeMap"]),
+    ("place at rest", &["order book", "two BTreeMaps"]),
+    ("place, cancel, trade", &["order book", "two BTreeMaps"]),
 ];
 
-/// The size of a chart, and where its axes lie in it.
-const WIDTH: u64 = 460;
+/// How many panels stand in a row.
+const COLUMNS: u64 = 3;
 
-const HEIGHT: u64 = 300;
+const ROWS: u64 = 4;
 
-const LEFT: u64 = 60;
+/// The room of a panel, in pixels: the area of its curves, the names to the right of it, and the heading above.
+const PANEL_WIDTH: u64 = PLOT_WIDTH + 104;
 
-const RIGHT: u64 = 425;
+const PANEL_HEIGHT: u64 = PLOT_HEIGHT + 32;
 
-const TOP: u64 = 50;
+/// Where the first area begins: to the right of the numbers and below its heading.
+const LEFT: u64 = 40;
 
-const BOTTOM: u64 = 260;
+const TOP: u64 = 26;
+
+const WIDTH: u64 = LEFT + COLUMNS * PANEL_WIDTH;
+
+const HEIGHT: u64 = ROWS * PANEL_HEIGHT + 20;
 
 /// The bytes of an entry of an arena that is full.
 const BYTES_AN_ENTRY: u64 = 63;
 
-/// The colours of the curves, and how they are dashed.
-const STROKES: [(&str, &str); 4] = [
-    ("#1f6f43", "none"),
-    ("#2b4c8c", "7 3"),
-    ("#a33333", "2 2"),
-    ("#666666", "9 3 2 3"),
-];
-
-/// The ranges of both axes.
-#[derive(Clone, Copy)]
-struct Axes {
-    least: u64,
-    greatest: u64,
-    most_tenths: u64,
-}
-
-impl Axes {
-    // The axes on which all points of a measure lie.
-    fn of(points: &[Point], measure: &str) -> Axes {
-        let mut axes = Axes {
-            least: u64::MAX,
-            greatest: 1,
-            most_tenths: 100,
-        };
-        for point in points {
-            if point.measure == measure {
-                axes.least = axes.least.min(point.n);
-                axes.greatest = axes.greatest.max(point.n);
-                axes.most_tenths = axes.most_tenths.max(point.tenths);
-            }
-        }
-        axes
-    }
-
-    // Where so many entries lie from the left.
-    fn across(self, n: u64) -> u64 {
-        let from = log2(self.least);
-        let span = log2(self.greatest).saturating_sub(from).max(1);
-        let at = log2(n).saturating_sub(from).min(span);
-        LEFT.saturating_add(at.saturating_mul(RIGHT - LEFT) / span)
-    }
-
-    // Where so many tenths of a nanosecond lie from the top. The axis begins at one nanosecond.
-    fn down(self, tenths: u64) -> u64 {
-        let from = log2(10);
-        let span = log2(self.most_tenths).saturating_sub(from).max(1);
-        let at = log2(tenths).saturating_sub(from).min(span);
-        BOTTOM.saturating_sub(at.saturating_mul(BOTTOM - TOP) / span)
-    }
-}
+/// The numbers that have a line across both axes.
+const POWERS: [u64; 8] = [1, 10, 100, 1_000, 10_000, 100_000, 1_000_000, 10_000_000];
 
 /// Writes the curves as SVG. A cache of so many bytes is marked at the number of entries that fill it.
 pub fn draw<W: Write>(
@@ -87,165 +55,216 @@ pub fn draw<W: Write>(
     points: &[Point],
     caches: &[u64],
 ) -> io::Result<()> {
-    let (width, height) = (2 * WIDTH, 2 * HEIGHT);
-    writeln!(
-        out,
-        "<svg xmlns=\"http://www.w3.org/2000/svg\" width=\"{width}\" height=\"{height}\" viewBox=\"0 0 {width} {height}\" font-family=\"sans-serif\" font-size=\"12\">"
-    )?;
-    writeln!(
-        out,
-        "<rect width=\"100%\" height=\"100%\" fill=\"#ffffff\"/>"
-    )?;
-    for (at, measure) in MEASURES.iter().enumerate() {
-        let (left, top) = ((at % 2) as u64 * WIDTH, (at / 2 % 2) as u64 * HEIGHT);
-        writeln!(out, "<g transform=\"translate({left} {top})\">")?;
-        chart(alloc, out, points, measure, caches)?;
+    let axes = axes_of(points);
+    head(out)?;
+    for (at, (measure, structures)) in PANELS.iter().enumerate() {
+        let (column, row) = (at as u64 % COLUMNS, at as u64 / COLUMNS % ROWS);
+        let (left, top) = (LEFT + column * PANEL_WIDTH, TOP + row * PANEL_HEIGHT);
+        writeln!(out, "<g transform=\"translate({left},{top})\">")?;
+        background(out, axes, measure, caches)?;
+        if column == 0 {
+            times(out, axes)?;
+        }
+        if row + 1 == ROWS {
+            entries(out, axes)?;
+        }
+        panel(alloc, out, axes, points, (measure, structures))?;
         writeln!(out, "</g>")?;
     }
     writeln!(out, "</svg>")
 }
 
-// A chart of one measure.
-fn chart<W: Write>(
-    alloc: Global,
-    out: &mut W,
-    points: &[Point],
-    measure: &str,
-    caches: &[u64],
-) -> io::Result<()> {
-    let axes = Axes::of(points, measure);
-    label(out, (LEFT, 18), "start", measure)?;
-    label(out, (RIGHT, HEIGHT - 4), "end", "entries")?;
-    label(out, (LEFT - 8, TOP - 8), "end", "ns")?;
-    frame(out, axes)?;
-    marks(out, axes, caches)?;
-    let structures = structures_of(alloc, points, measure)?;
-    for (at, structure) in structures.iter().enumerate() {
-        legend(out, at, structure)?;
-        curve(out, axes, points, (measure, structure), stroke(at))?;
-    }
-    Ok(())
-}
-
-// The structures of a measure, each once, in the order in which they come.
-fn structures_of<'a>(
-    alloc: Global,
-    points: &[Point<'a>],
-    measure: &str,
-) -> Result<Vec<&'a str>, AllocError> {
-    let mut structures: Vec<&'a str> = Vec::new(alloc);
+// The axes on which all points lie that are drawn.
+fn axes_of(points: &[Point]) -> Axes {
+    let mut axes = Axes::new();
     for point in points {
-        if point.measure == measure && !structures.contains(&point.structure) {
-            structures.push(point.structure)?;
+        if is_drawn(point) {
+            axes = axes.including(*point);
         }
     }
-    Ok(structures)
+    axes
 }
 
-// The colour and the dashes of a curve.
-fn stroke(at: usize) -> (&'static str, &'static str) {
-    STROKES[at % STROKES.len()]
-}
-
-// A text, of which the signs of markup are written by name.
-fn label<W: Write>(out: &mut W, (x, y): (u64, u64), anchor: &str, text: &str) -> io::Result<()> {
-    write!(out, "<text x=\"{x}\" y=\"{y}\" text-anchor=\"{anchor}\">")?;
-    for letter in text.chars() {
-        match letter {
-            '&' => write!(out, "&amp;")?,
-            '<' => write!(out, "&lt;")?,
-            letter => write!(out, "{letter}")?,
+// Whether a panel has this point.
+fn is_drawn(point: &Point) -> bool {
+    for (measure, structures) in &PANELS {
+        if point.measure == *measure && structures.contains(&point.structure) {
+            return true;
         }
     }
-    writeln!(out, "</text>")
+    false
+}
+
+// The beginning of the picture, with what it says to a reader who can't see it.
+fn head<W: Write>(out: &mut W) -> io::Result<()> {
+    writeln!(
+        out,
+        "<svg xmlns=\"http://www.w3.org/2000/svg\" class=\"tsb\" role=\"img\" width=\"{WIDTH}\" height=\"{HEIGHT}\" viewBox=\"0 0 {WIDTH} {HEIGHT}\">"
+    )?;
+    writeln!(
+        out,
+        "<title>Nanoseconds an operation against the number of entries</title>"
+    )?;
+    writeln!(
+        out,
+        "<desc>All panels have the same two logarithmic axes. At the line of L1, L2 or L3 the entries of an arena fill that cache.</desc>"
+    )?;
+    writeln!(out, "{STYLE}")?;
+    writeln!(
+        out,
+        "<rect class=\"tsb-page\" width=\"100%\" height=\"100%\"/>"
+    )
+}
+
+// The heading of a panel, and the lines that its curves lie on.
+fn background<W: Write>(out: &mut W, axes: Axes, measure: &str, caches: &[u64]) -> io::Result<()> {
+    writeln!(
+        out,
+        "<text class=\"tsb-measure\" x=\"0\" y=\"-9\">{measure}</text>"
+    )?;
+    for power in &POWERS {
+        let tenths = power.saturating_mul(10);
+        if axes.has_tenths(tenths) {
+            let y = axes.down(tenths);
+            line(out, "tsb-rule", (0, y), (PLOT_WIDTH, y))?;
+        }
+        if axes.has_entries(*power) {
+            let x = axes.across(*power);
+            line(out, "tsb-rule", (x, 0), (x, PLOT_HEIGHT))?;
+        }
+    }
+    marks(out, axes, caches)
 }
 
 // A line from one point to another.
-fn line<W: Write>(
-    out: &mut W,
-    from: (u64, u64),
-    to: (u64, u64),
-    (colour, dashes): (&str, &str),
-) -> io::Result<()> {
+fn line<W: Write>(out: &mut W, class: &str, from: (u64, u64), to: (u64, u64)) -> io::Result<()> {
     let ((x1, y1), (x2, y2)) = (from, to);
     writeln!(
         out,
-        "<line x1=\"{x1}\" y1=\"{y1}\" x2=\"{x2}\" y2=\"{y2}\" stroke=\"{colour}\" stroke-dasharray=\"{dashes}\"/>"
+        "<line class=\"{class}\" x1=\"{x1}\" y1=\"{y1}\" x2=\"{x2}\" y2=\"{y2}\"/>"
     )
 }
 
-// The lines of the powers of ten on both axes, with their numbers.
-fn frame<W: Write>(out: &mut W, axes: Axes) -> io::Result<()> {
-    let mut power = 1u64;
-    for _ in 0..8 {
-        if power.saturating_mul(10) <= axes.most_tenths {
-            let y = axes.down(power.saturating_mul(10));
-            line(out, (LEFT, y), (RIGHT, y), ("#dddddd", "none"))?;
-            number(out, (LEFT - 8, y.saturating_add(4)), "end", power)?;
-        }
-        if axes.least <= power && power <= axes.greatest {
-            let x = axes.across(power);
-            line(out, (x, TOP), (x, BOTTOM), ("#dddddd", "none"))?;
-            number(out, (x, BOTTOM + 16), "middle", power)?;
-        }
-        power = power.saturating_mul(10);
-    }
-    Ok(())
-}
-
-fn number<W: Write>(out: &mut W, (x, y): (u64, u64), anchor: &str, value: u64) -> io::Result<()> {
-    writeln!(
-        out,
-        "<text x=\"{x}\" y=\"{y}\" text-anchor=\"{anchor}\">{value}</text>"
-    )
-}
-
-// A line for each cache that so many entries fill.
+// A line for each cache, at the number of entries that fill it.
 fn marks<W: Write>(out: &mut W, axes: Axes, caches: &[u64]) -> io::Result<()> {
     for (at, bytes) in caches.iter().enumerate() {
         let n = bytes / BYTES_AN_ENTRY;
-        if axes.least <= n && n <= axes.greatest {
-            let x = axes.across(n);
-            line(out, (x, TOP), (x, BOTTOM), ("#999999", "3 4"))?;
+        if axes.has_entries(n) {
+            let (x, level) = (axes.across(n), at.saturating_add(1));
+            line(out, "tsb-cache", (x, 0), (x, PLOT_HEIGHT))?;
+            let x = x.saturating_add(3);
             writeln!(
                 out,
-                "<text x=\"{x}\" y=\"{}\" text-anchor=\"middle\" fill=\"#777777\">L{}</text>",
-                TOP - 4,
-                at.saturating_add(1)
+                "<text class=\"tsb-level\" x=\"{x}\" y=\"9\">L{level}</text>"
             )?;
         }
     }
     Ok(())
 }
 
-// The name of a structure beside a piece of its curve, in the upper right.
-fn legend<W: Write>(out: &mut W, at: usize, structure: &str) -> io::Result<()> {
-    let y = (at as u64 % 4) * 14 + 12;
-    line(out, (RIGHT - 150, y), (RIGHT - 120, y), stroke(at))?;
-    label(out, (RIGHT - 114, y + 4), "start", structure)
+// The numbers to the left of a row.
+fn times<W: Write>(out: &mut W, axes: Axes) -> io::Result<()> {
+    writeln!(
+        out,
+        "<text class=\"tsb-number\" x=\"-6\" y=\"-9\">ns</text>"
+    )?;
+    for power in &POWERS {
+        let tenths = power.saturating_mul(10);
+        if axes.has_tenths(tenths) {
+            let y = axes.down(tenths).saturating_add(4);
+            write!(out, "<text class=\"tsb-number\" x=\"-6\" y=\"{y}\">")?;
+            number(out, *power)?;
+        }
+    }
+    Ok(())
 }
 
-// The curve of a structure, with a dot at each point.
+// The numbers below a panel.
+fn entries<W: Write>(out: &mut W, axes: Axes) -> io::Result<()> {
+    let (x, y) = (PLOT_WIDTH + 28, PLOT_HEIGHT + 15);
+    for power in &POWERS {
+        if axes.has_entries(*power) {
+            let x = axes.across(*power);
+            write!(out, "<text class=\"tsb-entries\" x=\"{x}\" y=\"{y}\">")?;
+            number(out, *power)?;
+        }
+    }
+    writeln!(out, "<text x=\"{x}\" y=\"{y}\">entries</text>")
+}
+
+// A power of ten with its thousands set apart, and the end of its element.
+fn number<W: Write>(out: &mut W, power: u64) -> io::Result<()> {
+    match power {
+        0..=999 => writeln!(out, "{power}</text>"),
+        1_000..=999_999 => writeln!(out, "{},000</text>", power / 1_000),
+        _ => writeln!(out, "{},000,000</text>", power / 1_000_000),
+    }
+}
+
+// The curves of a measure, and the name of each structure at the end of its curve.
+fn panel<W: Write>(
+    alloc: Global,
+    out: &mut W,
+    axes: Axes,
+    points: &[Point],
+    (measure, structures): (&str, &[&str]),
+) -> io::Result<()> {
+    let mut names = Vec::new(alloc);
+    for structure in structures {
+        if let Some(end) = curve(out, axes, points, (measure, structure))? {
+            names.push(Name::new(structure, end))?;
+        }
+    }
+    names::spread(&mut names)?;
+    for name in &names {
+        let (class, x) = (class_of(name.structure), name.x.saturating_add(7));
+        let y = name.y().saturating_add(4);
+        writeln!(
+            out,
+            "<g class=\"{class}\"><text class=\"tsb-name\" x=\"{x}\" y=\"{y}\">{}</text></g>",
+            name.structure
+        )?;
+    }
+    Ok(())
+}
+
+// Draws the curve of a structure, and returns where it ends, if it has points.
 fn curve<W: Write>(
     out: &mut W,
     axes: Axes,
     points: &[Point],
     (measure, structure): (&str, &str),
-    (colour, dashes): (&str, &str),
-) -> io::Result<()> {
-    let mut last = None;
+) -> io::Result<Option<(u64, u64)>> {
+    let mut end = None;
+    write!(out, "<g class=\"{}\">", class_of(structure))?;
+    write!(out, "<polyline class=\"tsb-curve\" points=\"")?;
     for point in points {
         if point.measure == measure && point.structure == structure {
-            let at = (axes.across(point.n), axes.down(point.tenths));
-            if let Some(last) = last {
-                line(out, last, at, (colour, dashes))?;
-            }
+            let (x, y) = (axes.across(point.n), axes.down(point.tenths));
+            write!(out, "{x},{y} ")?;
+            end = Some((x, y));
+        }
+    }
+    writeln!(out, "\"/>")?;
+    dots(out, axes, points, (measure, structure))?;
+    writeln!(out, "</g>")?;
+    Ok(end)
+}
+
+// A dot at each point of a curve.
+fn dots<W: Write>(
+    out: &mut W,
+    axes: Axes,
+    points: &[Point],
+    (measure, structure): (&str, &str),
+) -> io::Result<()> {
+    for point in points {
+        if point.measure == measure && point.structure == structure {
+            let (x, y) = (axes.across(point.n), axes.down(point.tenths));
             writeln!(
                 out,
-                "<circle cx=\"{}\" cy=\"{}\" r=\"3\" fill=\"{colour}\"/>",
-                at.0, at.1
+                "<circle class=\"tsb-dot\" cx=\"{x}\" cy=\"{y}\" r=\"2.5\"/>"
             )?;
-            last = Some(at);
         }
     }
     Ok(())

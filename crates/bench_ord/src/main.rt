@@ -10,6 +10,7 @@
 #![tactic(auto)]
 
 mod arena;
+mod axes;
 mod curves;
 mod hints;
 mod keys;
@@ -19,6 +20,7 @@ mod map;
 mod market;
 mod measured;
 mod measures;
+mod names;
 mod rekeying;
 mod report;
 mod scheduling;
@@ -27,6 +29,7 @@ mod sorting;
 mod spanning;
 mod store;
 mod task;
+mod theme;
 mod timetable;
 mod trading;
 mod vector;

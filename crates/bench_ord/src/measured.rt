@@ -10,29 +10,45 @@ pub struct Point<'a> {
     pub tenths: u64,
 }
 
-/// Returns the points of all lines that are rows of a measure. Others, such as the heading, are passed over.
+impl Point<'_> {
+    // Whether another point is of the same measure, structure and number of entries.
+    fn is_beside(&self, other: &Point) -> bool {
+        self.n == other.n && self.measure == other.measure && self.structure == other.structure
+    }
+}
+
+/// Returns the points of all lines that are rows of a measure, by numbers of entries, each with the least time that any of its lines has.
+/// Other lines, such as the heading, are passed over.
 pub fn points_of(alloc: Global, text: &str) -> Result<Vec<Point<'_>>, AllocError> {
     let mut points = Vec::new(alloc);
     for line in text.lines() {
         if let Some(point) = point_of(line) {
-            points.push(point)?;
+            add(&mut points, point)?;
         }
     }
+    points.sort_by_key(|point| point.n)?;
     Ok(points)
 }
 
-// The point of a line: entries, measure, structure, nanoseconds.
+// Adds a point, or takes its time for the one that is there, if it is less.
+fn add<'a>(points: &mut Vec<Point<'a>>, point: Point<'a>) -> Result<(), AllocError> {
+    match points.iter_mut().find(|known| known.is_beside(&point)) {
+        Some(known) => known.tenths = known.tenths.min(point.tenths),
+        None => points.push(point)?,
+    }
+    Ok(())
+}
+
+// The point of a line: entries, the measure in quotation marks, structure, nanoseconds.
 fn point_of(line: &str) -> Option<Point<'_>> {
-    let mut fields = line.split(',');
-    let n = fields.next()?.parse::<u64>().ok()?;
-    let measure = fields.next()?;
-    let structure = fields.next()?;
-    let tenths = tenths_of(fields.next()?)?;
+    let (n, rest) = line.split_once(',')?;
+    let (rest, number) = rest.rsplit_once(',')?;
+    let (measure, structure) = rest.rsplit_once(',')?;
     Some(Point {
-        n,
-        measure,
+        n: n.parse::<u64>().ok()?,
+        measure: measure.trim_matches('"'),
         structure,
-        tenths,
+        tenths: tenths_of(number)?,
     })
 }
 

@@ -21,12 +21,12 @@ pub fn print(rt: &HostRuntime, row: Row) -> io::Result<()> {
     }
 }
 
-// Prints the times as comma-separated values, a line for each structure.
+// Prints the times as comma-separated values, a line for each structure. A measure may have commas, and stands in quotation marks.
 fn print_values(rt: &HostRuntime, row: Row) -> io::Result<()> {
     let (n, measure) = (row.n, row.measure);
     for (name, lap) in &[(row.name, row.own), (row.other_name, row.other)] {
         let (whole, tenth) = in_tenths(per_operation(*lap, n));
-        println!(rt; "{n},{measure},{name},{whole}.{tenth}")?;
+        println!(rt; "{n},\"{measure}\",{name},{whole}.{tenth}")?;
     }
     Ok(())
 }

@@ -1,8 +1,10 @@
-//! What is done for a command, and what is answered.
+//! What is done for a command, and what is answered as text.
 
 use crate::COMMANDS;
-use crate::command::{Command, Fault};
-use std::alloc::Global;
+use crate::command::{Command, Fault, Question};
+use crate::values::value_of;
+use line_service::{Style, blank_value, done_value, write_json};
+use std::alloc::{AllocError, Global};
 use std::io;
 use std::io::Write;
 use timeline::{Text, Timeline};
@@ -11,10 +13,17 @@ use timeline::{Text, Timeline};
 pub type Calendar = Timeline<Text>;
 
 // Writes the spans of words from one time until before another, one a line.
-fn tell_spans<W: Write>(out: &mut W, calendar: &Calendar, from: u64, until: u64) -> io::Result<()> {
+fn tell_spans<W: Write>(
+    out: &mut W,
+    style: Style,
+    calendar: &Calendar,
+    from: u64,
+    until: u64,
+) -> io::Result<()> {
     let mut is_free = true;
     for span in calendar.spans(from, until) {
-        let (from, until, word) = (span.from, span.until, span.value.as_str());
+        let (from, until) = (style.shown(span.from), style.shown(span.until));
+        let word = span.value.as_str();
         writeln!(out, "{from} {until} {word}")?;
         is_free = false;
     }
@@ -25,10 +34,17 @@ fn tell_spans<W: Write>(out: &mut W, calendar: &Calendar, from: u64, until: u64)
 }
 
 // Writes the gaps from one time until before another, one a line.
-fn tell_gaps<W: Write>(out: &mut W, calendar: &Calendar, from: u64, until: u64) -> io::Result<()> {
+fn tell_gaps<W: Write>(
+    out: &mut W,
+    style: Style,
+    calendar: &Calendar,
+    from: u64,
+    until: u64,
+) -> io::Result<()> {
     let mut is_full = true;
     for gap in calendar.gaps(from, until) {
-        writeln!(out, "{} {}", gap.from, gap.until)?;
+        let (from, until) = (style.shown(gap.from), style.shown(gap.until));
+        writeln!(out, "{from} {until}")?;
         is_full = false;
     }
     if is_full {
@@ -38,38 +54,82 @@ fn tell_gaps<W: Write>(out: &mut W, calendar: &Calendar, from: u64, until: u64) 
 }
 
 // Writes the whole span around a time.
-fn tell_whole<W: Write>(out: &mut W, calendar: &Calendar, time: u64) -> io::Result<()> {
+fn tell_whole<W: Write>(
+    out: &mut W,
+    style: Style,
+    calendar: &Calendar,
+    time: u64,
+) -> io::Result<()> {
     let Some(span) = calendar.span_at(time) else {
         return writeln!(out, "no word");
     };
+    let (from, word) = (style.shown(span.from), span.value.as_str());
     match span.until {
-        Some(until) => writeln!(out, "{} {until} {}", span.from, span.value.as_str()),
-        None => writeln!(out, "{} - {}", span.from, span.value.as_str()),
+        Some(until) => writeln!(out, "{from} {} {word}", style.shown(until)),
+        None => writeln!(out, "{from} - {word}"),
     }
 }
 
 /// The most parts of a strip.
 const PARTS: u64 = 48;
 
-// Writes a time as a row of equal parts, each by the first letter of the word that holds at its beginning.
-fn tell_strip<W: Write>(out: &mut W, calendar: &Calendar, from: u64, until: u64) -> io::Result<()> {
-    if from >= until {
-        return writeln!(out, "no time");
-    }
+/// Returns a time as a row of equal parts, each by the first letter of the word that holds at its beginning, `.` for none. An empty time has
+/// no part.
+pub fn strip(
+    alloc: Global,
+    calendar: &Calendar,
+    from: u64,
+    until: u64,
+) -> Result<String, AllocError> {
+    let mut row = String::new(alloc);
     let part = until.saturating_sub(from).div_ceil(PARTS);
     let mut time = from;
     for _ in 0..PARTS {
         if time >= until {
             break;
         }
-        let letter = match calendar.get(time) {
+        row.push(match calendar.get(time) {
             Some(word) => word.as_str().chars().next().unwrap_or(' '),
             None => '.',
-        };
-        write!(out, "{letter}")?;
+        })?;
         time = time.saturating_add(part);
     }
-    writeln!(out)
+    Ok(row)
+}
+
+// Writes what a question is answered.
+fn tell<W: Write>(
+    alloc: Global,
+    out: &mut W,
+    style: Style,
+    calendar: &Calendar,
+    question: Question,
+) -> Result<(), Fault> {
+    match question {
+        Question::Get(time) => match calendar.get(time) {
+            Some(word) => writeln!(out, "{}", word.as_str())?,
+            None => writeln!(out, "no word")?,
+        },
+        Question::At(time) => tell_whole(out, style, calendar, time)?,
+        Question::Spans(from, until) => tell_spans(out, style, calendar, from, until)?,
+        Question::Gaps(from, until) => tell_gaps(out, style, calendar, from, until)?,
+        Question::Strip(from, until) if from >= until => writeln!(out, "no time")?,
+        Question::Strip(from, until) => {
+            let row = strip(alloc, calendar, from, until)?;
+            writeln!(out, "{}", row.as_str())?;
+        }
+        Question::Help => out.write_all(COMMANDS.as_bytes())?,
+    }
+    Ok(())
+}
+
+// Writes that something was done.
+fn confirm<W: Write>(alloc: Global, out: &mut W, style: Style) -> io::Result<()> {
+    if style.is_json {
+        write_json(alloc, out, &done_value(alloc)?)
+    } else {
+        writeln!(out, "done")
+    }
 }
 
 // Makes a word hold, or none, until an end or for ever.
@@ -97,27 +157,28 @@ fn put(
 pub fn obey<W: Write>(
     alloc: Global,
     out: &mut W,
+    style: Style,
     calendar: &mut Calendar,
     line: &str,
 ) -> Result<bool, Fault> {
     match Command::read(line)? {
         Command::Set(from, until, word) => {
             put(alloc, calendar, from, until, Some(word))?;
-            writeln!(out, "done")?;
+            confirm(alloc, out, style)?;
         }
         Command::Clear(from, until) => {
             put(alloc, calendar, from, until, None)?;
-            writeln!(out, "done")?;
+            confirm(alloc, out, style)?;
         }
-        Command::Get(time) => match calendar.get(time) {
-            Some(word) => writeln!(out, "{}", word.as_str())?,
-            None => writeln!(out, "no word")?,
-        },
-        Command::At(time) => tell_whole(out, calendar, time)?,
-        Command::Spans(from, until) => tell_spans(out, calendar, from, until)?,
-        Command::Gaps(from, until) => tell_gaps(out, calendar, from, until)?,
-        Command::Strip(from, until) => tell_strip(out, calendar, from, until)?,
-        Command::Help => out.write_all(COMMANDS.as_bytes())?,
+        Command::Ask(question) if style.is_json => {
+            let value = value_of(alloc, style, calendar, question)?;
+            write_json(alloc, out, &value)?;
+        }
+        Command::Ask(question) => tell(alloc, out, style, calendar, question)?,
+        Command::Blank if style.is_json => {
+            write_json(alloc, out, &blank_value(alloc))?;
+            return Ok(false);
+        }
         Command::Blank => return Ok(false),
     }
     Ok(true)

@@ -3,10 +3,12 @@
 
 mod answers;
 mod command;
+mod values;
 
 use answers::{Calendar, obey};
 use command::Fault;
-use line_service::{Program, Session};
+use line_service::{Program, Session, Style, complaint, write_json};
+use serde_json::json;
 use std::alloc::Global;
 use std::io::Write;
 use std::process::ExitCode;
@@ -19,6 +21,7 @@ const PROGRAM: Program = Program {
     about: "Says which word holds at which time: reads commands, one a line, and answers each.",
     commands: COMMANDS,
     example: "printf 'set 8 12 work\\nget 9\\n' | calendar",
+    has_times: true,
 };
 
 /// The commands.
@@ -43,12 +46,22 @@ struct Clerk {
     bad: u64,
 }
 
+impl Clerk {
+    // Writes why a line isn't obeyed.
+    fn complain<W: Write>(&self, out: &mut W, style: Style, fault: Fault) -> io::Result<()> {
+        if style.is_json {
+            return write_json(self.alloc, out, &complaint(self.alloc, self.lines, fault)?);
+        }
+        writeln!(out, "line {}: {fault}", self.lines)
+    }
+}
+
 impl Session for Clerk {
     // A line that can't be obeyed is reported by its number and changes nothing.
-    fn answer<W: Write>(&mut self, out: &mut W, line: &[u8]) -> io::Result<()> {
+    fn answer<W: Write>(&mut self, out: &mut W, style: Style, line: &[u8]) -> io::Result<()> {
         self.lines = self.lines.saturating_add(1);
         let outcome = match str::from_utf8(line) {
-            Ok(text) => obey(self.alloc, out, &mut self.calendar, text),
+            Ok(text) => obey(self.alloc, out, style, &mut self.calendar, text),
             Err(_) => Err(Fault::NotText),
         };
         match outcome {
@@ -57,16 +70,21 @@ impl Session for Clerk {
             Err(Fault::Device(error)) => return Err(error),
             Err(fault) => {
                 self.bad = self.bad.saturating_add(1);
-                writeln!(out, "line {}: {fault}", self.lines)?;
+                self.complain(out, style, fault)?;
             }
         }
         Ok(())
     }
 
     // The figures.
-    fn finish<W: Write>(&mut self, out: &mut W) -> io::Result<()> {
+    fn finish<W: Write>(&mut self, out: &mut W, style: Style) -> io::Result<()> {
         let (lines, done, bad) = (self.lines, self.done, self.bad);
         let changes = self.calendar.len();
+        if style.is_json {
+            let figures =
+                json!(in self.alloc; {"lines": lines, "done": done, "bad": bad, "changes": changes})?;
+            return write_json(self.alloc, out, &figures);
+        }
         writeln!(
             out,
             "lines {lines}, done {done}, bad {bad}, changes {changes}"

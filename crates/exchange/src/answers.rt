@@ -2,8 +2,10 @@
 
 use crate::COMMANDS;
 use crate::chart::write_chart;
-use crate::command::{Command, Fault};
+use crate::command::{Command, Fault, Question};
 use crate::exchange::Exchange;
+use crate::values::{cancelled_value, left_value, order_value, totals_value, value_of};
+use line_service::{Style, complaint, write_json};
 use order_book::{Order, OrderKind, Side};
 use std::alloc::Global;
 use std::io;
@@ -28,14 +30,20 @@ impl Figures {
             traded: Some(0),
         }
     }
+
+    // Counts the trades of an incoming order.
+    fn count(&mut self, exchange: &Exchange) {
+        for trade in &exchange.trades {
+            self.traded = match self.traded {
+                Some(traded) => traded.checked_add(u128::from(trade.quantity)),
+                None => None,
+            };
+        }
+    }
 }
 
 /// Writes the trades of an incoming order.
-fn write_trades<W: Write>(
-    writer: &mut W,
-    exchange: &Exchange,
-    figures: &mut Figures,
-) -> io::Result<()> {
+fn write_trades<W: Write>(writer: &mut W, exchange: &Exchange) -> io::Result<()> {
     for trade in &exchange.trades {
         let (price, quantity, number) = (trade.price, trade.quantity, trade.tag);
         match exchange.tag(number) {
@@ -45,16 +53,12 @@ fn write_trades<W: Write>(
                 "trade {quantity} at {price} with {number}, tag {tag}"
             )?,
         }
-        figures.traded = match figures.traded {
-            Some(traded) => traded.checked_add(u128::from(quantity)),
-            None => None,
-        };
     }
     Ok(())
 }
 
 /// Returns how much of an order the last trades leave.
-fn left_of(exchange: &Exchange, quantity: u64) -> u64 {
+pub fn left_of(exchange: &Exchange, quantity: u64) -> u64 {
     let mut left = quantity;
     for trade in &exchange.trades {
         left = left.saturating_sub(trade.quantity);
@@ -114,23 +118,31 @@ fn write_depth<W: Write>(
     Ok(())
 }
 
-/// Places an order, and writes what became of it.
-fn place<W: Write>(
+/// Writes what became of an incoming order, which has just traded. What rests has a number.
+fn write_order<W: Write>(
+    alloc: Global,
     writer: &mut W,
-    exchange: &mut Exchange,
-    figures: &mut Figures,
-    order: (Side, OrderKind, u64, u64),
-) -> Result<(), Fault> {
-    let (side, kind, quantity, tag) = order;
-    let rests = exchange.place(side, kind, quantity, tag)?;
-    write_trades(writer, exchange, figures)?;
-    write_rest(writer, exchange, rests, quantity)?;
-    Ok(())
+    style: Style,
+    exchange: &Exchange,
+    rests: Option<u64>,
+    quantity: u64,
+) -> io::Result<()> {
+    if style.is_json {
+        return write_json(
+            alloc,
+            writer,
+            &order_value(alloc, exchange, rests, quantity)?,
+        );
+    }
+    write_trades(writer, exchange)?;
+    write_rest(writer, exchange, rests, quantity)
 }
 
 /// Changes a resting order, and writes what became of it.
 fn change<W: Write>(
+    alloc: Global,
     writer: &mut W,
+    style: Style,
     exchange: &mut Exchange,
     figures: &mut Figures,
     command: Command,
@@ -138,18 +150,46 @@ fn change<W: Write>(
     match command {
         Command::Replace(number, price, quantity) => {
             let rests = exchange.replace(number, price, quantity)?;
-            write_trades(writer, exchange, figures)?;
-            write_rest(writer, exchange, rests, quantity)?;
+            figures.count(exchange);
+            write_order(alloc, writer, style, exchange, rests, quantity)?;
         }
-        Command::Reduce(number, quantity) => match exchange.reduce(number, quantity)? {
-            0 => writeln!(writer, "gone {number}")?,
-            left => writeln!(writer, "left {left} of {number}")?,
-        },
+        Command::Reduce(number, quantity) => {
+            let left = exchange.reduce(number, quantity)?;
+            match left {
+                _ if style.is_json => write_json(alloc, writer, &left_value(alloc, left)?)?,
+                0 => writeln!(writer, "gone {number}")?,
+                left => writeln!(writer, "left {left} of {number}")?,
+            }
+        }
         Command::Cancel(number) => {
             let (price, quantity) = exchange.cancel(number)?;
-            writeln!(writer, "cancelled {quantity} at {price}")?;
+            if style.is_json {
+                let value = cancelled_value(alloc, price, quantity)?;
+                write_json(alloc, writer, &value)?;
+            } else {
+                writeln!(writer, "cancelled {quantity} at {price}")?;
+            }
         }
         _ => {}
+    }
+    Ok(())
+}
+
+/// Writes what a question is answered.
+fn tell<W: Write>(
+    alloc: Global,
+    writer: &mut W,
+    exchange: &Exchange,
+    question: Question,
+) -> Result<(), Fault> {
+    match question {
+        Question::Best => {
+            write_best(writer, "bid", exchange.book.best_bid())?;
+            write_best(writer, "ask", exchange.book.best_ask())?;
+        }
+        Question::Depth(levels) => write_depths(writer, exchange, levels)?,
+        Question::Chart(levels) => write_chart(alloc, writer, exchange, levels)?,
+        Question::Help => writer.write_all(COMMANDS.as_bytes())?,
     }
     Ok(())
 }
@@ -158,22 +198,23 @@ fn change<W: Write>(
 pub fn obey<W: Write>(
     alloc: Global,
     writer: &mut W,
+    style: Style,
     exchange: &mut Exchange,
     figures: &mut Figures,
     line: &str,
 ) -> Result<(), Fault> {
     match Command::read(line)? {
         Command::Place(side, kind, quantity, tag) => {
-            place(writer, exchange, figures, (side, kind, quantity, tag))?;
+            let rests = exchange.place(side, kind, quantity, tag)?;
+            figures.count(exchange);
+            write_order(alloc, writer, style, exchange, rests, quantity)?;
         }
-        Command::Best => {
-            write_best(writer, "bid", exchange.book.best_bid())?;
-            write_best(writer, "ask", exchange.book.best_ask())?;
+        Command::Ask(question) if style.is_json => {
+            let value = value_of(alloc, exchange, question)?;
+            write_json(alloc, writer, &value)?;
         }
-        Command::Depth(levels) => write_depths(writer, exchange, levels)?,
-        Command::Chart(levels) => write_chart(alloc, writer, exchange, levels)?,
-        Command::Help => writer.write_all(COMMANDS.as_bytes())?,
-        command => change(writer, exchange, figures, command)?,
+        Command::Ask(question) => tell(alloc, writer, exchange, question)?,
+        command => change(alloc, writer, style, exchange, figures, command)?,
     }
     Ok(())
 }
@@ -184,7 +225,9 @@ pub fn obey<W: Write>(
 ///
 /// Writing failed, now or when the line was answered.
 pub fn report<W: Write>(
+    alloc: Global,
     writer: &mut W,
+    style: Style,
     figures: &mut Figures,
     outcome: Result<(), Fault>,
 ) -> io::Result<()> {
@@ -196,6 +239,9 @@ pub fn report<W: Write>(
         Err(Fault::Device(error)) => Err(error),
         Err(fault) => {
             figures.bad = figures.bad.saturating_add(1);
+            if style.is_json {
+                return write_json(alloc, writer, &complaint(alloc, figures.lines, fault)?);
+            }
             writeln!(writer, "line {}: {fault}", figures.lines)
         }
     }
@@ -203,10 +249,15 @@ pub fn report<W: Write>(
 
 /// Writes the totals, as the last line.
 pub fn write_totals<W: Write>(
+    alloc: Global,
     writer: &mut W,
+    style: Style,
     exchange: &Exchange,
     figures: &Figures,
 ) -> io::Result<()> {
+    if style.is_json {
+        return write_json(alloc, writer, &totals_value(alloc, exchange, figures)?);
+    }
     let (lines, done, bad) = (figures.lines, figures.done, figures.bad);
     write!(writer, "lines {lines}, done {done}, bad {bad}, ")?;
     match figures.traded {

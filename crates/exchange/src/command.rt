@@ -15,6 +15,12 @@ pub enum Command {
     Cancel(u64),
     Reduce(u64, u64),
     Replace(u64, u64, u64),
+    Ask(Question),
+}
+
+/// What a line asks.
+#[derive(Clone, Copy)]
+pub enum Question {
     Best,
     Depth(usize),
     Chart(usize),
@@ -83,10 +89,17 @@ fn read_other(name: &str, words: &mut SplitAsciiWhitespace) -> Result<Command, M
         "cancel" => Ok(Command::Cancel(number(words.next())?)),
         "reduce" => reduce(words),
         "replace" => replace(words),
-        "best" => Ok(Command::Best),
-        "depth" => Ok(Command::Depth(levels(words)?)),
-        "chart" => Ok(Command::Chart(levels(words)?)),
-        "help" => Ok(Command::Help),
+        _ => Ok(Command::Ask(read_question(name, words)?)),
+    }
+}
+
+// The question of this name, with the words that follow.
+fn read_question(name: &str, words: &mut SplitAsciiWhitespace) -> Result<Question, Misread> {
+    match name {
+        "best" => Ok(Question::Best),
+        "depth" => Ok(Question::Depth(levels(words)?)),
+        "chart" => Ok(Question::Chart(levels(words)?)),
+        "help" => Ok(Question::Help),
         _ => Err(Misread::UnknownCommand),
     }
 }

@@ -5,11 +5,12 @@ mod answers;
 mod chart;
 mod command;
 mod exchange;
+mod values;
 
 use answers::{Figures, obey, report, write_totals};
 use command::Fault;
 use exchange::Exchange;
-use line_service::{Program, Session};
+use line_service::{Program, Session, Style, blank_value, write_json};
 use std::alloc::Global;
 use std::io::Write;
 use std::process::ExitCode;
@@ -21,6 +22,7 @@ const PROGRAM: Program = Program {
     about: "Trades orders by price, and at equal prices by age: reads commands, one a line, and answers each.",
     commands: COMMANDS,
     example: "printf 'buy 100 30\\nsell 100 20\\n' | exchange",
+    has_times: false,
 };
 
 /// The commands.
@@ -48,21 +50,39 @@ struct Clerk {
     figures: Figures,
 }
 
+impl Clerk {
+    // Answers a line that says nothing.
+    fn pass<W: Write>(&self, out: &mut W, style: Style) -> io::Result<()> {
+        if style.is_json {
+            write_json(self.alloc, out, &blank_value(self.alloc))?;
+        }
+        Ok(())
+    }
+}
+
 impl Session for Clerk {
     // A line that can't be obeyed is reported by its number and changes nothing; a blank one is passed over.
-    fn answer<W: Write>(&mut self, out: &mut W, line: &[u8]) -> io::Result<()> {
+    fn answer<W: Write>(&mut self, out: &mut W, style: Style, line: &[u8]) -> io::Result<()> {
         self.figures.lines = self.figures.lines.saturating_add(1);
+        let alloc = self.alloc;
         let outcome = match str::from_utf8(line) {
-            Ok(text) if text.trim_ascii().is_empty() => return Ok(()),
-            Ok(text) => obey(self.alloc, out, &mut self.exchange, &mut self.figures, text),
+            Ok(text) if text.trim_ascii().is_empty() => return self.pass(out, style),
+            Ok(text) => obey(
+                alloc,
+                out,
+                style,
+                &mut self.exchange,
+                &mut self.figures,
+                text,
+            ),
             Err(_) => Err(Fault::NotText),
         };
-        report(out, &mut self.figures, outcome)
+        report(alloc, out, style, &mut self.figures, outcome)
     }
 
     // The totals.
-    fn finish<W: Write>(&mut self, out: &mut W) -> io::Result<()> {
-        write_totals(out, &self.exchange, &self.figures)
+    fn finish<W: Write>(&mut self, out: &mut W, style: Style) -> io::Result<()> {
+        write_totals(self.alloc, out, style, &self.exchange, &self.figures)
     }
 }
 

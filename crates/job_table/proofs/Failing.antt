@@ -25,15 +25,15 @@ rows_cause_in fault all in' rows.Broken h = h
 rows_cause_in fault all in' rows.Unstorable h = tt
 
 -- A cause that is weaker in each part.
-pub cause_in : {fault all closed shut long longer late later : Type 0} → (fault → all) → (closed → shut) → (long → longer) → (late → later) → (e : StoreError)
-    → IsCause fault closed long late e → IsCause all shut longer later e
-cause_in in' c l t (Rows e) h = rows_cause_in _ _ in' e h
-cause_in in' c l t OutOfMemory h = tt
-cause_in in' c l t TooLong h = l h
-cause_in in' c l t TooLate h = t h
-cause_in in' c l t Full h = tt
-cause_in in' c l t NotAnAgenda h = h
-cause_in in' c l t Closed h = c h
+pub cause_in : {fault all closed shut full fuller long longer late later : Type 0} → (fault → all) → (closed → shut) → (full → fuller) → (long → longer) → (late → later)
+    → (e : StoreError) → IsCause fault closed full long late e → IsCause all shut fuller longer later e
+cause_in in' c n l t (Rows e) h = rows_cause_in _ _ in' e h
+cause_in in' c n l t OutOfMemory h = tt
+cause_in in' c n l t TooLong h = l h
+cause_in in' c n l t TooLate h = t h
+cause_in in' c n l t Full h = n h
+cause_in in' c n l t NotAnAgenda h = h
+cause_in in' c n l t Closed h = c h
 
 -- what holds of an error that `?` makes
 pub up : {T E : Type 0} (r : Result T E) (Q P : E → Type 0) → IsErrAnd r Q → ((e : E) → Q e → P e) → IfErr r P

@@ -20,13 +20,13 @@ IsRowsCause fault rows.Full = fault
 IsRowsCause fault rows.Broken = ⊥
 IsRowsCause fault rows.Unstorable = ⊤
 
--- Why a change of a table fails: `fault` says that the disk did, `closed` that the table is closed, `long` that the bytes are too many, and
--- `late` that the deadline is too late.
-abbrev pub IsCause : Type 0 → Type 0 → Type 0 → Type 0 → StoreError → Type 0
-IsCause fault closed long late (Rows e) = IsRowsCause fault e
-IsCause fault closed long late OutOfMemory = ⊤
-IsCause fault closed long late TooLong = long
-IsCause fault closed long late TooLate = late
-IsCause fault closed long late Full = ⊤
-IsCause fault closed long late NotAnAgenda = ⊥
-IsCause fault closed long late Closed = closed
+-- Why a change of a table fails: `fault` says that the disk did, `closed` that the table is closed, `full` that a number is too great
+-- for a row, `long` that the bytes are too many, and `late` that the deadline is too late.
+abbrev pub IsCause : Type 0 → Type 0 → Type 0 → Type 0 → Type 0 → StoreError → Type 0
+IsCause fault closed full long late (Rows e) = IsRowsCause fault e
+IsCause fault closed full long late OutOfMemory = ⊤
+IsCause fault closed full long late TooLong = long
+IsCause fault closed full long late TooLate = late
+IsCause fault closed full long late Full = full
+IsCause fault closed full long late NotAnAgenda = ⊥
+IsCause fault closed full long late Closed = closed

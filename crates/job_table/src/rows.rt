@@ -89,7 +89,7 @@ pub fn put_job<S: Rows>(
     ensures ok { OnOk result (IsClean (S.Store.view rows.new) → IsPut (S.Store.view rows.old) (S.Store.view rows.new)
         (job_row turn (record { id = id; deadline = deadline; attempts = attempts; bytes = bytes.now }))) }
     ensures cause { IfErr result (λ e. IsClean (S.Store.view rows.new) → (S.Store.view rows.old).is_broken ≡ false → (S.Store.view rows.old).shape 0 ≡ Shape.Table
-        → IsCause (HasFault S.Store rows.old rows.new) ⊥ ⊥ ⊥ e) }
+        → IsCause (HasFault S.Store rows.old rows.new) ⊥ ⊥ ⊥ ⊥ e) }
     ensures quiet { IsQuiet S.Store.view S.Store.faults S.Store.recovers S.Store.is_shielded rows.old rows.new }
 {
     spell_job(row, id, deadline, turn, attempts, bytes)?;
@@ -105,7 +105,7 @@ pub fn put_next<S: Rows>(rows: &mut S, row: &mut Row, id: u64) -> Result<(), Sto
     requires { id < 2 ^ 63 }
     ensures ok { OnOk result (IsClean (S.Store.view rows.new) → IsPut (S.Store.view rows.old) (S.Store.view rows.new) (next_row id)) }
     ensures cause { IfErr result (λ e. IsClean (S.Store.view rows.new) → (S.Store.view rows.old).is_broken ≡ false → (S.Store.view rows.old).shape 0 ≡ Shape.Table
-        → IsCause (HasFault S.Store rows.old rows.new) ⊥ ⊥ ⊥ e) }
+        → IsCause (HasFault S.Store rows.old rows.new) ⊥ ⊥ ⊥ ⊥ e) }
     ensures quiet { IsQuiet S.Store.view S.Store.faults S.Store.recovers S.Store.is_shielded rows.old rows.new }
 {
     spell_next(row, id)?;
@@ -121,7 +121,7 @@ pub fn delete<S: Rows>(rows: &mut S, id: u64) -> Result<(), StoreError>
     requires { id < 2 ^ 63 }
     ensures ok { OnOk result (IsClean (S.Store.view rows.new) → IsDeleted (S.Store.view rows.old) (S.Store.view rows.new) id) }
     ensures cause { IfErr result (λ e. IsClean (S.Store.view rows.new) → (S.Store.view rows.old).is_broken ≡ false → (S.Store.view rows.old).shape 0 ≡ Shape.Table
-        → IsCause (HasFault S.Store rows.old rows.new) ⊥ ⊥ ⊥ e) }
+        → IsCause (HasFault S.Store rows.old rows.new) ⊥ ⊥ ⊥ ⊥ e) }
     ensures quiet { IsQuiet S.Store.view S.Store.faults S.Store.recovers S.Store.is_shielded rows.old rows.new }
 {
     if rows.shape(JOBS) != Shape::Table {

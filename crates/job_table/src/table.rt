@@ -1,6 +1,6 @@
 //! `Table`: jobs in a table of a database, and the transaction over it.
 
-ghost use Rattle.std.specs.Prelude.{◌≡◌, [], ◌∷◌, ◌<◌, ◌≤◌, ◌⊎◌, ◌^◌, ℕ, IsTrue, IsSome, Some, IfOk, IfErr, OnOk, OnErr, length, false};
+ghost use Rattle.std.specs.Prelude.{⊤, ◌≡◌, ◌≢◌, Err, [], ◌∷◌, ◌<◌, ◌≤◌, ◌⊎◌, ◌^◌, ℕ, IsTrue, IsSome, Some, IfOk, IfErr, OnOk, OnErr, length, false};
 ghost use Rattle.sqlite_trees.specs.Tree.{Trees};
 ghost use Rattle.sqlite_trees.specs.View.{IsClean, IsQuiet};
 ghost use Rattle.job_table.specs.Plan.{Plan, empty, scheduled, cancelled, replaced, job_at};
@@ -115,7 +115,7 @@ impl<S: Rows> Table<S> {
             → Holds S.Store self.new (scheduled deadline bytes.now plan)) }
         ensures id { IfOk result (λ id. (plan : Plan) → Holds S.Store self.old plan → id ≡ plan.next) }
         ensures cause { IfErr result (λ e. IsClean (S.Store.view self.new.rows) → (plan : Plan) → Holds S.Store self.old plan
-            → IsCause (HasFault S.Store self.old.rows self.new.rows) ⊥ (MAX_BYTES < length bytes.now) (MAX_DEADLINE < deadline) e) }
+            → IsCause (HasFault S.Store self.old.rows self.new.rows) ⊥ ⊤ (MAX_BYTES < length bytes.now) (MAX_DEADLINE < deadline) e) }
         ensures err { OnErr result ((self.new ≡ self.old) ⊎ (self.new.is_open ≡ false)) }
         ensures clean { IsClean (S.Store.view self.new.rows) → IsClean (S.Store.view self.old.rows) }
         ensures crash { (trees : Trees) → S.Store.recovers self.new.rows trees → S.Store.recovers self.old.rows trees }
@@ -147,7 +147,7 @@ impl<S: Rows> Table<S> {
         ensures ok { OnOk result (IsClean (S.Store.view self.new.rows) → (plan : Plan) → Holds S.Store self.old plan
             → IsSome (job_at id plan.jobs) → Holds S.Store self.new (cancelled id plan)) }
         ensures cause { IfErr result (λ e. IsClean (S.Store.view self.new.rows) → (plan : Plan) → Holds S.Store self.old plan
-            → IsCause (HasFault S.Store self.old.rows self.new.rows) ⊥ ⊥ ⊥ e) }
+            → IsCause (HasFault S.Store self.old.rows self.new.rows) ⊥ (MAX_NUMBER < id) ⊥ ⊥ e) }
         ensures err { OnErr result ((self.new ≡ self.old) ⊎ (self.new.is_open ≡ false)) }
         ensures clean { IsClean (S.Store.view self.new.rows) → IsClean (S.Store.view self.old.rows) }
         ensures crash { (trees : Trees) → S.Store.recovers self.new.rows trees → S.Store.recovers self.old.rows trees }
@@ -176,7 +176,7 @@ impl<S: Rows> Table<S> {
             → IsSome (job_at id plan.jobs)
             → Holds S.Store self.new (replaced (record { id = id; deadline = deadline; attempts = attempts; bytes = bytes.now }) plan)) }
         ensures cause { IfErr result (λ e. IsClean (S.Store.view self.new.rows) → (plan : Plan) → Holds S.Store self.old plan
-            → IsCause (HasFault S.Store self.old.rows self.new.rows) ⊥ (MAX_BYTES < length bytes.now) (MAX_DEADLINE < deadline) e) }
+            → IsCause (HasFault S.Store self.old.rows self.new.rows) ⊥ ⊤ (MAX_BYTES < length bytes.now) (MAX_DEADLINE < deadline) e) }
         ensures err { OnErr result ((self.new ≡ self.old) ⊎ (self.new.is_open ≡ false)) }
         ensures clean { IsClean (S.Store.view self.new.rows) → IsClean (S.Store.view self.old.rows) }
         ensures crash { (trees : Trees) → S.Store.recovers self.new.rows trees → S.Store.recovers self.old.rows trees }
@@ -216,7 +216,7 @@ impl<S: Rows> Table<S> {
         ensures durable { OnOk result (IsClean (S.Store.view self.new.rows) → (plan : Plan) → Holds S.Store self.old plan
             → (trees : Trees) → S.Store.recovers self.new.rows trees → TreesStandFor trees plan) }
         ensures cause { IfErr result (λ e. IsClean (S.Store.view self.new.rows) → (plan : Plan) → Holds S.Store self.old plan
-            → IsCause (HasFault S.Store self.old.rows self.new.rows) ⊥ ⊥ ⊥ e) }
+            → IsCause (HasFault S.Store self.old.rows self.new.rows) ⊥ ⊥ ⊥ ⊥ e) }
         ensures err { OnErr result ((self.new ≡ self.old) ⊎ (self.new.is_open ≡ false)) }
         ensures undone { OnErr result (IsClean (S.Store.view self.new.rows) → IsTrue (S.Store.view self.new.rows).is_open → (trees : Trees)
             → S.Store.recovers self.new.rows trees → S.Store.recovers self.old.rows trees) }
@@ -244,7 +244,7 @@ impl<S: Checkpoint> Table<S> {
         ensures ok { OnOk result (IsClean (S.Store.view self.new.rows) → (plan : Plan) → Holds S.Store self.old plan
             → Holds S.Store self.new plan) }
         ensures cause { IfErr result (λ e. IsClean (S.Store.view self.new.rows) → (plan : Plan) → Holds S.Store self.old plan
-            → IsCause (HasFault S.Store self.old.rows self.new.rows) ⊥ ⊥ ⊥ e) }
+            → IsCause (HasFault S.Store self.old.rows self.new.rows) ⊥ ⊥ ⊥ ⊥ e) }
         ensures err { OnErr result ((self.new ≡ self.old) ⊎ (self.new.is_open ≡ false)) }
         ensures clean { IsClean (S.Store.view self.new.rows) → IsClean (S.Store.view self.old.rows) }
         ensures crash { (trees : Trees) → S.Store.recovers self.new.rows trees → S.Store.recovers self.old.rows trees }
@@ -303,6 +303,7 @@ fn begin<S: Rows>(rows: &mut S, row: &mut Row) -> Result<(), StoreError>
 pub fn is_unused<S: Rows>(alloc: Global, rows: &mut S) -> Result<bool, StoreError>
     ensures none { IfOk result (λ is. IsTrue is → IsClean (S.Store.view rows.new) → (S.Store.view rows.old).trees 0 ≡ []) }
     ensures same { OnOk result (IsClean (S.Store.view rows.new) → HasSameTrees (S.Store.view rows.old) (S.Store.view rows.new)) }
+    ensures shape { result ≡ Err StoreError.NotAnAgenda → (S.Store.view rows.old).shape 0 ≢ Shape.Table }
     ensures quiet { IsQuiet S.Store.view S.Store.faults S.Store.recovers S.Store.is_shielded rows.old rows.new }
 {
     if rows.shape(JOBS) != Shape::Table {

@@ -5,6 +5,7 @@ use Rattle.std.specs.Io.KnownBytes.{Appends}
 use Rattle.sqlite_trees.specs.Tree.{Trees}
 use Rattle.sqlite_trees.specs.View.{IsClean}
 use Rattle.sqlite_trees.specs.declared.store.Store as trees
+use Rattle.line_service.specs.declared.style.Style.{Style}
 use Rattle.agenda_store.specs.Plan.{Plan}
 use Rattle.agenda_store.specs.Table.{TreesStandFor, rows_of}
 use Rattle.agenda_store.specs.Store.{Store}
@@ -13,7 +14,7 @@ use Rattle.std.specs.Io.{StartsWith}
 use Rattle.jobs.specs.Serving.{Step, AnswersLine, AreAnswered, texts_of, plan_after, Serves, ServesAll, TakesLine, WritesFront}
 use Rattle.jobs.proofs.Steps.{plan_after_more, answered_more, texts_more, appends_none, appends_more, starts_self, starts_more}
 
-module _ {S : Type 0} (g : trees.Ghosts S) where
+module _ {S : Type 0} (g : trees.Ghosts S) (style : Style) where
   abbrev Clean : Store S → Type 0
   Clean store = IsClean (g.view (rows_of store.table))
 
@@ -29,7 +30,7 @@ module _ {S : Type 0} (g : trees.Ghosts S) where
   pub record HasCome (first store : Store S) (unwritten written : Option (List ℕ)) (answers : List ℕ) : Type 0 where
     pub told : List Step
     pub flying : List Step
-    pub answered : AreAnswered first.plan (told ++ flying)
+    pub answered : AreAnswered style first.plan (told ++ flying)
     pub plan : store.plan ≡ plan_after first.plan (told ++ flying)
     pub clean : Clean store → Clean first
     pub lasts : Clean store → IsSettled g first → Lasts store (plan_after first.plan told)
@@ -40,7 +41,7 @@ module _ {S : Type 0} (g : trees.Ghosts S) where
   pub record HasCommitted (first store : Store S) (unwritten written : Option (List ℕ)) (answers : List ℕ) : Type 0 where
     pub told : List Step
     pub flying : List Step
-    pub answered : AreAnswered first.plan (told ++ flying)
+    pub answered : AreAnswered style first.plan (told ++ flying)
     pub plan : store.plan ≡ plan_after first.plan (told ++ flying)
     pub clean : Clean store → Clean first
     pub lasts : Clean store → Lasts store (plan_after first.plan (told ++ flying))
@@ -61,33 +62,21 @@ module _ {S : Type 0} (g : trees.Ghosts S) where
     }
 
     pub taken : {old : Store S} (new : Store S) {unwritten written : Option (List ℕ)} {before : List ℕ} (after : List ℕ) → HasCome first old unwritten written before
-        → TakesLine old.plan new.plan before after → (Clean new → Clean old) → Keeps old new → HasCome first new unwritten written after
-    taken {old} new {unwritten} {written} {before} after was took clean keeps = elim took [
-      | inl none ↦ record {
-        told = was.told;
-        flying = was.flying;
-        answered = was.answered;
-        plan = none.0 ∙ was.plan;
-        clean = λ c. was.clean (clean c);
-        lasts = λ c settled trees h. was.lasts (clean c) settled trees (keeps trees h);
-        answers_are = none.1 ∙ was.answers_are;
-        writes = was.writes;
-      }
-      | inr one ↦
-          let step : Step = record { command = one.command; text = one.text; plan = new.plan } in
-          let same : was.told ++ (was.flying ++ step ∷ []) ≡ (was.told ++ was.flying) ++ step ∷ [] = sym (append_assoc was.told was.flying (step ∷ [])) in
-          record {
-            told = was.told;
-            flying = was.flying ++ step ∷ [];
-            answered = subst (AreAnswered first.plan) (sym same)
-                (answered_more first.plan (was.told ++ was.flying) step was.answered (subst (λ (p : Plan). AnswersLine one.command p new.plan one.text) was.plan one.answers));
-            plan = sym (ap (plan_after first.plan) same ∙ plan_after_more first.plan (was.told ++ was.flying) step);
-            clean = λ c. was.clean (clean c);
-            lasts = λ c settled trees h. was.lasts (clean c) settled trees (keeps trees h);
-            answers_are = one.is ∙ ap (λ (l : List ℕ). l ++ one.text) was.answers_are ∙ sym (texts_more was.flying (step ∷ []) ∙ ap (λ (l : List ℕ). texts_of was.flying ++ l) (append-nil one.text));
-            writes = was.writes;
-          }
-    ]
+        → TakesLine style old.plan new.plan before after → (Clean new → Clean old) → Keeps old new → HasCome first new unwritten written after
+    taken {old} new {unwritten} {written} {before} after was one clean keeps =
+        let step : Step = record { command = one.command; text = one.text; plan = new.plan } in
+        let same : was.told ++ (was.flying ++ step ∷ []) ≡ (was.told ++ was.flying) ++ step ∷ [] = sym (append_assoc was.told was.flying (step ∷ [])) in
+        record {
+          told = was.told;
+          flying = was.flying ++ step ∷ [];
+          answered = subst (AreAnswered style first.plan) (sym same)
+              (answered_more style first.plan (was.told ++ was.flying) step was.answered (subst (λ (p : Plan). AnswersLine style one.command p new.plan one.text) was.plan one.answers));
+          plan = sym (ap (plan_after first.plan) same ∙ plan_after_more first.plan (was.told ++ was.flying) step);
+          clean = λ c. was.clean (clean c);
+          lasts = λ c settled trees h. was.lasts (clean c) settled trees (keeps trees h);
+          answers_are = one.is ∙ ap (λ (l : List ℕ). l ++ one.text) was.answers_are ∙ sym (texts_more was.flying (step ∷ []) ∙ ap (λ (l : List ℕ). texts_of was.flying ++ l) (append-nil one.text));
+          writes = was.writes;
+        }
 
     pub committed : {old : Store S} (new : Store S) {unwritten written : Option (List ℕ)} {answers : List ℕ} (now : List ℕ) → HasCome first old unwritten written answers
         → now ≡ answers → new.plan ≡ old.plan → (Clean new → Clean old) → (Clean new → Lasts new old.plan) → HasCommitted first new unwritten written now
@@ -111,7 +100,7 @@ module _ {S : Type 0} (g : trees.Ghosts S) where
         record {
           told = was.told ++ was.flying;
           flying = [];
-          answered = subst (AreAnswered first.plan) (sym steps) was.answered;
+          answered = subst (AreAnswered style first.plan) (sym steps) was.answered;
           plan = was.plan ∙ ap (plan_after first.plan) (sym steps);
           clean = was.clean;
           lasts = λ c settled. was.lasts c;
@@ -120,7 +109,7 @@ module _ {S : Type 0} (g : trees.Ghosts S) where
         }
 
     pub served_all : {store : Store S} {unwritten mid : Option (List ℕ)} (written : Option (List ℕ)) {answers : List ℕ} → HasCommitted first store unwritten mid answers
-        → Appends mid written answers → ServesAll g first store unwritten written
+        → Appends mid written answers → ServesAll g style first store unwritten written
     unfolding told_all
     served_all {store} {unwritten} {mid} written {answers} was more =
         let now = told_all written [] was more refl in
@@ -132,7 +121,7 @@ module _ {S : Type 0} (g : trees.Ghosts S) where
         }
 
     pub served : {old : Store S} (new : Store S) {unwritten written : Option (List ℕ)} {answers : List ℕ} → HasCome first old unwritten written answers
-        → (Clean new → Clean old) → Keeps old new → Serves g first new unwritten written
+        → (Clean new → Clean old) → Keeps old new → Serves g style first new unwritten written
     served {old} new {unwritten} {written} was clean keeps = record {
       told = was.told;
       flying = was.flying;
@@ -145,7 +134,7 @@ module _ {S : Type 0} (g : trees.Ghosts S) where
 
     pub in_flight : {old : Store S} (new : Store S) {unwritten written : Option (List ℕ)} {answers : List ℕ} → HasCome first old unwritten written answers
         → (Clean new → Clean old) → (Clean new → (trees : Trees) → g.recovers (rows_of new.table) trees → TreesStandFor trees old.plan ⊎ g.recovers (rows_of old.table) trees)
-        → Serves g first new unwritten written
+        → Serves g style first new unwritten written
     in_flight {old} new {unwritten} {written} was clean crash = record {
       told = was.told;
       flying = was.flying;
@@ -160,7 +149,7 @@ module _ {S : Type 0} (g : trees.Ghosts S) where
     }
 
     pub cut_short : {store : Store S} {unwritten mid : Option (List ℕ)} (written : Option (List ℕ)) {answers : List ℕ} → HasCommitted first store unwritten mid answers
-        → WritesFront mid written answers → Serves g first store unwritten written
+        → WritesFront mid written answers → Serves g style first store unwritten written
     cut_short {store} {unwritten} {mid} written {answers} was part =
         let both : texts_of (was.told ++ was.flying) ≡ texts_of was.told ++ answers =
         texts_more was.told was.flying ∙ ap (λ (l : List ℕ). texts_of was.told ++ l) (sym was.answers_are) in
@@ -168,7 +157,7 @@ module _ {S : Type 0} (g : trees.Ghosts S) where
         record {
           told = was.told ++ was.flying;
           flying = [];
-          answered = subst (AreAnswered first.plan) (sym steps) was.answered;
+          answered = subst (AreAnswered style first.plan) (sym steps) was.answered;
           text = texts_of was.told ++ part.text;
           writes = appends_more unwritten mid written (texts_of was.told) part.text was.writes part.writes;
           front = subst (λ (l : List ℕ). StartsWith l (texts_of was.told ++ part.text)) (sym both) (starts_more (texts_of was.told) answers part.text part.front);

@@ -1,3 +1,4 @@
 pub mod Popping
+pub mod Showing
 pub mod Steps
 pub mod Come

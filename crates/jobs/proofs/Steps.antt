@@ -4,6 +4,7 @@ use Rattle.std.proofs.lemmas.List.{append-nil}
 use Rattle.std.proofs.Math.Seq.{take-append-add, take-append_seam}
 use Rattle.std.specs.Io.{StartsWith}
 use Rattle.std.specs.Io.KnownBytes.{Appends}
+use Rattle.line_service.specs.declared.style.Style.{Style}
 use Rattle.agenda_store.specs.Plan.{Plan}
 use Rattle.jobs.specs.Serving.{Step, AnswersLine, AreAnswered, texts_of, plan_after}
 
@@ -11,10 +12,10 @@ pub plan_after_more : (plan : Plan) (xs : List Step) (step : Step) → plan_afte
 plan_after_more plan [] step = refl
 plan_after_more plan (x ∷ xs) step = plan_after_more x.plan xs step
 
-pub answered_more : (plan : Plan) (xs : List Step) (step : Step) → AreAnswered plan xs → AnswersLine step.command (plan_after plan xs) step.plan step.text
-    → AreAnswered plan (xs ++ step ∷ [])
-answered_more plan [] step answered one = (one, tt)
-answered_more plan (x ∷ xs) step answered one = (answered.0, answered_more x.plan xs step answered.1 one)
+pub answered_more : (style : Style) (plan : Plan) (xs : List Step) (step : Step) → AreAnswered style plan xs
+    → AnswersLine style step.command (plan_after plan xs) step.plan step.text → AreAnswered style plan (xs ++ step ∷ [])
+answered_more style plan [] step answered one = (one, tt)
+answered_more style plan (x ∷ xs) step answered one = (answered.0, answered_more style x.plan xs step answered.1 one)
 
 pub texts_more : (xs ys : List Step) → texts_of (xs ++ ys) ≡ texts_of xs ++ texts_of ys
 texts_more [] ys = refl

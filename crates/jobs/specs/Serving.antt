@@ -1,5 +1,5 @@
 -- Batches of lines: which answers were written, and what a crash leaves.
-use Rattle.std.specs.Prelude.{◌≡◌, ◌⊎◌, ℕ, List, [], ◌∷◌, ◌++◌, Option, Some, None}
+use Rattle.std.specs.Prelude.{◌≡◌, ◌⊎◌, ℕ, List, [], ◌∷◌, ◌++◌, Bool, true, false, Option, Some, None}
 use Rattle.std.specs.Io.{StartsWith}
 use Rattle.std.specs.Io.KnownBytes.{Appends}
 use Rattle.sqlite_trees.specs.Tree.{Trees}
@@ -9,6 +9,7 @@ use Rattle.agenda_store.specs.Plan.{Plan}
 use Rattle.agenda_store.specs.Table.{TreesStandFor, rows_of}
 use Rattle.agenda_store.specs.Store.{Store}
 use Rattle.agenda_store.specs.Requests.{IsSettled}
+use Rattle.line_service.specs.declared.style.Style.{Style}
 use Rattle.jobs.specs.Answer.{Answers, IsRefused}
 use Rattle.jobs.specs.declared.command.Command.{Command}
 
@@ -18,15 +19,26 @@ pub record Step : Type 0 where
   pub text : List ℕ
   pub plan : Plan
 
+-- an answer with the empty line behind it that a frame is
+abbrev pub framed : Bool → List ℕ → List ℕ
+framed false text = text
+framed true text = text ++ 10 ∷ []
+
 -- A line that spells no command is refused.
-abbrev pub AnswersLine : Option Command → Plan → Plan → List ℕ → Type 0
-AnswersLine None old new text = IsRefused old new text
-AnswersLine (Some command) old new text = Answers command old new text
+abbrev pub AnswersCommand : Style → Option Command → Plan → Plan → List ℕ → Type 0
+AnswersCommand style None old new text = IsRefused style.is_json old new text
+AnswersCommand style (Some command) old new text = Answers style command old new text
+
+-- A line was answered, in a frame if the style has frames.
+pub record AnswersLine (style : Style) (command : Option Command) (old new : Plan) (text : List ℕ) : Type 0 where
+  pub answer : List ℕ
+  pub answers : AnswersCommand style command old new answer
+  pub is : text ≡ framed style.is_framed answer
 
 -- The lines were answered one after the other, from a plan on.
-abbrev pub AreAnswered : Plan → List Step → Type 0
-AreAnswered plan [] = Unit {0}
-AreAnswered plan (step ∷ steps) = AnswersLine step.command plan step.plan step.text × AreAnswered step.plan steps
+abbrev pub AreAnswered : Style → Plan → List Step → Type 0
+AreAnswered style plan [] = Unit {0}
+AreAnswered style plan (step ∷ steps) = AnswersLine style step.command plan step.plan step.text × AreAnswered style step.plan steps
 
 -- the answers to lines
 abbrev pub texts_of : List Step → List ℕ
@@ -38,13 +50,13 @@ abbrev pub plan_after : Plan → List Step → Plan
 plan_after plan [] = plan
 plan_after plan (step ∷ steps) = plan_after step.plan steps
 
-module _ {S : Type 0} (g : trees.Ghosts S) where
+module _ {S : Type 0} (g : trees.Ghosts S) (style : Style) where
   -- What was written are the answers to the lines of `told`, or a beginning of these answers. A crash leaves the plan after these lines, or that after those
   -- of one more batch, `flying`.
   pub record Serves (first last : Store S) (unwritten written : Option (List ℕ)) : Type 0 where
     pub told : List Step
     pub flying : List Step
-    pub answered : AreAnswered first.plan (told ++ flying)
+    pub answered : AreAnswered style first.plan (told ++ flying)
     pub text : List ℕ
     pub writes : Appends unwritten written text
     pub front : StartsWith (texts_of told) text
@@ -54,21 +66,17 @@ module _ {S : Type 0} (g : trees.Ghosts S) where
   -- All answers were written, and a crash leaves the plan after all lines.
   pub record ServesAll (first last : Store S) (unwritten written : Option (List ℕ)) : Type 0 where
     pub told : List Step
-    pub answered : AreAnswered first.plan told
+    pub answered : AreAnswered style first.plan told
     pub writes : Appends unwritten written (texts_of told)
     pub lasts : IsClean (g.view (rows_of last.table)) → IsSettled g first → (trees : Trees) → g.recovers (rows_of last.table) trees
         → TreesStandFor trees (plan_after first.plan told)
 
--- the answer to one more line
-pub record IsOneMore (old new : Plan) (before after : List ℕ) : Type 0 where
+-- A line was answered: what it made of the plan and of the answers.
+pub record TakesLine (style : Style) (old new : Plan) (before after : List ℕ) : Type 0 where
   pub command : Option Command
   pub text : List ℕ
-  pub answers : AnswersLine command old new text
+  pub answers : AnswersLine style command old new text
   pub is : after ≡ before ++ text
-
--- A line was answered, or said nothing: what it made of the plan and of the answers.
-abbrev pub TakesLine : Plan → Plan → List ℕ → List ℕ → Type 0
-TakesLine old new before after = ((new ≡ old) × (after ≡ before)) ⊎ IsOneMore old new before after
 
 -- some of the bytes were written, from the first on
 pub record WritesFront (unwritten written : Option (List ℕ)) (bytes : List ℕ) : Type 0 where

@@ -1,20 +1,22 @@
 //! What a line makes of the jobs, and how it is answered.
 
-ghost use Rattle.std.specs.Prelude.{◌≡◌, ◌⊎◌, ℕ, IfOk, OnOk, IsTrue, codes, string_bytes};
+ghost use Rattle.std.specs.Prelude.{◌≡◌, ◌⊎◌, IfOk, OnOk, IsTrue, string_bytes};
 ghost use Rattle.std.specs.Option.{option_map};
 ghost use Rattle.sqlite_trees.specs.Tree.{Trees};
 ghost use Rattle.sqlite_trees.specs.View.{IsClean};
-ghost use Rattle.agenda_store.specs.Plan.{first_deadline};
 ghost use Rattle.agenda_store.specs.Table.{rows_of};
-ghost use Rattle.agenda_store.specs.Store.{owned};
-ghost use Rattle.jobs.specs.Answer.{Answers, Confirms, IsComplaint, IsJobLine, PopsAll, Shows, deadline_line, line};
+ghost use Rattle.agenda_store.specs.Store.{lent, owned};
+ghost use Rattle.jobs.specs.Answer.{Answers, IsComplaint, PopsAll, Shows, done_text as done_answer};
 
 use crate::command::Command;
 use crate::options::LINES;
-use agenda_store::{Job, JobId, Store, StoreError};
+use crate::shown::{
+    Shown, blank_text, complaint_text, deadline_text, done_text, help_text, job_text, number_text,
+};
+use agenda_store::{Job, JobId, JobRef, Store, StoreError};
+use line_service::Style;
 use sqlite_trees::store::Store as Rows;
 use std::alloc::{AllocError, Global};
-use std::fmt::Display;
 
 /// Why a batch can't go on. What its lines have changed is not to be committed.
 #[derive(Debug, Drop)]
@@ -39,143 +41,118 @@ impl From<AllocError> for Fault {
 /// The batch can't go on.
 pub fn obey<S: Rows>(
     alloc: Global,
+    style: Style,
     store: &mut Store<S>,
     number: u64,
     command: Command<'_>,
 ) -> Result<String, Fault>
-    ensures answer { IfOk result (λ text. Answers command.entry store.old.plan store.new.plan (string_bytes text)) }
+    ensures answer { IfOk result (λ text. Answers style command.entry store.old.plan store.new.plan (string_bytes text)) }
     ensures clean { IsClean (S.Store.view (rows_of store.new.table)) → IsClean (S.Store.view (rows_of store.old.table)) }
     ensures crash { (trees : Trees) → S.Store.recovers (rows_of store.new.table) trees → S.Store.recovers (rows_of store.old.table) trees }
 {
     match command {
         Command::At(deadline, payload) => match store.schedule(deadline, payload) {
-            Ok(id) => Ok(format!(in alloc; "{}\n", id.0)?),
-            Err(error) => refuse(alloc, store, number, error),
+            Ok(id) => Ok(number_text(alloc, style, id.0)?),
+            Err(error) => refuse(alloc, style, store, number, error),
         },
         Command::Cancel(id) => match store.cancel(JobId(id)) {
-            Ok(job) => confirm(alloc, number, job.is_some()),
-            Err(error) => refuse(alloc, store, number, error),
+            Ok(job) => confirm(alloc, style, number, job.is_some()),
+            Err(error) => refuse(alloc, style, store, number, error),
         },
         Command::Move(id, deadline) => match store.reschedule(JobId(id), deadline) {
-            Ok(is_found) => confirm(alloc, number, is_found),
-            Err(error) => refuse(alloc, store, number, error),
+            Ok(is_found) => confirm(alloc, style, number, is_found),
+            Err(error) => refuse(alloc, style, store, number, error),
         },
-        Command::Due(now) => pop_due(alloc, store, now),
+        Command::Due(now) => pop_due(alloc, style, store, now),
         Command::Claim(now, until) => match store.claim_due(now, until) {
-            Ok(job) => show_claimed(alloc, &job),
-            Err(error) => refuse(alloc, store, number, error),
+            Ok(job) => show_claimed(alloc, style, &job),
+            Err(error) => refuse(alloc, style, store, number, error),
         },
-        Command::Next => next(alloc, store),
-        Command::List => list(alloc, store),
-        Command::Compact => Ok(String::from_str(alloc, "done\n")?),
-        Command::Help => Ok(String::from_str(alloc, LINES)?),
+        Command::Next => Ok(deadline_text(alloc, style, store.next_deadline())?),
+        Command::List => list(alloc, style, store),
+        Command::Compact => Ok(done_text(alloc, style)?),
+        Command::Help => Ok(help_text(alloc, style, LINES)?),
+        Command::Blank => Ok(blank_text(alloc, style)?),
     }
-}
-
-/// Returns the answer to a line that isn't obeyed.
-pub fn complain(
-    alloc: Global,
-    number: u64,
-    reason: impl Display + Drop,
-) -> Result<String, AllocError>
-    ensures { IfOk result (λ text. IsComplaint (string_bytes text)) }
-{
-    let reason = format!(in alloc; "{reason}")?;
-    let reason = reason.as_str();
-    format!(in alloc; "line {number}: {reason}\n")
 }
 
 // Returns the answer to a line that the store refuses.
 fn refuse<S: Rows>(
     alloc: Global,
+    style: Style,
     store: &Store<S>,
     number: u64,
     error: StoreError,
 ) -> Result<String, Fault>
     ensures open { OnOk result (IsTrue store.now.is_open) }
-    ensures text { IfOk result (λ text. IsComplaint (string_bytes text)) }
+    ensures text { IfOk result (λ text. IsComplaint style.is_json (string_bytes text)) }
 {
     if !store.is_open() {
         return Err(Fault::Store(error));
     }
-    Ok(complain(alloc, number, error)?)
+    Ok(complaint_text(alloc, style, number, error)?)
 }
 
 // Returns the answer that something was done to a job, unless there was no such job.
-fn confirm(alloc: Global, number: u64, is_found: bool) -> Result<String, Fault>
-    ensures done { IsTrue is_found → IfOk result (λ text. string_bytes text ≡ line (codes "done")) }
-    ensures missing { (IsTrue is_found → ⊥) → IfOk result (λ text. IsComplaint (string_bytes text)) }
+fn confirm(alloc: Global, style: Style, number: u64, is_found: bool) -> Result<String, Fault>
+    ensures done { IsTrue is_found → IfOk result (λ text. string_bytes text ≡ done_answer style.is_json) }
+    ensures missing { (IsTrue is_found → ⊥) → IfOk result (λ text. IsComplaint style.is_json (string_bytes text)) }
 {
     if is_found {
-        return Ok(String::from_str(alloc, "done\n")?);
+        return Ok(done_text(alloc, style)?);
     }
-    Ok(complain(alloc, number, "no such job")?)
+    Ok(complaint_text(alloc, style, number, "no such job")?)
 }
 
-// Returns the text of a payload, or ? for one that is no text.
-fn text_of(payload: &[u8]) -> &str
-    ensures { (result.now ≡ payload.now) ⊎ (result.now ≡ codes "?") }
+// Returns a job as it is lent.
+fn lend(job: &Job) -> JobRef<'_>
+    ensures { lent result ≡ owned job.now }
 {
-    match str::from_utf8(payload) {
-        Ok(text) => text,
-        Err(_) => "?",
+    JobRef {
+        id: job.id,
+        deadline: job.deadline,
+        attempts: job.attempts,
+        bytes: job.bytes.as_slice(),
     }
-}
-
-// Returns the line of a job.
-fn show(alloc: Global, id: u64, deadline: u64, bytes: &[u8]) -> Result<String, AllocError>
-    ensures { IfOk result (λ text. (attempts : ℕ) → IsJobLine (record { id = id; deadline = deadline; attempts = attempts; bytes = bytes.now }) (string_bytes text)) }
-{
-    let payload = text_of(bytes);
-    let text = format!(in alloc; "{id} {deadline} {payload}\n")?;
-    Ok(text)
 }
 
 // Returns the answer to a claim.
-fn show_claimed(alloc: Global, job: &Option<Job>) -> Result<String, Fault>
-    ensures { IfOk result (λ text. Shows (option_map owned job.now) (string_bytes text)) }
+fn show_claimed(alloc: Global, style: Style, job: &Option<Job>) -> Result<String, Fault>
+    ensures { IfOk result (λ text. Shows style.is_json style.has_dates (option_map owned job.now) (string_bytes text)) }
 {
     match job {
-        Some(job) => Ok(show(alloc, job.id.0, job.deadline, &job.bytes)?),
-        None => Ok(String::from_str(alloc, "no job\n")?),
+        Some(job) => Ok(job_text(alloc, style, Some(lend(job)))?),
+        None => Ok(job_text(alloc, style, None)?),
     }
 }
 
-// Takes all jobs off that are due, and returns their lines.
-fn pop_due<S: Rows>(alloc: Global, store: &mut Store<S>, now: u64) -> Result<String, Fault>
-    ensures pops { IfOk result (λ text. PopsAll now store.old.plan store.new.plan (string_bytes text)) }
+// Takes all jobs off that are due, and returns the answer that shows them.
+fn pop_due<S: Rows>(
+    alloc: Global,
+    style: Style,
+    store: &mut Store<S>,
+    now: u64,
+) -> Result<String, Fault>
+    ensures pops { IfOk result (λ text. PopsAll style now store.old.plan store.new.plan (string_bytes text)) }
     ensures clean { IsClean (S.Store.view (rows_of store.new.table)) → IsClean (S.Store.view (rows_of store.old.table)) }
     ensures crash { (trees : Trees) → S.Store.recovers (rows_of store.new.table) trees → S.Store.recovers (rows_of store.old.table) trees }
 {
-    let mut text = String::new(alloc);
+    let mut shown = Shown::new(alloc);
     'jobs: for _ in 0..u64::MAX {
         match store.pop_due(now) {
-            Ok(Some(job)) => {
-                let shown = show(alloc, job.id.0, job.deadline, &job.bytes)?;
-                text.push_str(&shown)?;
-            }
-            Ok(None) => return Ok(text),
+            Ok(Some(job)) => shown.push(alloc, style, lend(&job))?,
+            Ok(None) => return Ok(shown.text(alloc, style)?),
             Err(error) => return Err(Fault::Store(error)),
         }
     }
     Err(Fault::Memory)
 }
 
-// Returns the answer that tells the first deadline.
-fn next<S: Rows>(alloc: Global, store: &Store<S>) -> Result<String, Fault>
-    ensures { IfOk result (λ text. string_bytes text ≡ deadline_line (first_deadline store.now.plan.jobs)) }
-{
-    match store.next_deadline() {
-        Some(deadline) => Ok(format!(in alloc; "{deadline}\n")?),
-        None => Ok(String::from_str(alloc, "no job\n")?),
-    }
-}
-
-/// Returns a line for each job.
-pub fn list<S: Rows>(alloc: Global, store: &Store<S>) -> Result<String, Fault> {
-    let mut text = String::new(alloc);
+/// Returns the answer that shows all jobs.
+pub fn list<S: Rows>(alloc: Global, style: Style, store: &Store<S>) -> Result<String, Fault> {
+    let mut shown = Shown::new(alloc);
     for job in store.iter() {
-        text.push_str(&show(alloc, job.id.0, job.deadline, job.bytes)?)?;
+        shown.push(alloc, style, job)?;
     }
-    Ok(text)
+    Ok(shown.text(alloc, style)?)
 }

@@ -4,24 +4,16 @@ use crate::old_log::OldFault;
 use crate::serve::Stop;
 use agenda_store::StoreError;
 use job_table::FileError;
+use line_service::{BAD_DATA, IO_FAILED, NO_INPUT, NO_MEMORY, NOT_CREATED};
 use sqlite_trees::error::StoreError as RowsError;
 use std::alloc::AllocError;
 use std::io;
 use thiserror::Error;
 
-/// Reading, writing or a commit failed.
-const FAILED: u8 = 1;
+/// A commit failed after the agenda was opened: all that was answered lasts.
+const COMMIT_FAILED: u8 = 1;
 
-/// The arguments can't be obeyed.
-pub const WRONG_USAGE: u8 = 64;
-
-/// The file is no agenda, or damaged.
-const BAD_FILE: u8 = 65;
-
-/// The file can't be read or made.
-const BAD_DEVICE: u8 = 74;
-
-/// The file is in use.
+/// The file is in use: `EX_TEMPFAIL`.
 const IN_USE: u8 = 75;
 
 /// Why the program ends. The text follows the name of the file.
@@ -31,6 +23,8 @@ pub enum Failure {
     InUse,
     #[error("{0}")]
     Path(io::Error),
+    #[error("{0}")]
+    NotCreated(io::Error),
     #[error("the device failed")]
     Device,
     #[error("the device is full")]
@@ -103,16 +97,29 @@ impl Failure {
     pub fn status(&self) -> u8 {
         match self {
             Failure::InUse => IN_USE,
-            Failure::Path(_) | Failure::Device | Failure::NoRoom | Failure::Memory => BAD_DEVICE,
+            Failure::Path(error) => status_at_path(error),
+            Failure::Exists | Failure::NotCreated(_) => NOT_CREATED,
+            Failure::Memory
+            | Failure::Old(OldFault::Memory)
+            | Failure::Stop(Stop::Memory | Stop::Commit(StoreError::OutOfMemory, _)) => NO_MEMORY,
             Failure::HotJournal
             | Failure::NotAnAgenda
             | Failure::OtherVersion(_)
             | Failure::Damaged
             | Failure::DamagedLog(_)
             | Failure::Old(_)
-            | Failure::Stop(Stop::Commit(StoreError::Rows(RowsError::Corrupt), _)) => BAD_FILE,
-            Failure::Exists => WRONG_USAGE,
-            Failure::Store(_) | Failure::Closing(_) | Failure::Stop(_) => FAILED,
+            | Failure::Stop(Stop::Commit(StoreError::Rows(RowsError::Corrupt), _)) => BAD_DATA,
+            Failure::Closing(_) | Failure::Stop(Stop::Commit(..)) => COMMIT_FAILED,
+            Failure::Device | Failure::NoRoom | Failure::Store(_) | Failure::Stop(_) => IO_FAILED,
         }
+    }
+}
+
+// Returns the exit status after a file couldn't be opened or read.
+fn status_at_path(error: &io::Error) -> u8 {
+    match error.kind() {
+        io::ErrorKind::NotFound | io::ErrorKind::PermissionDenied => NO_INPUT,
+        io::ErrorKind::OutOfMemory => NO_MEMORY,
+        _ => IO_FAILED,
     }
 }

@@ -124,15 +124,30 @@ fn disk_of(alloc: Global, bytes: &[u8]) -> io::Result<Memory>
     Ok(disk)
 }
 
-/// Copies the jobs of a file from before a damage of its log into a new file, and returns how many.
-pub fn salvage(rt: &HostRuntime, from: &str, to: &str) -> Result<usize, Failure> {
-    let rows = Image::read(rt, from)?.open_readable(rt.alloc())?;
-    let (jobs, rows) = gather(rt.alloc(), rows)?;
-    let Files { log: _, db } = rows.close();
-    let mut file = new_file(rt, to)?;
-    file.write_all(db.bytes())?;
-    file.sync_all()?;
-    Ok(jobs)
+/// What a damaged file has: its jobs from before the damage.
+#[derive(Drop)]
+pub struct Salvaged {
+    /// How many jobs there are.
+    pub jobs: usize,
+    db: Memory,
+}
+
+impl Salvaged {
+    /// Reads the jobs of a file from before a damage of its log. Nothing is written.
+    pub fn read(rt: &HostRuntime, path: &str) -> Result<Salvaged, Failure> {
+        let rows = Image::read(rt, path)?.open_readable(rt.alloc())?;
+        let (jobs, rows) = gather(rt.alloc(), rows)?;
+        let Files { log: _, db } = rows.close();
+        Ok(Salvaged { jobs, db })
+    }
+
+    /// Writes the jobs into a new file.
+    pub fn write(&self, rt: &HostRuntime, path: &str) -> Result<(), Failure> {
+        let mut file = new_file(rt, path)?;
+        file.write_all(self.db.bytes())?;
+        file.sync_all()?;
+        Ok(())
+    }
 }
 
 /// Makes a file, which must not be there, nor its log.
@@ -148,6 +163,6 @@ pub fn new_file(rt: &HostRuntime, path: &str) -> Result<File, Failure> {
     {
         Ok(file) => Ok(file),
         Err(error) if error.kind() == ErrorKind::AlreadyExists => Err(Failure::Exists),
-        Err(error) => Err(Failure::Path(error)),
+        Err(error) => Err(Failure::NotCreated(error)),
     }
 }

@@ -9,32 +9,45 @@ mod image;
 mod old_log;
 mod options;
 mod serve;
+mod shown;
 
 use agenda_store::{Checkpoint, Store};
 use answer::list;
-use failure::{Failure, WRONG_USAGE};
+use failure::Failure;
 use files::Opened;
-use image::{Image, salvage};
+use image::{Image, Salvaged};
 use job_table::JOB_OBJECT;
+use line_service::{Request, Style, arguments, ended, parse_arguments};
 use old_log::OldJobs;
-use options::Options;
+use options::{Options, Task, command};
 use serve::{Stop, serve};
 use sqlite_trees::memory::MemStore;
 use std::io::BufReader;
 use std::process::ExitCode;
-use std::{env, fs, io};
+use std::{fs, io};
 
 /// How many bytes of input are read at once, and so how many bytes of lines are answered together.
 const CAPACITY: usize = 65536;
 
 /// Answers the lines of standard input, with the jobs in these rows, and then copies their log into their file.
-fn answer_lines<S: Checkpoint + Drop>(rt: &HostRuntime, rows: S) -> Result<(), Failure> {
+fn answer_lines<S: Checkpoint + Drop>(
+    rt: &HostRuntime,
+    style: Style,
+    rows: S,
+) -> Result<(), Failure> {
     let mut store = match Store::open(rt.alloc(), rows) {
         Ok(store) => store,
         Err((error, _)) => return Err(Failure::from(error)),
     };
     let mut input = BufReader::with_capacity(rt.alloc(), CAPACITY, rt.reader())?;
-    serve(rt.alloc(), &mut store, &mut input, &mut io::writer(rt))?;
+    serve(
+        rt.alloc(),
+        rt,
+        style,
+        &mut store,
+        &mut input,
+        &mut io::writer(rt),
+    )?;
     match store.checkpoint() {
         Ok(()) => Ok(()),
         Err(error) => Err(Failure::Closing(error)),
@@ -42,20 +55,20 @@ fn answer_lines<S: Checkpoint + Drop>(rt: &HostRuntime, rows: S) -> Result<(), F
 }
 
 /// Answers lines, with the jobs in memory.
-fn remember(rt: &HostRuntime) -> Result<(), Failure> {
+fn remember(rt: &HostRuntime, style: Style) -> Result<(), Failure> {
     match MemStore::new(rt.alloc(), &[JOB_OBJECT]) {
-        Ok(rows) => answer_lines(rt, rows),
+        Ok(rows) => answer_lines(rt, style, rows),
         Err(_) => Err(Failure::Memory),
     }
 }
 
 /// Lists the jobs of rows.
-fn list_rows<S: Checkpoint + Drop>(rt: &HostRuntime, rows: S) -> Result<(), Failure> {
+fn list_rows<S: Checkpoint + Drop>(rt: &HostRuntime, style: Style, rows: S) -> Result<(), Failure> {
     let store = match Store::open(rt.alloc(), rows) {
         Ok(store) => store,
         Err((error, _)) => return Err(Failure::from(error)),
     };
-    let Ok(text) = list(rt.alloc(), &store) else {
+    let Ok(text) = list(rt.alloc(), style, &store) else {
         return Err(Failure::Memory);
     };
     match print!(rt; "{}", text.as_str()) {
@@ -65,24 +78,24 @@ fn list_rows<S: Checkpoint + Drop>(rt: &HostRuntime, rows: S) -> Result<(), Fail
 }
 
 /// Answers lines, with the jobs in a file.
-fn keep(rt: &HostRuntime, path: &str) -> Result<(), Failure> {
+fn keep(rt: &HostRuntime, style: Style, path: &str) -> Result<(), Failure> {
     let Opened { rows, lock } = files::open(rt, path)?;
-    let done = answer_lines(rt, rows);
+    let done = answer_lines(rt, style, rows);
     drop(lock);
     done
 }
 
 /// Lists the jobs of a file.
-fn show(rt: &HostRuntime, path: &str) -> Result<(), Failure> {
-    list_rows(rt, Image::read(rt, path)?.open(rt.alloc())?)
+fn show(rt: &HostRuntime, style: Style, path: &str) -> Result<(), Failure> {
+    list_rows(rt, style, Image::read(rt, path)?.open(rt.alloc())?)
 }
 
 /// Begins a file with the jobs of one of the earlier format, and then answers lines.
-fn import(rt: &HostRuntime, path: &str, old: &OldJobs) -> Result<(), Failure> {
+fn import(rt: &HostRuntime, style: Style, path: &str, old: &OldJobs) -> Result<(), Failure> {
     drop(image::new_file(rt, path)?);
     let Opened { mut rows, lock } = files::open(rt, path)?;
     old.fill(rt.alloc(), &mut rows)?;
-    let done = answer_lines(rt, rows);
+    let done = answer_lines(rt, style, rows);
     drop(lock);
     done
 }
@@ -92,49 +105,55 @@ fn old_jobs(rt: &HostRuntime, path: &str) -> Result<OldJobs, Failure> {
     Ok(OldJobs::read(rt.alloc(), &fs::read(rt, path)?)?)
 }
 
-/// Copies what a damaged file has, and says how much.
-fn rescue(rt: &HostRuntime, from: &str, to: &str) -> Result<(), Failure> {
-    let jobs = salvage(rt, from, to)?;
-    match println!(rt; "{jobs} jobs copied to {to}") {
+/// Writes what a damaged file had into a new one, and says how much it is.
+fn rescue(rt: &HostRuntime, found: &Salvaged, path: &str) -> Result<(), Failure> {
+    found.write(rt, path)?;
+    let jobs = found.jobs;
+    match println!(rt; "{jobs} jobs copied to {path}") {
         Ok(()) => Ok(()),
         Err(error) => Err(Failure::Stop(Stop::Output(error))),
     }
 }
 
 /// Says why the program ends, in a line that names the file, and returns the exit status.
-fn end(rt: &HostRuntime, path: &str, done: Result<(), Failure>) -> io::Result<ExitCode> {
+fn end(rt: &HostRuntime, path: &str, done: Result<(), Failure>) -> ExitCode {
     match done {
-        Ok(()) => Ok(ExitCode::SUCCESS),
+        Ok(()) => ExitCode::SUCCESS,
         Err(failure) => {
-            eprintln!(rt; "jobs: {path}: {failure}")?;
-            Ok(ExitCode::from(failure.status()))
+            let _ = eprintln!(rt; "jobs: {path}: {failure}");
+            ExitCode::from(failure.status())
         }
     }
 }
 
 /// Does what the options ask for.
-fn run(rt: &HostRuntime, options: &Options) -> io::Result<ExitCode> {
-    match options {
-        Options::Memory => end(rt, "in memory", remember(rt)),
-        Options::File(path) => end(rt, path.as_str(), keep(rt, path.as_str())),
-        Options::ReadOnly(path) => end(rt, path.as_str(), show(rt, path.as_str())),
-        Options::Import(path, old) => match old_jobs(rt, old.as_str()) {
-            Ok(jobs) => end(rt, path.as_str(), import(rt, path.as_str(), &jobs)),
+fn run(rt: &HostRuntime, options: &Options) -> ExitCode {
+    let style = options.style;
+    match &options.task {
+        Task::Memory => end(rt, "in memory", remember(rt, style)),
+        Task::File(path) => end(rt, path.as_str(), keep(rt, style, path.as_str())),
+        Task::ReadOnly(path) => end(rt, path.as_str(), show(rt, style, path.as_str())),
+        Task::Import(path, old) => match old_jobs(rt, old.as_str()) {
+            Ok(jobs) => end(rt, path.as_str(), import(rt, style, path.as_str(), &jobs)),
             Err(failure) => end(rt, old.as_str(), Err(failure)),
         },
-        Options::Salvage(from, to) => {
-            end(rt, from.as_str(), rescue(rt, from.as_str(), to.as_str()))
-        }
+        Task::Salvage(from, to) => match Salvaged::read(rt, from.as_str()) {
+            Ok(found) => end(rt, to.as_str(), rescue(rt, &found, to.as_str())),
+            Err(failure) => end(rt, from.as_str(), Err(failure)),
+        },
     }
 }
 
-fn main(rt: HostRuntime) -> io::Result<ExitCode> {
-    let words: Vec<String> = env::args(&rt)?.collect(rt.alloc())?;
-    match Options::read(rt.alloc(), &words) {
-        Ok(options) => run(&rt, &options),
-        Err(error) => {
-            error.print(&rt)?;
-            Ok(ExitCode::from(if error.use_stderr() { WRONG_USAGE } else { 0 }))
-        }
+/// Does what the command line asks for.
+fn run_by_arguments(rt: &HostRuntime) -> Result<ExitCode, line_service::Failure> {
+    let words = arguments(rt)?;
+    match parse_arguments(rt, "jobs", command(rt.alloc())?, words.as_slice())? {
+        Request::End(status) => Ok(status),
+        Request::Run(matches) => Ok(run(rt, &Options::of(rt.alloc(), &matches)?)),
     }
+}
+
+fn main(rt: HostRuntime) -> ExitCode {
+    let outcome = run_by_arguments(&rt);
+    ended(&rt, "jobs", outcome)
 }

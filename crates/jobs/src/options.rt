@@ -1,9 +1,8 @@
 //! The arguments.
 
-use clap::{Arg, ArgAction, ArgMatches, Command, Error};
+use clap::{Arg, ArgAction, ArgMatches, Command};
+use line_service::{Style, VERSION};
 use std::alloc::{AllocError, Global};
-
-const VERSION: &str = "0.1.0";
 
 /// What the line `help` is answered.
 pub const LINES: &str = "\
@@ -12,27 +11,40 @@ Lines on standard input, each answered on standard output:
   cancel NUMBER         takes a job off
   done NUMBER           the same, once a claimed job is done
   move NUMBER DEADLINE  gives a job another deadline
-  due NOW               takes off all jobs whose deadline is at most NOW, and answers a line for each
-  claim NOW UNTIL       answers the first job whose deadline is at most NOW, and gives it the deadline UNTIL
+  due [NOW]             takes off all jobs whose deadline is at most NOW, and answers a line for each
+  claim [NOW] UNTIL     answers the first job whose deadline is at most NOW, and gives it the deadline UNTIL
   next                  the deadline of the first job
   list                  all jobs in order, a line for each
   compact               copies the log into the file
   help                  prints this
+DEADLINE, NOW and UNTIL are numbers, or dates of RFC 3339 with a zone, as 2026-12-01T08:00:00Z, which
+stand for their seconds since 1970-01-01T00:00:00Z. NOW is the time of the clock if it is left out.
 ";
 
 const AFTER: &str = "\
 Lines that are there together are answered together, once what they change is on the disk. A bad line
-is answered by `line N: REASON` and changes nothing; the line help lists all commands.
+is answered by `line N: REASON` and changes nothing; the line help lists all commands. With --json
+each line, a blank or bad one too, is answered by exactly one line. Times are numbers, or dates as
+2026-12-01T08:00:00Z, which stand for their seconds since 1970-01-01T00:00:00Z.
 
 Example:
-  printf 'at 1700 tea with milk\\nnext\\n' | jobs --file plan.jobs
+  printf 'at 2026-12-01T08:00:00Z tea with milk\\nnext\\n' | jobs --file plan.jobs --dates
 
-Exit status: 0; 1 if reading, writing or a commit failed; 64 on wrong usage; 65 if the file is no
-agenda or damaged; 74 if it can't be read or made; 75 if it is in use.";
+Exit status: 0; 64 on wrong usage; 65 if the file is no agenda or damaged; 66 if it can't be opened;
+71 out of memory; 73 if the file is to be new and exists, or can't be made; 74 if reading, writing or
+a commit failed: start the program again, and all that was answered is there; 75 if the file is in use.";
 
 /// What the arguments ask for.
 #[derive(Drop)]
-pub enum Options {
+pub struct Options {
+    pub task: Task,
+    /// How answers are to be written.
+    pub style: Style,
+}
+
+/// What is to be done.
+#[derive(Drop)]
+pub enum Task {
     /// Lines are to be answered, with the jobs in memory.
     Memory,
     /// Lines are to be answered, with the jobs in the file of this path.
@@ -45,59 +57,85 @@ pub enum Options {
     Salvage(String, String),
 }
 
-// Returns the command line.
-fn command<'a>(alloc: Global) -> Result<Command<'a>, Error> {
+// Returns an option without a value.
+fn flag<'a>(alloc: Global, name: &'static str, help: &'static str) -> Arg<'a> {
+    Arg::new(alloc, name)
+        .long(name)
+        .action(ArgAction::SetTrue)
+        .help(help)
+}
+
+// Returns the options that say where the jobs live.
+fn with_files<'a>(alloc: Global, command: Command<'a>) -> Result<Command<'a>, AllocError> {
     let file = Arg::new(alloc, "file").long("file").value_name("PATH").help(
         "Keeps the jobs in this file, and its log in PATH-wal; otherwise they live in memory",
     );
-    let read_only = Arg::new(alloc, "read-only")
-        .long("read-only")
-        .action(ArgAction::SetTrue)
-        .requires_arg("file")?
-        .help("Lists the jobs of the file, and writes nothing");
+    let read_only = flag(
+        alloc,
+        "read-only",
+        "Lists the jobs of the file, and writes nothing",
+    )
+    .requires_arg("file")?;
     let import = Arg::new(alloc, "import")
         .long("import")
         .value_name("OLD")
         .requires_arg("file")?
         .conflicts_with("read-only")?
         .help("Begins the file, which must be new, with the jobs of a file of the earlier format");
-    let salvage = Arg::new(alloc, "salvage")
+    command.arg(file)?.arg(read_only)?.arg(import)
+}
+
+// Returns the option that copies what a damaged file has. It answers no lines.
+fn with_salvage<'a>(alloc: Global, command: Command<'a>) -> Result<Command<'a>, AllocError> {
+    let mut salvage = Arg::new(alloc, "salvage")
         .long("salvage")
         .value_name("FILE")
         .num_args(2)
-        .conflicts_with("file")?
-        .conflicts_with("read-only")?
-        .conflicts_with("import")?
         .help(
             "Copies the jobs of the first file from before a damage into the second, which must be new",
         );
-    Ok(
-        Command::new(alloc, "jobs")
-            .version(VERSION)
-            .about(
-                "Keeps jobs by deadline. With --file they survive a crash. Reads one command per line.",
-            )
-            .after_help(AFTER)
-            .arg(file)?
-            .arg(read_only)?
-            .arg(import)?
-            .arg(salvage)?,
-    )
+    for other in ["file", "read-only", "import", "framed", "json", "dates"] {
+        salvage = salvage.conflicts_with(other)?;
+    }
+    command.arg(salvage)
 }
 
-// Returns what matched arguments ask for.
-fn options_of(alloc: Global, matches: &ArgMatches<'_>) -> Result<Options, AllocError> {
+/// Returns the command line.
+pub fn command<'a>(alloc: Global) -> Result<Command<'a>, AllocError> {
+    let command = Command::new(alloc, "jobs")
+        .version(VERSION)
+        .about(
+            "Keeps jobs by deadline. With --file they survive a crash. Reads one command per line.",
+        )
+        .after_help(AFTER);
+    let command = with_salvage(alloc, with_files(alloc, command)?)?;
+    command
+        .arg(flag(
+            alloc,
+            "framed",
+            "Ends each answer with an empty line, so that a client knows when it is over",
+        ))?
+        .arg(flag(alloc, "json", "Answers each line with one line of JSON"))?
+        .arg(flag(
+            alloc,
+            "dates",
+            "Writes times as dates, 2026-12-01T08:00:00Z",
+        ))
+}
+
+// Returns what is to be done by matched arguments.
+fn task_of(alloc: Global, matches: &ArgMatches<'_>) -> Result<Task, AllocError> {
     if let Some([from, to]) = matches.get_strs("salvage") {
-        return Ok(Options::Salvage(owned(alloc, from)?, owned(alloc, to)?));
+        return Ok(Task::Salvage(owned(alloc, from)?, owned(alloc, to)?));
     }
     let Some(path) = matches.get_str("file") else {
-        return Ok(Options::Memory);
+        return Ok(Task::Memory);
     };
     let path = owned(alloc, path)?;
     match matches.get_str("import") {
-        Some(old) => Ok(Options::Import(path, owned(alloc, old)?)),
-        None if matches.get_flag("read-only") => Ok(Options::ReadOnly(path)),
-        None => Ok(Options::File(path)),
+        Some(old) => Ok(Task::Import(path, owned(alloc, old)?)),
+        None if matches.get_flag("read-only") => Ok(Task::ReadOnly(path)),
+        None => Ok(Task::File(path)),
     }
 }
 
@@ -106,9 +144,15 @@ fn owned(alloc: Global, text: &str) -> Result<String, AllocError> {
 }
 
 impl Options {
-    /// Reads the arguments. Help, the version and what is wrong with the arguments come as an error, whose text says it.
-    pub fn read(alloc: Global, words: &[String]) -> Result<Options, Error> {
-        let matches = command(alloc)?.try_get_matches_from(words)?;
-        Ok(options_of(alloc, &matches)?)
+    /// Returns what matched arguments ask for.
+    pub fn of(alloc: Global, matches: &ArgMatches<'_>) -> Result<Options, AllocError> {
+        Ok(Options {
+            task: task_of(alloc, matches)?,
+            style: Style {
+                is_framed: matches.get_flag("framed"),
+                is_json: matches.get_flag("json"),
+                has_dates: matches.get_flag("dates"),
+            },
+        })
     }
 }

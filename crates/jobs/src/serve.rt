@@ -1,18 +1,21 @@
 //! Batches of lines: the lines that are there together are obeyed together, committed once, and answered.
 
-ghost use Rattle.std.specs.Prelude.{◌≡◌, ◌≤◌, ◌⊎◌, IfOk, OnOk, OnErr, length, string_bytes, take};
+ghost use Rattle.std.specs.Prelude.{◌≡◌, ◌≤◌, ◌⊎◌, ◌++◌, IfOk, OnOk, OnErr, length, string_bytes, take};
 ghost use Rattle.std.specs.Io.KnownBytes.{Appends, Keeps};
 ghost use Rattle.sqlite_trees.specs.Tree.{Trees};
 ghost use Rattle.sqlite_trees.specs.View.{IsClean};
 ghost use Rattle.agenda_store.specs.Table.{TreesStandFor, rows_of};
-ghost use Rattle.jobs.specs.Serving.{Serves, ServesAll, TakesLine, WritesFront};
+ghost use Rattle.jobs.specs.Serving.{Serves, ServesAll, TakesLine, WritesFront, framed};
 
-use crate::answer::{Fault, complain, obey};
+use crate::answer::{Fault, obey};
 use crate::command::Command;
+use crate::shown::complaint_text;
 use agenda_store::{Checkpoint, Store, StoreError};
+use line_service::Style;
 use std::alloc::{AllocError, Global};
 use std::io;
 use std::io::{BufRead, BufReader, ErrorKind, Read, Write};
+use std::time::Clock;
 use thiserror::Error;
 
 /// Why serving ended before the input did.
@@ -38,6 +41,16 @@ impl From<AllocError> for Stop {
     }
 }
 
+// Returns why a read, or an allocation for it, ends the program.
+fn unread(error: io::Error) -> Stop
+    ensures { (result ≡ Stop.Input error) ⊎ (result ≡ Stop.Memory) }
+{
+    match error.kind() {
+        ErrorKind::OutOfMemory => Stop::Memory,
+        _ => Stop::Input(error),
+    }
+}
+
 // A batch of lines: their answers, the numbers of the first and the last, and whether one asks that the log be copied.
 #[derive(Drop)]
 struct Batch {
@@ -49,31 +62,45 @@ struct Batch {
 }
 
 impl Batch {
-    // Obeys one more line, and keeps its answer. An empty line says nothing.
-    fn take<S: Checkpoint>(&mut self, store: &mut Store<S>, line: &[u8]) -> Result<(), Stop>
-        ensures step { OnOk result (TakesLine store.old.plan store.new.plan (string_bytes self.old.answers) (string_bytes self.new.answers)) }
+    // Obeys one more line, and keeps its answer.
+    fn take<S: Checkpoint>(
+        &mut self,
+        clock: &impl Clock,
+        style: Style,
+        store: &mut Store<S>,
+        line: &[u8],
+    ) -> Result<(), Stop>
+        ensures step { OnOk result (TakesLine style store.old.plan store.new.plan (string_bytes self.old.answers) (string_bytes self.new.answers)) }
         ensures clean { IsClean (S.Store.view (rows_of store.new.table)) → IsClean (S.Store.view (rows_of store.old.table)) }
         ensures crash { (trees : Trees) → S.Store.recovers (rows_of store.new.table) trees → S.Store.recovers (rows_of store.old.table) trees }
     {
         self.last = self.last.saturating_add(1);
-        if line.trim_ascii().is_empty() {
-            return Ok(());
-        }
-        let command = match Command::read(line) {
+        let command = match Command::read(clock, line) {
             Ok(command) => command,
             Err(misread) => {
-                let text = complain(self.alloc, self.last, misread)?;
-                self.answers.push_str(&text)?;
+                let text = complaint_text(self.alloc, style, self.last, misread)?;
+                self.keep(style, &text)?;
                 return Ok(());
             }
         };
-        match obey(self.alloc, store, self.last, command) {
-            Ok(text) => self.answers.push_str(&text)?,
+        match obey(self.alloc, style, store, self.last, command) {
+            Ok(text) => self.keep(style, &text)?,
             Err(Fault::Store(error)) => return Err(Stop::Commit(error, self.first)),
             Err(Fault::Memory) => return Err(Stop::Memory),
         }
         if let Command::Compact = command {
             self.is_compacting = true;
+        }
+        Ok(())
+    }
+
+    // Keeps an answer, in a frame if the style has frames.
+    fn keep(&mut self, style: Style, text: &str) -> Result<(), AllocError>
+        ensures { OnOk result (string_bytes self.new.answers ≡ string_bytes self.old.answers ++ framed style.is_framed text.now) }
+    {
+        self.answers.push_str(text)?;
+        if style.is_framed {
+            self.answers.push('\n')?;
         }
         Ok(())
     }
@@ -134,20 +161,22 @@ fn write_answers<W: Write>(out: &mut W, answers: &[u8]) -> Result<(), Stop>
     Err(Stop::Output(ErrorKind::WriteZero.into()))
 }
 
-/// Obeys each line of the input in turn. The lines that are there together are answered together, after one commit. A last line needs no
-/// end.
+/// Obeys each line of the input in turn, and answers it in this style. The lines that are there together are answered together, after one
+/// commit. A last line needs no end. The clock is asked where a line leaves out a time.
 ///
 /// # Errors
 ///
 /// What was written are the answers of lines that are committed, or a beginning of these.
 pub fn serve<S: Checkpoint, R: Read + Drop, W: Write>(
     alloc: Global,
+    clock: &impl Clock,
+    style: Style,
     store: &mut Store<S>,
     input: &mut BufReader<R>,
     out: &mut W,
 ) -> Result<(), Stop>
-    ensures all { OnOk result (ServesAll S.Store store.old store.new (W.contents out.old) (W.contents out.new)) }
-    ensures served { Serves S.Store store.old store.new (W.contents out.old) (W.contents out.new) }
+    ensures all { OnOk result (ServesAll S.Store style store.old store.new (W.contents out.old) (W.contents out.new)) }
+    ensures served { Serves S.Store style store.old store.new (W.contents out.old) (W.contents out.new) }
 {
     let mut batch = Batch {
         alloc,
@@ -161,8 +190,8 @@ pub fn serve<S: Checkpoint, R: Read + Drop, W: Write>(
         line.clear();
         match input.read_until(b'\n', &mut line) {
             Ok(0) => break,
-            Ok(_) => batch.take(store, &line)?,
-            Err(error) => return Err(Stop::Input(error)),
+            Ok(_) => batch.take(clock, style, store, &line)?,
+            Err(error) => return Err(unread(error)),
         }
         if !input.buffer().contains(&b'\n') {
             batch.commit(store)?;

@@ -60,12 +60,20 @@ impl Failure {
 }
 
 impl From<AllocError> for Failure {
+    ghost use Rattle.line_service.specs.Ending.{IsOfMemory};
+
+    ghost from_gives = { λ refused failure. IsOfMemory failure };
+
     fn from(_refused: AllocError) -> Failure {
         Failure::Memory
     }
 }
 
 impl<T: Drop> From<AllocFailed<T>> for Failure {
+    ghost use Rattle.line_service.specs.Ending.{IsOfMemory};
+
+    ghost from_gives = { λ refused failure. IsOfMemory failure };
+
     fn from(_refused: AllocFailed<T>) -> Failure {
         Failure::Memory
     }

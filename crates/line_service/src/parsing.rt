@@ -1,9 +1,14 @@
 //! Command lines, which `clap` parses.
 
+ghost use Rattle.std.specs.Prelude.{◌≡◌, ◌⊎◌, IfOk, IfErr};
+ghost use Rattle.std.specs.Process.{exit_status};
+ghost use Rattle.line_service.specs.Ending.{IsOfArguments, IsOfStreams, Ends};
+
 use crate::failure::Failure;
 use crate::status::WRONG_USAGE;
 use clap::error::ErrorKind;
 use clap::{ArgMatches, Command};
+use std::alloc::{AllocError, Global};
 use std::env::Env;
 use std::process::ExitCode;
 use std::{env, io};
@@ -26,7 +31,11 @@ pub enum Request<'a> {
 ///
 /// - `Arguments`: an argument isn't UTF-8.
 /// - `Memory`: an allocation failed.
-pub fn arguments(rt: &(impl Env + AllocGlobal)) -> Result<Vec<String>, Failure> {
+///
+/// Which words there are can't be a clause: the environment has no value in contracts.
+pub fn arguments(rt: &(impl Env + AllocGlobal)) -> Result<Vec<String>, Failure>
+    ensures err { IfErr result IsOfArguments }
+{
     let words = env::args(rt).map_err(unread)?;
     Ok(words.collect(rt.alloc())?)
 }
@@ -43,7 +52,10 @@ pub fn parse_arguments<'a>(
     program: &str,
     command: Command<'a>,
     words: &'a [String],
-) -> Result<Request<'a>, Failure> {
+) -> Result<Request<'a>, Failure>
+    ensures end { IfOk result (λ request. Ends request) }
+    ensures err { IfErr result IsOfStreams }
+{
     match command.try_get_matches_from(words) {
         Ok(matches) => Ok(Request::Run(matches)),
         Err(error) => Ok(Request::End(answered(rt, program, &error)?)),
@@ -55,7 +67,10 @@ fn answered(
     rt: &(impl Print + Eprint + AllocGlobal),
     program: &str,
     error: &clap::Error,
-) -> Result<ExitCode, Failure> {
+) -> Result<ExitCode, Failure>
+    ensures status { IfOk result (λ status. (exit_status status ≡ 0) ⊎ (exit_status status ≡ 64)) }
+    ensures err { IfErr result IsOfStreams }
+{
     match error.kind() {
         ErrorKind::OutOfMemory => Err(Failure::Memory),
         ErrorKind::DisplayHelp | ErrorKind::DisplayVersion => {
@@ -64,21 +79,31 @@ fn answered(
         }
         _ => {
             let text = format!(in rt.alloc(); "{error}")?;
-            let mistake = mistake_in(text.as_str());
+            let mistake = mistake_in(rt.alloc(), text.as_str())?;
+            let mistake = mistake.as_str();
             let _ = eprintln!(rt; "{program}: {mistake}; try {program} --help");
             Ok(ExitCode::from(WRONG_USAGE))
         }
     }
 }
 
-// The first line of what `clap` says of a mistake, without its first word.
-fn mistake_in(text: &str) -> &str {
-    let line = text.lines().next().unwrap_or("");
-    line.strip_prefix("error: ").unwrap_or(line)
+// What `clap` says of a mistake, in one line: what stands before the first empty line, without its first word.
+fn mistake_in(alloc: Global, text: &str) -> Result<String, AllocError> {
+    let mut mistake = String::new(alloc);
+    let text = text.strip_prefix("error: ").unwrap_or(text);
+    for line in text.lines().take_while(|line| !line.is_empty()) {
+        if !mistake.is_empty() {
+            mistake.push(' ')?;
+        }
+        mistake.push_str(line.trim())?;
+    }
+    Ok(mistake)
 }
 
 // The failure of reading the arguments.
-fn unread(error: io::Error) -> Failure {
+fn unread(error: io::Error) -> Failure
+    ensures { IsOfArguments result }
+{
     match error.kind() {
         io::ErrorKind::OutOfMemory => Failure::Memory,
         _ => Failure::Arguments,

@@ -1,43 +1,51 @@
 //! Sessions of commands, one a line.
 
+ghost use Rattle.std.specs.Prelude.{IfErr};
+ghost use Rattle.line_service.specs.Ending.{IsOfStreams};
+
 use crate::failure::Failure;
+use crate::style::Style;
 use std::io;
 use std::io::{BufRead, BufReader, BufWriter, Write};
 
 /// What answers the lines of a session.
 pub trait Session {
-    /// Does what a line says, and writes the answer. The line ends as it was read.
+    /// Does what a line says, and writes the answer in this style, without the empty line of a framed one. The line ends as it was read.
     ///
     /// # Errors
     ///
     /// Writing the answer failed, or memory for it is refused.
-    fn answer<W: Write>(&mut self, out: &mut W, line: &[u8]) -> io::Result<()>;
+    fn answer<W: Write>(&mut self, out: &mut W, style: Style, line: &[u8]) -> io::Result<()>;
 
     /// Writes what is to be said after the last line.
     ///
     /// # Errors
     ///
     /// Writing failed, or memory for it is refused.
-    fn finish<W: Write>(&mut self, out: &mut W) -> io::Result<()>;
+    fn finish<W: Write>(&mut self, out: &mut W, style: Style) -> io::Result<()>;
 }
 
 /// Has each line of standard input answered in turn on standard output, and then has the session finished.
 ///
 /// What was answered is written once no whole line is left in the buffer of the input: after each line at a terminal, in blocks from a
-/// file. A last line needs no end. If `is_framed`, an empty line follows the answer to each line.
+/// file. A last line needs no end. In a framed style an empty line follows the answer to each line.
 ///
 /// # Errors
 ///
 /// Reading or writing failed, or memory is refused. The lines before were answered, as far as they could be written, and the session is
 /// not finished.
+///
+/// What is written can't be a clause: it is a session's, and standard output has no value in contracts.
 pub fn serve<S: Session>(
     rt: &(impl Input + Print + AllocGlobal),
     session: &mut S,
-    is_framed: bool,
-) -> Result<(), Failure> {
+    style: Style,
+) -> Result<(), Failure>
+    ensures err { IfErr result IsOfStreams }
+{
     let mut out = BufWriter::new(rt.alloc(), io::writer(rt)).map_err(Failure::writing)?;
-    answer_lines(rt, &mut out, session, is_framed)?;
-    session.finish(&mut out).map_err(Failure::writing)?;
+    answer_lines(rt, &mut out, session, style)?;
+    session.finish(&mut out, style).map_err(Failure::writing)?;
     out.flush().map_err(Failure::writing)
 }
 
@@ -46,8 +54,10 @@ fn answer_lines<W: Write, S: Session>(
     rt: &(impl Input + AllocGlobal),
     out: &mut W,
     session: &mut S,
-    is_framed: bool,
-) -> Result<(), Failure> {
+    style: Style,
+) -> Result<(), Failure>
+    ensures err { IfErr result IsOfStreams }
+{
     let mut input = BufReader::new(rt.alloc(), rt.reader()).map_err(Failure::reading)?;
     let mut line = Vec::new(rt.alloc());
     for _ in 0..u64::MAX {
@@ -56,7 +66,7 @@ fn answer_lines<W: Write, S: Session>(
         if read.map_err(Failure::reading)? == 0 {
             break;
         }
-        answer_line(out, session, line.as_slice(), is_framed).map_err(Failure::writing)?;
+        answer_line(out, session, line.as_slice(), style).map_err(Failure::writing)?;
         if !input.buffer().contains(&b'\n') {
             out.flush().map_err(Failure::writing)?;
         }
@@ -69,10 +79,10 @@ fn answer_line<W: Write, S: Session>(
     out: &mut W,
     session: &mut S,
     line: &[u8],
-    is_framed: bool,
+    style: Style,
 ) -> io::Result<()> {
-    session.answer(out, line)?;
-    if is_framed {
+    session.answer(out, style, line)?;
+    if style.is_framed {
         writeln!(out)?;
     }
     Ok(())

@@ -8,6 +8,7 @@ pub use Rattle.triple_ord.specs.Arena
 pub use Rattle.triple_ord.specs.Chain
 pub use Rattle.triple_ord.specs.ChainCompression
 pub use Rattle.triple_ord.specs.Clone
+pub use Rattle.triple_ord.specs.ClosureSearch
 pub use Rattle.triple_ord.specs.Gap
 pub use Rattle.triple_ord.specs.Generation
 pub use Rattle.triple_ord.specs.Insert

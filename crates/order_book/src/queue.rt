@@ -134,7 +134,7 @@ impl<A: Allocator> OrderQueue<A> {
         Some(order_at(self.side, pointer, *rank, *lot))
     }
 
-    /// Puts an order behind all whose price is no worse, and returns its pointer.
+    /// Puts an order after every order with a price at least as good, and returns its pointer.
     ///
     /// # Errors
     ///

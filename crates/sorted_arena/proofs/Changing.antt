@@ -1,19 +1,17 @@
 -- What insertions and removals make of a sorted arena.
-use Rattle.std.proofs.Common.{◌≡◌, ℕ, ◌+◌, ◌<◌, ◌≤◌, max, ◌++◌, List, [], ◌∷◌, length, Option, Some, None, Result, Ok, Err, IfSome, OnOk, OnErr, IfOk, subst, refl, sym, ap, ◌∙◌, inr, arith, append-nil}
-use Rattle.std.proofs.lemmas.{List.Elements.All-from_recursion}
-use Rattle.std.specs.{Cmp.IsTotalOrder, Ordering.ordering_reverse, Option.option_map}
+use Rattle.std.proofs.Common.{◌≡◌, ℕ, ◌<◌, ◌≤◌, max, ◌++◌, List, [], ◌∷◌, Option, Some, Result, Ok, Err, OnOk, OnErr, subst, refl, sym, ap, ◌∙◌, arith, append-nil}
+use Rattle.std.specs.{Option.option_map}
 use Rattle.std.specs.Prelude.{IsErr, ◌↔◌}
 use Rattle.std.proofs.Common.{Bool, true, false, nat_lt, if◌then◌else◌}
-use Rattle.std.specs.declared.cmp.Ordering.{Ordering, TheVariants.Less, TheVariants.Equal, TheVariants.Greater}
-use Rattle.listing.specs.{PlainArena.limit_of, PlainArena.doubled_capacity, Tree.Tree, Shape.missing, Clone.cloned, Rekey.Rekeys as RekeysArena}
-use Rattle.listing.specs.Chain.{Entry, Chain, times, last_pointer, IsSound as IsSoundChain, chain_limit, removed, with_capacity, greatest_index, new_chain}
+use Rattle.std.specs.declared.cmp.Ordering.{Ordering}
+use Rattle.listing.specs.{PlainArena.doubled_capacity, Tree.Tree, Shape.missing, Clone.cloned}
+use Rattle.listing.specs.Chain.{Entry, Chain, times, last_pointer, chain_limit, with_capacity, greatest_index, new_chain}
 use Rattle.listing.proofs.ChainLemmas.{after-insertion, times-append}
-use Rattle.listing.specs.Arena.{item_of as item_of_arena, count as count_arena, with_room_for, Updates as UpdatesArena}
+use Rattle.listing.specs.Arena.{with_room_for}
 use Rattle.listing.specs.{Insertion.with_room_by, Insertion.InsertsNew, Growth.TheVariants.Reallocating}
-use Rattle.listing.specs.{Gap.with_between, Place.behind_key, Order.IsInOrder, OrdEntryKind.TheVariants.New}
-use Rattle.listing.proofs.OrdLemmas.{entries-with_room_by, numbers-inserted, numbers-with_room_by, capacity-inserted, inserted-new}
-use Rattle.listing.proofs.OrdLemmas.{kept_order, rekeyed_order, in_order-without, all_less, IsInOrder-back}
-use Rattle.sorted_arena.specs.Layout.{item_key, sorted_of, IsSortedArena, IsHeld, IsCompact}
+use Rattle.listing.specs.{Gap.with_between, Place.behind_key}
+use Rattle.listing.proofs.OrdLemmas.{entries-with_room_by}
+use Rattle.sorted_arena.specs.Layout.{item_key, IsHeld, IsCompact}
 use Rattle.sorted_arena.proofs.Numbering.{none-behind, compact-inserted, compact-roomy, compact-resized, vacant-numbered}
 
 -- a new entry behind all others leaves an arena compact

@@ -1,12 +1,12 @@
 -- Lists of entries that are cut at a place: what the words of a sorted arena say there.
-use Rattle.std.proofs.Common.{◌≡◌, ◌≤◌, ◌≢◌, ℕ, ◌==◌, true, false, Bool, List, [], ◌∷◌, ◌++◌, map, length, length-append, append_assoc, Option, Some, None, IsSome, IfSome, IfNone, IsSomeAnd, is_some, refl, sym, ap, subst, ◌∙◌, arith, inl, inr, if◌then◌else◌}
+use Rattle.std.proofs.Common.{◌≡◌, ◌≢◌, ℕ, true, false, Bool, List, [], ◌∷◌, ◌++◌, map, length, append_assoc, Option, Some, None, IsSome, IfSome, IfNone, IsSomeAnd, is_some, refl, sym, ap, subst, ◌∙◌, arith, inl, inr}
 use Rattle.std.proofs.lemmas.{Grind.common_steps, List.append-nil, List.Elements.All-from_recursion, List.Elements.recursion_from_All, Bool.Decides.eqb_tells}
 use Rattle.std.specs.{List.AllByRecursion, List.All, Option.option_map, Ordering.is_eq, Ordering.is_le, Ordering.is_lt, Ordering.is_gt, Ordering.ordering_reverse, Ordering.ordering_then, Cmp.IsTotalOrder}
 use Rattle.std.specs.declared.cmp.Ordering.{Ordering, TheVariants.Less, TheVariants.Equal, TheVariants.Greater}
 use Rattle.listing.specs.Chain.{Entry, times, entry_at, item_of, IsDistinct, link_at, first_pointer, last_pointer, without, with_item_among, pointed}
 use Rattle.listing.specs.Link.{Link}
 use Rattle.listing.specs.{Gap.Gap, Gap.before, Gap.after, Gap.first_of, Gap.last_of, Search.order_to, Search.FindsKey, Search.FindsSimilar, Order.IsInOrder, PastEquals.order_past_equals}
-use Rattle.listing.proofs.OrdLemmas.{IsInOrder-rest, IsInOrder-back, in_order-one, in_order-more, all_greater, all_less, recursion-map}
+use Rattle.listing.proofs.OrdLemmas.{IsInOrder-rest, IsInOrder-back, all_greater, all_less, recursion-map}
 use Rattle.listing.proofs.OrdLemmas.{ends, stands, not_before, entry_at-here, link-read, no_last}
 use Rattle.listing.proofs.ChainLemmas.{entry_at-link}
 use Rattle.listing.proofs.CallerLemmas.{distinct-rest, sorted-in_order}

@@ -1,6 +1,6 @@
 -- Pairs that are inserted behind the last key.
-use Rattle.std.proofs.Common.{◌≡◌, ◌≢◌, ℕ, suc, slice_index_or, slice_get, ◌++◌, List, [], ◌∷◌, map, take, length, length-append, arith, ◌+◌, true, false, Option, Some, None, Err, IsSomeAnd, refl, sym, ap, subst, ◌∙◌, append_assoc, append-nil}
-use Rattle.std.proofs.{lemmas.Grind.common_steps, lemmas.List.map-append, lemmas.List.length-map, lemmas.List.Elements.recursion_from_All}
+use Rattle.std.proofs.Common.{◌≡◌, ◌≢◌, ◌<◌, ◌≤◌, ℕ, suc, slice_index_or, slice_get, ◌++◌, List, [], ◌∷◌, map, take, length, length-append, arith, ◌+◌, true, false, Option, Some, None, Err, IsSomeAnd, refl, sym, ap, subst, ◌∙◌, append_assoc, append-nil}
+use Rattle.std.proofs.{lemmas.Grind.common_steps, lemmas.Bool.Decides.nat_tests, lemmas.List.map-append, lemmas.List.length-map}
 use Rattle.std.specs.{Option.option_map_or, List.AllByRecursion, List.AllAdjacentBelow, Ordering.is_gt, Ordering.is_lt, Ordering.ordering_reverse, Cmp.IsTotalOrder}
 use Rattle.std.specs.declared.cmp.Ordering.{Ordering, TheVariants.Less, TheVariants.Equal, TheVariants.Greater}
 use Rattle.listing.specs.{Chain.Entry, Gap.last_of, Order.IsInOrder}
@@ -142,9 +142,33 @@ module _ {K V : Type 0} (cmp : K → K → Ordering) where
     pub sorted-listed : (es : List (Entry (K × V))) (items : List (K × V)) → map pair_of es ≡ items → AreInOrder cmp items → AreSorted cmp es
     sorted-listed es items is order = sorted-items cmp es order.0 (is ∙ sym order.1) order.2
 
+-- a new entry takes no room away
+pub grown-more : {K V : Type 0} (cmp : K → K → Ordering) (most : ℕ) (now new : Sorted K V) (p : ℕ × ℕ) (x : K × V) → new ≡ with_entry cmp most now p x → now.capacity ≤ most → now.capacity ≤ new.capacity
+unfolding with_entry
+grown-more cmp most now new p x is limited = rw is (grind (arith, nat_tests, limited))
+
+-- so many pairs were inserted, and others are left
+pub fewer-held : {K V : Type 0} (old now : Sorted K V) (pairs front back : List (K × V)) → pairs ≡ front ++ back → map pair_of now.entries ≡ map pair_of old.entries ++ front → 0 < length back
+    → count now < count old + length pairs
+fewer-held {K = K} {V = V} old now pairs front back cut held more =
+    omega (
+      arith,
+      more,
+      ap length cut,
+      ap length held,
+      length-append front back,
+      length-append (map pair_of old.entries) front,
+      length-map now.entries (pair_of {K = K} {V = V}),
+      length-map old.entries (pair_of {K = K} {V = V}),
+    )
+
 -- pairs were inserted up to one that is refused
 module _ {K V : Type 0} (cmp : K → K → Ordering) (most : ℕ) (old now : Sorted K V) (pairs front back : List (K × V)) (cut : pairs ≡ front ++ back)
-    (held : map pair_of now.entries ≡ map pair_of old.entries ++ front) (keeps : Keeps old now) (steps : IsStep old now) (generation : now.generation ≡ old.generation) where
+    (held : map pair_of now.entries ≡ map pair_of old.entries ++ front) (keeps : Keeps old now) (steps : IsStep old now) (generation : now.generation ≡ old.generation)
+    (grown : old.capacity ≤ now.capacity) (room : count old + length pairs ≤ old.capacity → now.capacity ≡ old.capacity) (more : 0 < length back) where
+  fewer : count now < count old + length pairs
+  fewer = fewer-held old now pairs front back cut held more
+
   pub stopped : (e : SortedError) → ((at : ℕ) → e ≡ OutOfOrder at → IsOutOfOrder cmp (map pair_of old.entries) pairs at)
       → ((at : ℕ) → e ≡ OutOfOrder at → map pair_of now.entries ≡ map pair_of old.entries ++ take at pairs) → (e ≡ BeyondMaxCapacity → count now ≡ most)
       → (e ≡ AllocError → count now ≡ now.capacity) → ExtendsSorted cmp most old pairs (Err e) now
@@ -153,9 +177,12 @@ module _ {K V : Type 0} (cmp : K → K → Ordering) (most : ℕ) (old now : Sor
     unsorted = λ at is. unsorted at (cc);
     before = λ at is. before at (cc);
     part = (front, back, cut, held);
+    refused = fewer;
     kept = keeps;
     step = steps;
     generation = generation;
-    full = λ is. full (cc);
-    memory = λ is. memory (cc);
+    grown = grown;
+    room = room;
+    full = λ is. let all : count now ≡ most = full (cc) in (all, omega (arith, all, fewer));
+    memory = λ is. let all : count now ≡ now.capacity = memory (cc) in (all, omega (arith, all, fewer, grown));
   }

@@ -1,5 +1,5 @@
 -- What many removals make of a sorted arena.
-use Rattle.std.proofs.Common.{◌≡◌, ℕ, suc, ◌+◌, ◌-◌, ◌++◌, length, length-append, List, [], ◌∷◌, Option, Some, None, IfNone, OnSome, is_some, refl, sym, ap, ◌∙◌, arith}
+use Rattle.std.proofs.Common.{◌≡◌, ℕ, suc, ◌+◌, ◌-◌, ◌++◌, length, length-append, List, [], ◌∷◌, Option, Some, None, IfNone, OnSome, refl, ap, ◌∙◌, arith}
 use Rattle.listing.specs.{Chain.Entry, Chain.first_pointer, Chain.last_pointer, Generation.next_generation}
 use Rattle.listing.proofs.CallerLemmas.{without_entry-none, without_first-none}
 use Rattle.sorted_arena.specs.Sorted.{Sorted, count, get, first_item, last_item, generation_after, with_left, with_rest, without_entry, without_first, without_last}

@@ -3,7 +3,7 @@ use Rattle.std.proofs.Common.{◌≡◌, ℕ, Bool, true, false, ◌+◌, ◌<�
 use Rattle.std.proofs.lemmas.List.{append-nil}
 use Rattle.std.specs.Option.{option_map}
 use Rattle.listing.specs.{Chain.Entry, Chain.IsDistinct, Chain.without as without_index, Gap.first_of}
-use Rattle.sorted_arena.specs.Sorted.{Sorted, count, pointer_of, get, next_of, with_left, with_rest, with_passing, without_entry}
+use Rattle.sorted_arena.specs.Sorted.{Sorted, count, pointer_of, get, next_of, with_left, with_rest, without_entry}
 use Rattle.sorted_arena.specs.Taking.{IsCutAt, TakesOut, AsksFor}
 use Rattle.sorted_arena.proofs.{Cutting.next-here, Cutting.found-here, Cutting.without-here, Outside.IsPart}
 use Rattle.sorted_arena.proofs.Removing.{RemovesMany, removes-none, removes-more, removes-rest}
@@ -70,7 +70,7 @@ module _ {K V : Type 0} (greatest : Option ℕ) (old : Sorted K V) (middle other
       }
 
       pub taking-more : (item : K × V) (new : Sorted K V) (after : Option (ℕ × ℕ)) (Q : List (Entry (K × V)) → Type 0) → ((at : IsCutAt now.entries next) → TakesOut greatest now next at item new after)
-          → ((taken later : List (Entry (K × V))) (e : Entry (K × V)) → middle ≡ taken ++ e ∷ later → item ≡ e.item → P taken → Q (taken ++ e ∷ [])) → Taking new after (i + 1) Q
+          → ((taken later : List (Entry (K × V))) (e : Entry (K × V)) → middle ≡ taken ++ e ∷ later → next ≡ Some (pointer_of e) → item ≡ e.item → P taken → Q (taken ++ e ∷ [])) → Taking new after (i + 1) Q
       unfolding cut-next
       taking-more item new after Q takes follows =
           let out = takes cut-next in record {
@@ -86,7 +86,7 @@ module _ {K V : Type 0} (greatest : Option ℕ) (old : Sorted K V) (middle other
               removes = ap-removes (removes-more greatest old now new (length t.taken) t.takes.front (goes.later ++ t.takes.back) goes.entry t.takes.removes cut-next.cut out.left);
             };
             counted = omega (arith, t.counted, length-append t.taken (goes.entry ∷ []));
-            holds = follows t.taken goes.later goes.entry (t.takes.part ∙ ap (λ (xs : List (Entry (K × V))). t.taken ++ xs) goes.is) out.item_is t.holds;
+            holds = follows t.taken goes.later goes.entry (t.takes.part ∙ ap (λ (xs : List (Entry (K × V))). t.taken ++ xs) goes.is) cut-next.named out.item_is t.holds;
           }
         where
           ap-removes : RemovesMany greatest old new (length t.taken + 1) → RemovesMany greatest old new (length (t.taken ++ goes.entry ∷ []))

@@ -6,12 +6,16 @@
 
 mod arena;
 mod error;
+mod into;
+mod met;
 mod pairs;
 mod parts;
 mod range;
+mod whole;
 
 pub use arena::SortedArena;
 pub use error::{RekeyUniqueError, SortedError, UniqueInsertionError};
+pub use into::IntoEntries;
 pub use listing::laws;
 pub use parts::{Items, Keys, Values, ValuesDescending};
 pub use range::Range;

@@ -178,6 +178,15 @@ impl<K: Ord, V, P: BasePtr, A: Allocator> SortedArena<K, V, P, A> {
     /// Returns an iterator over the entries whose keys are in `range`, in order, from both ends. O(log n).
     ///
     /// A range that runs backwards has no entries.
+    ///
+    /// ```
+    /// let mut users: SortedArena<u64, &str> = SortedArena::new(rt.alloc());
+    /// users.insert(100, "Ada").map_err(|refused| refused.1)?;
+    /// users.insert(110, "Alan").map_err(|refused| refused.1)?;
+    /// users.insert(120, "Grace").map_err(|refused| refused.1)?;
+    /// assert!(rt; users.range(..120).values().eq(&["Ada", "Alan"]));
+    /// assert!(rt; users.range(105..).keys().rev().eq(&[120, 110]));
+    /// ```
     pub fn range<R: RangeBounds<K> + Drop>(&self, range: R) -> Range<'_, K, V, P, A>
         ensures { IteratesOver K.cmp P.Inx.most P.numbers self.now result
             (R.has_bounds range → result ≡ entries_between K.cmp

@@ -15,7 +15,11 @@ mod debug;
 #[cfg(test)]
 mod drain;
 #[cfg(test)]
+mod entries;
+#[cfg(test)]
 mod every_order;
+#[cfg(test)]
+mod examples;
 #[cfg(test)]
 mod extend;
 #[cfg(test)]

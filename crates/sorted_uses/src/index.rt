@@ -5,7 +5,7 @@ ghost use Rattle.std.specs.Ordering.{is_eq};
 ghost use Rattle.std.specs.declared.ops.Bound.TheVariants.{Included, Excluded, Unbounded};
 ghost use Rattle.sorted_arena.specs.Range.{entries_between, entries_outside};
 ghost use Rattle.std.specs.List.{All};
-ghost use Rattle.std.specs.Prelude.{string_cmp};
+ghost use Rattle.std.specs.Prelude.{String, string_bytes, string_cmp};
 ghost use Rattle.std.specs.declared.cmp.Ordering.TheVariants.{Equal, Greater};
 ghost use Rattle.sorted_arena.specs.Sorted.{get, count, key_of, value_of, pair_of, Updates};
 
@@ -34,6 +34,16 @@ pub fn first_of(index: &Index, name: &String) -> Option<P0>
         (All (λ e. string_cmp name.now (key_of e) ≢ Equal) index.now.entries) }
 {
     index.find(name)
+}
+
+/// The first record of a name that is given as a text.
+pub fn first_named(index: &Index, name: &str) -> Option<P0>
+    ensures finds { (k : String Global) → string_bytes k ≡ name.now
+        → IfSome result (λ p. IsSomeAnd (get index.now p) (λ x. string_cmp k x.0 ≡ Equal)) }
+    ensures none { (k : String Global) → string_bytes k ≡ name.now
+        → IfNone result (All (λ e. string_cmp k (key_of e) ≢ Equal) index.now.entries) }
+{
+    index.find_str(name)
 }
 
 /// The id of the first record of a name.

@@ -1,6 +1,6 @@
 //! A leaderboard: players by their scores.
 
-ghost use Rattle.std.specs.Prelude.{◌≡◌, ◌≢◌, ◌==◌, ◌&&◌, [], Some, IfOk, OnOk, IfSome, IsSomeAnd, OnErr, map, take, reverse, length, fold, min, ◌+◌, ◌-◌, ◌^◌};
+ghost use Rattle.std.specs.Prelude.{◌≡◌, ◌≢◌, ◌==◌, ◌&&◌, [], Some, Err, IfOk, IsOk, OnOk, IfSome, IsSomeAnd, OnErr, map, ◌++◌, ◌≤◌, take, reverse, length, fold, min, ◌+◌, ◌-◌, ◌^◌};
 ghost use Rattle.std.specs.Option.{option_map};
 ghost use Rattle.std.specs.{Ordering.nat_cmp, Cmp.Lexicographic.pointwise};
 ghost use Rattle.std.specs.declared.ops.Bound.TheVariants.{Included, Excluded, Unbounded};
@@ -8,7 +8,7 @@ ghost use Rattle.std.specs.declared.cmp.Ordering.TheVariants.{Greater};
 ghost use Rattle.sorted_arena.specs.{Range.entries_between, Merge.merged};
 ghost use Rattle.sorted_arena.specs.Sorted.{get, count, key_of, value_of, pair_of, Keeps, Updates};
 
-use sorted_arena::{P0, ReallocationError, SortedArena};
+use sorted_arena::{P0, ReallocationError, SortedArena, SortedError};
 use std::alloc::{AllocError, Global};
 use std::ops::Bound;
 
@@ -25,6 +25,27 @@ pub fn enter(board: &mut Leaderboard, score: u64, player: u64) -> Result<P0, Rea
         Ok(place) => Ok(place),
         Err((_, refusal)) => Err(refusal),
     }
+}
+
+/// Enters players by rising scores behind all others, where there is room for them, as after a `reserve`. Memory can't be refused then.
+pub fn enter_all(board: &mut Leaderboard, players: Vec<(u64, u64)>) -> Result<(), SortedError>
+    requires { count board.old + length players.items ≤ board.old.capacity }
+    ensures entered { OnOk result
+        (map pair_of board.new.entries ≡ map pair_of board.old.entries ++ players.items) }
+    ensures room { board.new.capacity ≡ board.old.capacity }
+    ensures memory { result ≢ Err SortedError.AllocError }
+    ensures kept { Keeps board.old board.new }
+{
+    board.extend_sorted(players)
+}
+
+/// Makes a leaderboard of players by rising scores, with room for them and no others.
+pub fn of_players(alloc: Global, players: Vec<(u64, u64)>) -> Result<Leaderboard, SortedError>
+    ensures entered { IfOk result (λ board. map pair_of board.entries ≡ players.items) }
+    ensures room { IfOk result (λ board. board.capacity ≡ length players.items) }
+    ensures none { players.items ≡ [] → IsOk result }
+{
+    SortedArena::from_sorted(alloc, players)
 }
 
 /// Gives a player another score. The place stays valid. Returns the old score.

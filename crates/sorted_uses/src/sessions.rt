@@ -5,7 +5,7 @@ ghost use Rattle.std.specs.List.{All};
 ghost use Rattle.std.specs.Option.{option_map};
 ghost use Rattle.std.specs.Ordering.{nat_cmp};
 ghost use Rattle.std.specs.declared.cmp.Ordering.TheVariants.{Greater};
-ghost use Rattle.sorted_arena.specs.Sorted.{get, count, key_of, value_of, pair_of, entries_until, Updates};
+ghost use Rattle.sorted_arena.specs.Sorted.{get, count, key_of, value_of, pair_of, is_named_by, entries_until, Updates};
 
 use sorted_arena::{P0, ReallocationError, SortedArena};
 use std::alloc::AllocError;
@@ -109,6 +109,13 @@ pub fn end_user(sessions: &mut Sessions, user: u64)
         ≡ filter (λ s. not (value_of s == user)) sessions.old.entries }
 {
     sessions.retain(|_, of| *of != user);
+}
+
+/// Ends all sessions but that of a token.
+pub fn end_others(sessions: &mut Sessions, token: P0)
+    ensures left { sessions.new.entries ≡ filter (is_named_by token) sessions.old.entries }
+{
+    sessions.retain_entries(|p, _, _| p == token);
 }
 
 /// The deadline of the session that ends first.

@@ -1,14 +1,16 @@
 /* The extension type `Arena`: an ordered arena of Python objects over libtopscedar.
  *
- * How objects live: the arena's value is the address of a `Pair`, which holds one reference of the key as it was given and one of
- * the value; the arena's key is the number of the key. A call takes its references before it hands a pair in. It gives up those of
- * what leaves only once the arena is whole again, since giving up can run any code (`__del__`), also calls of this arena. Results
- * are built before anything is removed. So where a call raises, the arena is as it was.
+ * How objects live: the arena's value is the address of a tuple of key and value, of which it owns one reference; the arena's key is the
+ * number of the key. A pair that somebody else may hold never changes: a new value or key is a new pair. So iterators and `pop_until`
+ * hand out the pairs themselves.
+ * A call takes its references before it hands a pair in. It gives up those of what leaves only once the arena is whole again, since
+ * giving up can run any code (`__del__`), also calls of this arena, and so can making an object. Results are built before anything is
+ * removed. So where a call raises, the arena is as it was.
  *
  * Threads: each call holds the interpreter's lock from beginning to end, so calls are atomic.
  *
- * Iterators keep a batch of entries, whose pairs stay theirs until an entry is added, removed or moved: `shape` counts that, and
- * an iterator raises RuntimeError afterwards. A value may be replaced, which its pair shows at once.
+ * Iterators keep a batch of entries, which stay what they are until an entry is added, removed or moved: `shape` counts that, and
+ * an iterator raises RuntimeError afterwards. A value may be replaced: `writes` counts that, and an iterator looks at the entry again.
  */
 #include "_objects.h"
 
@@ -18,7 +20,7 @@ static PyObject *insert_by(Arena *self, PyObject *const *args, bool is_unique) {
     int64_t key;
     struct topscedar_pointer pointer;
     if (key_of(self, args[0], &key)) return NULL;
-    Pair *pair = pair_new(args[0], args[1]);
+    PyObject *pair = pair_new(self, args[0], args[1]);
     if (!pair) return NULL;
     uint8_t status = (is_unique ? topscedar_arena_insert_unique : topscedar_arena_insert)(&self->handle, key, word_of(pair), &pointer);
     PyObject *token = NULL;
@@ -29,7 +31,7 @@ static PyObject *insert_by(Arena *self, PyObject *const *args, bool is_unique) {
         topscedar_remove(&self->handle, pointer, NULL);
     } else
         failed(status, args[0]);
-    pair_drop(pair);
+    Py_DECREF(pair);
     return NULL;
 }
 
@@ -47,7 +49,7 @@ static PyObject *arena_extend_sorted(Arena *self, PyObject *const *args, Py_ssiz
     int64_t *numbers = NULL;
     uint64_t *words = NULL;
     if (!keys || !(values = PySequence_Fast(args[1], "values is no iterable"))) goto end;
-    Py_ssize_t count = FAST_COUNT(keys), held = 0;
+    Py_ssize_t count = FAST_COUNT(keys), made = 0;
     if (count != FAST_COUNT(values)) {
         PyErr_SetString(PyExc_ValueError, "there are not as many keys as values");
         goto end;
@@ -58,22 +60,22 @@ static PyObject *arena_extend_sorted(Arena *self, PyObject *const *args, Py_ssiz
         PyErr_NoMemory();
         goto end;
     }
-    while (held < count) {
+    while (made < count) {
         /* what gives the numbers of keys can run any code, and so change the lists */
         if (FAST_COUNT(keys) != count || FAST_COUNT(values) != count) {
             PyErr_SetString(PyExc_RuntimeError, "the lists were changed");
             goto release;
         }
-        Pair *pair = pair_new(FAST_ITEM(keys, held), FAST_ITEM(values, held));
+        PyObject *pair = pair_new(self, FAST_ITEM(keys, made), FAST_ITEM(values, made));
         if (!pair) goto release;
-        words[held++] = word_of(pair);
-        if (key_of(self, pair->key, &numbers[held - 1])) goto release;
+        words[made++] = word_of(pair);
+        if (key_of(self, KEY_OF(pair), &numbers[made - 1])) goto release;
     }
     size_t at = 0;
-    uint8_t status = topscedar_arena_build(&self->handle, numbers, (size_t)count, words, (size_t)count, &at);
+    uint8_t status = topscedar_extend_sorted(&self->handle, numbers, words, (size_t)count, NULL, &at);
     if (status == TOPSCEDAR_OK) {
         self->shape++;
-        held = 0;
+        made = 0;
         Py_INCREF(Py_None);
         result = Py_None;
     } else if (status == TOPSCEDAR_OUT_OF_ORDER)
@@ -81,7 +83,7 @@ static PyObject *arena_extend_sorted(Arena *self, PyObject *const *args, Py_ssiz
     else
         failed(status, Py_None);
 release:
-    while (held) pair_drop((Pair *)(uintptr_t)words[--held]);
+    while (made) Py_DECREF((PyObject *)(uintptr_t)words[--made]);
 end:
     PyMem_Free(numbers);
     PyMem_Free(words);
@@ -111,21 +113,17 @@ static int entry_at(Arena *self, PyObject *token, struct topscedar_entry *entry)
 
 static PyObject *arena_value(Arena *self, PyObject *token) {
     struct topscedar_entry entry;
-    if (entry_at(self, token, &entry)) return NULL;
-    Py_INCREF(pair_of(&entry)->value);
-    return pair_of(&entry)->value;
+    return entry_at(self, token, &entry) ? NULL : held(VALUE_OF(pair_of(&entry)));
 }
 
 static PyObject *arena_key(Arena *self, PyObject *token) {
     struct topscedar_entry entry;
-    if (entry_at(self, token, &entry)) return NULL;
-    Py_INCREF(pair_of(&entry)->key);
-    return pair_of(&entry)->key;
+    return entry_at(self, token, &entry) ? NULL : held(KEY_OF(pair_of(&entry)));
 }
 
 static PyObject *arena_item(Arena *self, PyObject *token) {
     struct topscedar_entry entry;
-    return entry_at(self, token, &entry) ? NULL : pair_out(&entry);
+    return entry_at(self, token, &entry) ? NULL : held(pair_of(&entry));
 }
 
 static PyObject *arena_is_live(Arena *self, PyObject *token) {
@@ -136,61 +134,77 @@ static PyObject *arena_is_live(Arena *self, PyObject *token) {
     Py_RETURN_FALSE;
 }
 
-static void write_value(Pair *pair, PyObject *value) {
-    PyObject *before = pair->value;
-    Py_INCREF(value);
-    pair->value = value;
-    Py_DECREF(before);
+/* Another pair for the entry at a pointer, and the entry: with another key or value, or for NULL the one that it has. Making it can run code
+ * that changes the entry: then it is made again. KeyError of `what` if the pointer is stale. */
+static PyObject *pair_for(Arena *self, struct topscedar_pointer pointer, PyObject *what, PyObject *key, PyObject *value,
+                          struct topscedar_entry *entry) {
+    for (;;) {
+        uint64_t shape = self->shape, writes = self->writes;
+        uint8_t status = topscedar_arena_get(&self->handle, pointer, entry);
+        if (status) return failed(status, what);
+        PyObject *before = pair_of(entry), *pair = pair_new(self, key ? key : KEY_OF(before), value ? value : VALUE_OF(before));
+        if (!pair || (shape == self->shape && writes == self->writes)) return pair;
+        Py_DECREF(pair);
+    }
+}
+
+/* Gives an entry its pair. */
+static void write_pair(Arena *self, const struct topscedar_entry *entry, PyObject *pair) {
+    topscedar_set_value(&self->handle, entry->pointer, word_of(pair), NULL);
+    self->writes++;
+    Py_DECREF(pair_of(entry));
+}
+
+/* Replaces the value of an entry. */
+static int write_value(Arena *self, struct topscedar_entry *entry, PyObject *what, PyObject *value) {
+    if (is_own(pair_of(entry))) {
+        put_in(self, pair_of(entry), 1, value);
+        return 0;
+    }
+    PyObject *pair = pair_for(self, entry->pointer, what, NULL, value, entry);
+    if (pair) write_pair(self, entry, pair);
+    return pair ? 0 : -1;
 }
 
 static PyObject *arena_set_value(Arena *self, PyObject *const *args, Py_ssize_t count) {
     struct topscedar_entry entry;
     if (!takes(count, 2, 2, "set_value") || entry_at(self, args[0], &entry)) return NULL;
-    write_value(pair_of(&entry), args[1]);
+    if (write_value(self, &entry, args[0], args[1])) return NULL;
     Py_RETURN_NONE;
 }
 
 static PyObject *arena_rekey(Arena *self, PyObject *const *args, Py_ssize_t count) {
     struct topscedar_entry entry;
     int64_t key, before;
+    PyObject *pair = NULL;
     if (!takes(count, 2, 2, "rekey") || key_of(self, args[1], &key) || entry_at(self, args[0], &entry)) return NULL;
-    uint8_t status = topscedar_arena_rekey(&self->handle, entry.pointer, key, &before);
-    if (status) return failed(status, args[0]);
+    if (!is_own(pair_of(&entry)) && !(pair = pair_for(self, entry.pointer, args[0], args[1], NULL, &entry))) return NULL;
+    topscedar_arena_rekey(&self->handle, entry.pointer, key, &before);
     self->shape++;
-    Pair *pair = pair_of(&entry);
-    PyObject *old = pair->key;
-    Py_INCREF(args[1]);
-    pair->key = args[1];
-    Py_DECREF(old);
+    if (pair) write_pair(self, &entry, pair);
+    else put_in(self, pair_of(&entry), 0, args[1]);
     Py_RETURN_NONE;
 }
 
-/* Removes an entry that is there, after its result was built. */
-static PyObject *remove_entry(Arena *self, const struct topscedar_entry *entry, PyObject *result) {
-    struct topscedar_entry gone;
-    if (!result) return NULL;
-    uint8_t status = topscedar_arena_remove(&self->handle, entry->pointer, &gone);
-    if (status) {
-        /* a collection ran code that removed it */
-        Py_DECREF(result);
-        PyErr_SetString(PyExc_RuntimeError, "the entry was removed meanwhile");
-        return NULL;
-    }
+/* The pair of an entry that was removed. */
+static PyObject *taken(Arena *self, const struct topscedar_entry *entry) {
     self->shape++;
-    pair_drop(pair_of(&gone));
-    return result;
+    return pair_of(entry);
 }
 
 static PyObject *arena_remove(Arena *self, PyObject *token) {
+    struct topscedar_pointer pointer;
     struct topscedar_entry entry;
-    return entry_at(self, token, &entry) ? NULL : remove_entry(self, &entry, pair_out(&entry));
+    if (token_of(token, &pointer)) return NULL;
+    uint8_t status = topscedar_arena_remove(&self->handle, pointer, &entry);
+    return status ? failed(status, token) : taken(self, &entry);
 }
 
 static PyObject *arena_discard(Arena *self, PyObject *token) {
-    struct topscedar_entry entry;
-    if (entry_at(self, token, &entry) == 0) {
-        Py_INCREF(Py_True);
-        return remove_entry(self, &entry, Py_True);
+    PyObject *pair = arena_remove(self, token);
+    if (pair) {
+        Py_DECREF(pair);
+        Py_RETURN_TRUE;
     }
     if (!PyErr_ExceptionMatches(PyExc_KeyError)) return NULL;
     PyErr_Clear();
@@ -237,11 +251,11 @@ static PyObject *arena_last(Arena *self, PyObject *none) { (void)none; return at
 static PyObject *popped(Arena *self, edge *call) {
     struct topscedar_entry entry;
     if (call(&self->handle, &entry)) Py_RETURN_NONE;
-    return remove_entry(self, &entry, pair_out(&entry));
+    return taken(self, &entry);
 }
 
-static PyObject *arena_pop_first(Arena *self, PyObject *none) { (void)none; return popped(self, topscedar_arena_first); }
-static PyObject *arena_pop_last(Arena *self, PyObject *none) { (void)none; return popped(self, topscedar_arena_last); }
+static PyObject *arena_pop_first(Arena *self, PyObject *none) { (void)none; return popped(self, topscedar_arena_pop_first); }
+static PyObject *arena_pop_last(Arena *self, PyObject *none) { (void)none; return popped(self, topscedar_arena_pop_last); }
 
 static PyObject *arena_count(Arena *self, PyObject *object) {
     int64_t key;
@@ -267,30 +281,31 @@ static int entry_with(Arena *self, PyObject *object, struct topscedar_entry *ent
 
 static PyObject *arena_subscript(Arena *self, PyObject *key) {
     struct topscedar_entry entry;
-    if (entry_with(self, key, &entry)) return NULL;
-    Py_INCREF(pair_of(&entry)->value);
-    return pair_of(&entry)->value;
+    return entry_with(self, key, &entry) ? NULL : held(VALUE_OF(pair_of(&entry)));
 }
 
+static int arena_erase(Arena *self, PyObject *object) {
+    struct topscedar_entry entry;
+    if (entry_with(self, object, &entry)) return -1;
+    topscedar_remove(&self->handle, entry.pointer, NULL);
+    Py_DECREF(taken(self, &entry));
+    return 0;
+}
+
+/* The first entry with the key keeps it, as it was given then. */
 static int arena_assign(Arena *self, PyObject *object, PyObject *value) {
     struct topscedar_entry entry;
-    int64_t key;
-    if (!value) {
-        if (entry_with(self, object, &entry)) return -1;
-        return remove_entry(self, &entry, Py_None) ? 0 : -1;
-    }
-    if (key_of(self, object, &key)) return -1;
-    if (topscedar_arena_find(&self->handle, key, &entry) == TOPSCEDAR_OK) {
-        write_value(pair_of(&entry), value);
-        return 0;
-    }
-    Pair *pair = pair_new(object, value);
-    if (!pair) return -1;
     struct topscedar_pointer pointer;
+    int64_t key;
+    if (!value) return arena_erase(self, object);
+    if (key_of(self, object, &key)) return -1;
+    if (topscedar_arena_find(&self->handle, key, &entry) == TOPSCEDAR_OK) return write_value(self, &entry, object, value);
+    PyObject *pair = pair_new(self, object, value);
+    if (!pair) return -1;
     uint8_t status = topscedar_arena_insert(&self->handle, key, word_of(pair), &pointer);
     if (status) {
         failed(status, object);
-        pair_drop(pair);
+        Py_DECREF(pair);
         return -1;
     }
     self->shape++;
@@ -309,10 +324,10 @@ static int arena_empty(Arena *self) {
     size_t length = (size_t)arena_length(self), count = 0, filled;
     struct topscedar_entry entry, batch[BATCH];
     if (!length) return 0;
-    Pair **pairs = PyMem_Malloc(length * sizeof *pairs);
+    PyObject **pairs = PyMem_Malloc(length * sizeof *pairs);
     self->shape++;
     if (!pairs) {
-        while (length-- && topscedar_arena_pop_last(&self->handle, &entry) == TOPSCEDAR_OK) pair_drop(pair_of(&entry));
+        while (length-- && topscedar_arena_pop_last(&self->handle, &entry) == TOPSCEDAR_OK) Py_DECREF(pair_of(&entry));
         return 0;
     }
     topscedar_arena_first(&self->handle, &entry);
@@ -321,7 +336,7 @@ static int arena_empty(Arena *self) {
         for (size_t i = 0; i < filled; i++) pairs[count++] = pair_of(&batch[i]);
     }
     topscedar_arena_clear(&self->handle);
-    while (count) pair_drop(pairs[--count]);
+    while (count) Py_DECREF(pairs[--count]);
     PyMem_Free(pairs);
     return 0;
 }
@@ -339,116 +354,102 @@ static PyObject *arena_compact(Arena *self, PyObject *none) {
     Py_RETURN_NONE;
 }
 
-/* _become(other): an empty arena becomes a copy of another, with its tokens. Its pairs are made before the copy, which can't fail then. */
+/* _become(other): an empty arena becomes a copy of another, with its tokens and pairs. */
 static PyObject *arena_become(Arena *self, PyObject *object) {
     Arena *other = (Arena *)object;
     if (!PyObject_TypeCheck(object, (PyTypeObject *)arena_type) || arena_length(self)) {
         PyErr_SetString(PyExc_TypeError, "an empty arena becomes another arena");
         return NULL;
     }
-    size_t length = (size_t)arena_length(other), made = 0, filled;
     struct topscedar_arena copy = TOPSCEDAR_ARENA_INIT;
     struct topscedar_entry entry, batch[BATCH];
-    struct topscedar_pointer first = {0, 0};
-    if (length) {
-        topscedar_arena_first(&other->handle, &entry);
-        first = entry.pointer;
-    }
-    Pair **pairs = PyMem_Malloc(length * sizeof *pairs + 1);
-    if (!pairs) return PyErr_NoMemory();
-    for (struct topscedar_pointer rest = first; rest.index;) {
-        topscedar_arena_entries_from(&other->handle, rest, batch, BATCH, &filled, &rest);
-        for (size_t i = 0; i < filled; i++, made++)
-            if (!(pairs[made] = pair_new(pair_of(&batch[i])->key, pair_of(&batch[i])->value))) goto failure;
-    }
     uint8_t status = topscedar_arena_clone(&other->handle, &copy);
-    if (status) {
-        failed(status, Py_None);
-        goto failure;
-    }
-    made = 0;
-    for (struct topscedar_pointer rest = first; rest.index;) {
+    if (status) return failed(status, Py_None);
+    struct topscedar_pointer rest = {0, 0};
+    if (topscedar_arena_first(&copy, &entry) == TOPSCEDAR_OK) rest = entry.pointer;
+    while (rest.index) {
+        size_t filled = 0;
         topscedar_arena_entries_from(&copy, rest, batch, BATCH, &filled, &rest);
-        for (size_t i = 0; i < filled; i++) topscedar_set_value(&copy, batch[i].pointer, word_of(pairs[made++]), NULL);
+        fetch_pairs(batch, filled);
+        for (size_t i = 0; i < filled; i++) Py_INCREF(pair_of(&batch[i]));
     }
-    PyMem_Free(pairs);
     PyObject *old = self->encode;
     topscedar_arena_close(&self->handle);
     self->handle = copy; /* moved, while no call uses it */
     self->kind = other->kind;
+    self->may_be_cyclic = other->may_be_cyclic;
     self->shape++;
     Py_XINCREF(other->encode);
     self->encode = other->encode;
     Py_XDECREF(old);
     Py_RETURN_NONE;
-failure:
-    while (made) pair_drop(pairs[--made]);
-    PyMem_Free(pairs);
-    return NULL;
 }
 
-/* A place for each pair, if every entry is to be removed: then one `clear` takes the place of the removals. NULL otherwise, and without memory. */
-static Pair **places_for_all(Arena *self, int64_t until, Py_ssize_t most) {
-    struct topscedar_entry last;
-    Py_ssize_t length = arena_length(self);
-    if (most < length || topscedar_arena_last(&self->handle, &last) != TOPSCEDAR_OK || last.key > until) return NULL;
-    return PyMem_Malloc((size_t)length * sizeof(Pair *));
+/* The words of the first entries whose key is at most `until`, at most so many: where they are, and how many. NULL without memory. */
+static uint64_t *due_words(Arena *self, int64_t until, size_t most, size_t *count) {
+    struct topscedar_entry entry, batch[BATCH];
+    struct topscedar_pointer rest = {0, 0};
+    size_t room = 0, length = (size_t)arena_length(self);
+    uint64_t *words = PyMem_Malloc(1);
+    *count = 0;
+    if (topscedar_arena_first(&self->handle, &entry) == TOPSCEDAR_OK) rest = entry.pointer;
+    while (words && rest.index && *count < most) {
+        size_t filled = 0;
+        topscedar_arena_entries_from(&self->handle, rest, batch, BATCH, &filled, &rest);
+        if (room < *count + filled) {
+            /* twice as much, but no more than there are entries */
+            room = length < BATCH || length / 2 < *count + filled ? length : 2 * (*count + filled);
+            uint64_t *more = PyMem_Realloc(words, room * sizeof *words);
+            if (!more) PyMem_Free(words);
+            if (!(words = more)) return NULL;
+        }
+        for (size_t i = 0; i < filled && *count < most; i++) {
+            if (batch[i].key > until) return words;
+            words[(*count)++] = batch[i].value;
+        }
+    }
+    return words;
 }
 
-/* The list is whole before the first entry is removed. */
+/* Removes the first entries, and gives up no pair: they are in a list. */
+static void remove_first(Arena *self, int64_t until, size_t count) {
+    struct topscedar_entry batch[BATCH];
+    if (count) self->shape++;
+    if (count == (size_t)arena_length(self)) topscedar_arena_clear(&self->handle);
+    else
+        while (count) {
+            size_t filled = 0;
+            topscedar_arena_pop_until(&self->handle, until, batch, count < BATCH ? count : BATCH, &filled);
+            count -= filled;
+        }
+}
+
+/* The list is there before the first entry is removed. Making it can run code that changes entries: then they are looked at again. */
 static PyObject *arena_pop_until(Arena *self, PyObject *const *args, Py_ssize_t given) {
     int64_t until;
-    Py_ssize_t most = PY_SSIZE_T_MAX, count = 0;
+    Py_ssize_t most = PY_SSIZE_T_MAX;
     if (!takes(given, 1, 2, "pop_until") || key_of(self, args[0], &until)) return NULL;
     if (given == 2 && args[1] != Py_None) {
         most = PyLong_AsSsize_t(args[1]);
         if (most == -1 && PyErr_Occurred()) return NULL;
         if (most < 0) most = 0;
     }
-    PyObject *list = PyList_New(0);
-    if (!list) return NULL;
-    struct topscedar_entry entry, batch[BATCH];
-    struct topscedar_pointer rest = {0, 0};
-    uint64_t shape = self->shape;
-    Pair **pairs = places_for_all(self, until, most);
-    if (topscedar_arena_first(&self->handle, &entry) == TOPSCEDAR_OK) rest = entry.pointer;
-    while (rest.index && count < most) {
-        size_t filled = 0;
-        if (topscedar_arena_entries_from(&self->handle, rest, batch, BATCH, &filled, &rest)) goto changed;
-        for (size_t i = 0; i < filled && count < most; i++, count++) {
-            if (batch[i].key > until) {
-                rest.index = 0;
-                break;
-            }
-            if (pairs) pairs[count] = pair_of(&batch[i]);
-            PyObject *pair = pair_out(&batch[i]);
-            int status = pair ? PyList_Append(list, pair) : -1;
-            Py_XDECREF(pair);
-            if (status) goto failure;
-            if (self->shape != shape) goto changed;
+    for (;;) {
+        uint64_t shape = self->shape, writes = self->writes;
+        size_t count;
+        uint64_t *words = due_words(self, until, (size_t)most, &count);
+        if (!words) return PyErr_NoMemory();
+        PyObject *list = PyList_New((Py_ssize_t)count);
+        if (list && shape == self->shape && writes == self->writes) {
+            for (size_t i = 0; i < count; i++) LIST_SET(list, (Py_ssize_t)i, (PyObject *)(uintptr_t)words[i]);
+            PyMem_Free(words);
+            remove_first(self, until, count);
+            return list;
         }
+        PyMem_Free(words);
+        if (!list) return NULL;
+        Py_DECREF(list);
     }
-    if (count) self->shape++;
-    /* The list holds a reference of each key and value now, so those of the pairs are not the last. */
-    if (pairs) {
-        topscedar_arena_clear(&self->handle);
-        for (Py_ssize_t i = 0; i < count; i++) pair_drop(pairs[i]);
-        PyMem_Free(pairs);
-        return list;
-    }
-    for (Py_ssize_t left = count; left > 0;) {
-        size_t filled = 0;
-        topscedar_arena_pop_until(&self->handle, until, batch, left < BATCH ? (size_t)left : BATCH, &filled);
-        for (size_t i = 0; i < filled; i++) pair_drop(pair_of(&batch[i]));
-        left -= (Py_ssize_t)filled;
-    }
-    return list;
-changed:
-    PyErr_SetString(PyExc_RuntimeError, "the arena was changed meanwhile");
-failure:
-    PyMem_Free(pairs);
-    Py_DECREF(list);
-    return NULL;
 }
 
 #include "_iterator.h"
@@ -497,13 +498,10 @@ static int arena_traverse(Arena *self, visitproc visit, void *arg) {
     size_t filled = 0;
     Py_VISIT(Py_TYPE((PyObject *)self));
     Py_VISIT(self->encode);
-    if (topscedar_arena_first(&self->handle, &entry)) return 0;
+    if (!self->may_be_cyclic || topscedar_arena_first(&self->handle, &entry)) return 0;
     for (struct topscedar_pointer rest = entry.pointer; rest.index;) {
         topscedar_arena_entries_from(&self->handle, rest, batch, BATCH, &filled, &rest);
-        for (size_t i = 0; i < filled; i++) {
-            Py_VISIT(pair_of(&batch[i])->key);
-            Py_VISIT(pair_of(&batch[i])->value);
-        }
+        for (size_t i = 0; i < filled; i++) Py_VISIT(pair_of(&batch[i]));
     }
     return 0;
 }
@@ -605,6 +603,8 @@ static struct PyModuleDef definition = {PyModuleDef_HEAD_INIT, "topscedar._arena
 
 PyMODINIT_FUNC PyInit__arena(void) {
     PyObject *module = PyModule_Create(&definition);
+    PyObject *version = PySys_GetObject("hexversion");
+    may_write_pairs = version && PyLong_AsLong(version) < 0x030e0000;
     if (!module || !(arena_type = PyType_FromSpec(&arena_spec)) || !(iterator_type = PyType_FromSpec(&iterator_spec))) return NULL;
     Py_INCREF(arena_type);
     if (PyModule_AddObject(module, "Arena", arena_type)) return NULL;

@@ -6,10 +6,8 @@ typedef struct {
     int what;
     bool is_backward, has_bound;
     int64_t bound; /* the last key to be given */
-    uint64_t shape;
+    uint64_t shape, writes;
     struct topscedar_pointer rest; /* behind the batch */
-    PyObject *pair;                /* given before: used again where nobody else holds it */
-    PyObject *key, *value;         /* in it */
     size_t filled, given;
     struct topscedar_entry batch[BATCH];
 } Iterator;
@@ -18,16 +16,11 @@ typedef struct {
 static void iterator_fill(Iterator *self, struct topscedar_pointer from) {
     struct topscedar_arena *handle = &self->arena->handle;
     self->given = self->filled = 0;
+    self->writes = self->arena->writes;
     self->rest.index = 0;
-    if (!self->is_backward) {
-        topscedar_arena_entries_from(handle, from, self->batch, BATCH, &self->filled, &self->rest);
-    } else {
-        if (topscedar_arena_get(handle, from, &self->batch[0])) return;
-        for (self->filled = 1; self->filled < BATCH; self->filled++)
-            if (topscedar_arena_previous(handle, self->batch[self->filled - 1].pointer, &self->batch[self->filled])) return;
-        struct topscedar_entry before;
-        if (topscedar_arena_previous(handle, self->batch[BATCH - 1].pointer, &before) == TOPSCEDAR_OK) self->rest = before.pointer;
-    }
+    (self->is_backward ? topscedar_arena_entries_back_from : topscedar_arena_entries_from)(handle, from, self->batch, BATCH, &self->filled,
+                                                                                           &self->rest);
+    fetch_pairs(self->batch, self->filled);
 }
 
 static PyObject *iterator_next(Iterator *self) {
@@ -42,45 +35,18 @@ static PyObject *iterator_next(Iterator *self) {
         iterator_fill(self, self->rest);
         if (self->given == self->filled) goto end;
     }
-    const struct topscedar_entry *entry = &self->batch[self->given];
+    struct topscedar_entry *entry = &self->batch[self->given];
     if (self->has_bound && (self->is_backward ? entry->key < self->bound : entry->key > self->bound)) goto end;
     self->given++;
-    Pair *held = pair_of(entry);
+    if (self->writes != arena->writes) topscedar_arena_get(&arena->handle, entry->pointer, entry);
+    else if (self->what != VALUES && self->given + AHEAD < self->filled) FETCH(KEY_OF(pair_of(entry + AHEAD)));
+    PyObject *pair = pair_of(entry);
     switch (self->what) {
-    case KEYS: Py_INCREF(held->key); return held->key;
-    case VALUES: Py_INCREF(held->value); return held->value;
-    case ENTRIES: return entry_out(entry);
+    case KEYS: return held(KEY_OF(pair));
+    case VALUES: return held(VALUE_OF(pair));
+    case ITEMS: return held(pair);
+    default: return entry_out(entry);
     }
-    PyObject *pair = self->pair;
-    if (!pair || Py_REFCNT(pair) != 1) {
-        struct topscedar_entry copy = *entry;
-        if (!(pair = pair_out(&copy))) return NULL;
-        PyObject *old = self->pair;
-        Py_INCREF(pair);
-        self->pair = pair;
-        self->key = PyTuple_GetItem(pair, 0);
-        self->value = PyTuple_GetItem(pair, 1);
-        Py_XDECREF(old);
-        return pair;
-    }
-    PyObject *key = held->key, *value = held->value;
-    Py_INCREF(key);
-    Py_INCREF(value);
-    /* The old ones go last: that can run any code, also calls of this iterator. */
-    PyObject *old_key = self->key, *old_value = self->value;
-#ifdef Py_LIMITED_API
-    Py_INCREF(old_key);
-    Py_INCREF(old_value);
-#endif
-    self->key = key;
-    self->value = value;
-    TUPLE_SET(pair, 0, key);
-    TUPLE_SET(pair, 1, value);
-    Py_INCREF(pair);
-    if (!PyObject_GC_IsTracked(pair)) PyObject_GC_Track(pair);
-    Py_DECREF(old_key);
-    Py_DECREF(old_value);
-    return pair;
 end:
     self->arena = NULL;
     Py_DECREF((PyObject *)arena);
@@ -98,16 +64,13 @@ static int iterator_traverse(Iterator *self, visitproc visit, void *arg) {
     Py_VISIT(Py_TYPE((PyObject *)self));
 #endif
     Py_VISIT((PyObject *)self->arena);
-    Py_VISIT(self->pair);
     return 0;
 }
 
 static int iterator_clear(Iterator *self) {
-    PyObject *arena = (PyObject *)self->arena, *pair = self->pair;
+    PyObject *arena = (PyObject *)self->arena;
     self->arena = NULL;
-    self->pair = NULL;
     Py_XDECREF(arena);
-    Py_XDECREF(pair);
     return 0;
 }
 
@@ -142,7 +105,7 @@ static PyObject *iterator_new(Arena *arena, int what, bool is_backward, const st
     self->has_bound = false;
     self->bound = 0;
     self->shape = arena->shape;
-    self->pair = NULL;
+    self->writes = arena->writes;
     self->filled = self->given = 0;
     self->rest.index = 0;
     self->rest.generation = 0;

@@ -10,17 +10,33 @@
 
 #ifdef Py_LIMITED_API
 #define TUPLE_SET(tuple, i, item) PyTuple_SetItem(tuple, i, item)
+#define TUPLE_GET(tuple, i) PyTuple_GetItem(tuple, i)
+#define LIST_SET(list, i, item) PyList_SetItem(list, i, item)
 #define FLOAT_VALUE(object) PyFloat_AsDouble(object)
 #define FAST_COUNT(fast) PySequence_Size(fast)
 #define FAST_ITEM(fast, i) (PyList_Check(fast) ? PyList_GetItem(fast, i) : PyTuple_GetItem(fast, i))
 #else
 #define TUPLE_SET(tuple, i, item) PyTuple_SET_ITEM(tuple, i, item)
+#define TUPLE_GET(tuple, i) PyTuple_GET_ITEM(tuple, i)
+#define LIST_SET(list, i, item) PyList_SET_ITEM(list, i, item)
 #define FLOAT_VALUE(object) PyFloat_AS_DOUBLE(object)
 #define FAST_COUNT(fast) PySequence_Fast_GET_SIZE(fast)
 #define FAST_ITEM(fast, i) PySequence_Fast_GET_ITEM(fast, i)
 #endif
 
+#define KEY_OF(pair) TUPLE_GET(pair, 0)
+#define VALUE_OF(pair) TUPLE_GET(pair, 1)
+
 #define BATCH 64
+
+/* How many entries ahead of its turn a key is fetched. */
+#define AHEAD 8
+
+#if defined(__GNUC__)
+#define FETCH(address) __builtin_prefetch(address)
+#else
+#define FETCH(address) ((void)(address))
+#endif
 
 enum { INT_KEYS, FLOAT_KEYS, OTHER_KEYS };
 enum { KEYS, VALUES, ITEMS, ENTRIES };
@@ -30,37 +46,61 @@ typedef struct {
     struct topscedar_arena handle;
     int kind;
     PyObject *encode; /* int, float, or what gives the number of a key */
-    uint64_t shape;
+    uint64_t shape;     /* counts what adds, removes or moves entries */
+    uint64_t writes;    /* counts what replaces pairs */
+    bool may_be_cyclic; /* a key or value is of a type that the collector follows */
 } Arena;
-
-typedef struct {
-    PyObject *key, *value;
-} Pair;
 
 static PyObject *arena_type, *iterator_type;
 
-static Pair *pair_of(const struct topscedar_entry *entry) { return (Pair *)(uintptr_t)entry->value; }
-static uint64_t word_of(Pair *pair) { return (uint64_t)(uintptr_t)pair; }
+static PyObject *pair_of(const struct topscedar_entry *entry) { return (PyObject *)(uintptr_t)entry->value; }
+static uint64_t word_of(PyObject *pair) { return (uint64_t)(uintptr_t)pair; }
 
-static Pair *pair_new(PyObject *key, PyObject *value) {
-    Pair *pair = PyObject_Malloc(sizeof *pair);
-    if (!pair) {
-        PyErr_NoMemory();
-        return NULL;
-    }
+static PyObject *held(PyObject *object) {
+    Py_INCREF(object);
+    return object;
+}
+
+/* Whether an object can be part of a cycle. A tuple that the collector doesn't follow any more holds nothing that can. */
+static bool may_lead_back(PyObject *object) {
+    return PyType_HasFeature(Py_TYPE(object), Py_TPFLAGS_HAVE_GC) && !(PyTuple_CheckExact(object) && !PyObject_GC_IsTracked(object));
+}
+
+/* The pair for an entry. The collector need not follow one that can't be part of a cycle, nor an arena that has no others. Making a
+ * tuple can run any code, by a collection. */
+static PyObject *pair_new(Arena *self, PyObject *key, PyObject *value) {
     Py_INCREF(key);
     Py_INCREF(value);
-    pair->key = key;
-    pair->value = value;
+    PyObject *pair = PyTuple_New(2);
+    if (!pair) {
+        Py_DECREF(key);
+        Py_DECREF(value);
+        return NULL;
+    }
+    TUPLE_SET(pair, 0, key);
+    TUPLE_SET(pair, 1, value);
+    if (may_lead_back(key) || may_lead_back(value)) self->may_be_cyclic = true;
+    else PyObject_GC_UnTrack(pair);
     return pair;
 }
 
-/* Gives up a pair that is in no arena any more. */
-static void pair_drop(Pair *pair) {
-    PyObject *key = pair->key, *value = pair->value;
-    PyObject_Free(pair);
-    Py_DECREF(key);
-    Py_DECREF(value);
+/* Whether nobody but the arena holds a pair, and no hash of it was kept, as versions from 3.14 on do. */
+static bool may_write_pairs;
+
+static bool is_own(PyObject *pair) { return may_write_pairs && Py_REFCNT(pair) == 1; }
+
+/* Puts a key (0) or a value (1) into a pair that is the arena's own. What it takes the place of goes last. */
+static void put_in(Arena *self, PyObject *pair, Py_ssize_t place, PyObject *object) {
+    if (may_lead_back(object)) {
+        self->may_be_cyclic = true;
+        if (!PyObject_GC_IsTracked(pair)) PyObject_GC_Track(pair);
+    }
+    PyTuple_SetItem(pair, place, held(object));
+}
+
+/* Fetches the pairs of a batch: they lie anywhere in memory, and are all wanted soon. */
+static void fetch_pairs(const struct topscedar_entry *batch, size_t filled) {
+    for (size_t i = 0; i < filled; i++) FETCH(pair_of(&batch[i]));
 }
 
 /* Keys. */
@@ -181,26 +221,9 @@ static PyObject *failed(uint8_t status, PyObject *what) {
     return NULL;
 }
 
-/* Key and value as a tuple. Making one can run any code, by a collection, so the references are taken before. */
-static PyObject *pair_out(const struct topscedar_entry *entry) {
-    PyObject *key = pair_of(entry)->key, *value = pair_of(entry)->value;
-    Py_INCREF(key);
-    Py_INCREF(value);
-    PyObject *pair = PyTuple_New(2);
-    if (!pair) {
-        Py_DECREF(key);
-        Py_DECREF(value);
-        return NULL;
-    }
-    TUPLE_SET(pair, 0, key);
-    TUPLE_SET(pair, 1, value);
-    return pair;
-}
-
+/* Pointer, key and value of an entry. */
 static PyObject *entry_out(const struct topscedar_entry *entry) {
-    PyObject *key = pair_of(entry)->key, *value = pair_of(entry)->value;
-    Py_INCREF(key);
-    Py_INCREF(value);
+    PyObject *key = held(KEY_OF(pair_of(entry))), *value = held(VALUE_OF(pair_of(entry)));
     PyObject *token = token_out(entry->pointer), *triple = token ? PyTuple_New(3) : NULL;
     if (!triple) {
         Py_XDECREF(token);

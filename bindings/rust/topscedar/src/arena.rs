@@ -232,17 +232,19 @@ impl<K: Key, V> SortedArena<K, V> {
             .map(|(key, value)| (key.to_i64(), value))
             .unzip();
         let numbers = vec![0; keys.len()];
-        let last = self.end(raw::topscedar_arena_last);
+        let mut pointers = vec![raw::Pointer::default(); keys.len()];
         self.reserve(keys.len())?;
         let mut at = 0;
         // Safety: as in `found`, and the arrays have the lengths that are passed.
         let status = unsafe {
-            raw::topscedar_arena_build(
+            raw::topscedar_arena_extend_sorted(
                 self.raw(),
                 keys.as_ptr(),
                 keys.len(),
                 numbers.as_ptr(),
                 numbers.len(),
+                pointers.as_mut_ptr(),
+                pointers.len(),
                 &mut at,
             )
         };
@@ -250,17 +252,10 @@ impl<K: Key, V> SortedArena<K, V> {
             raw::OUT_OF_ORDER => return Err(Error::OutOfOrder(at)),
             _ => changed(status)?,
         }
-        // The call gives no pointers, so they are read in order.
-        let first = match last {
-            Some(entry) => self.found(raw::topscedar_arena_next, entry.pointer),
-            None => self.end(raw::topscedar_arena_first),
-        };
-        let mut pointers = Vec::with_capacity(values.len());
-        let mut cursor = crate::iter::Batch::from(first);
-        while let Some(entry) = cursor.take(self) {
-            pointers.push(Pointer::of(entry.pointer).expect("an entry has an index"));
-        }
-        for (pointer, value) in pointers.into_iter().zip(values) {
+        let pointers = pointers
+            .into_iter()
+            .map(|pointer| Pointer::of(pointer).expect("an entry has an index"));
+        for (pointer, value) in pointers.zip(values) {
             self.keep(pointer, value);
         }
         Ok(())

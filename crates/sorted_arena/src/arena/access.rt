@@ -39,6 +39,15 @@ impl<K: Ord, V, P: BasePtr, A: Allocator> SortedArena<K, V, P, A> {
     ghost use Rattle.sorted_arena.specs.contracts.arena.SortedArena.{the_row};
 
     /// Returns the value of the entry at `p`, to be written, in O(1). `None` if `p` is stale.
+    ///
+    /// ```
+    /// let mut scores: SortedArena<&str, u32> = SortedArena::new(rt.alloc());
+    /// let ada = scores.insert("Ada", 3).map_err(|refused| refused.1)?;
+    /// if let Some(score) = scores.value_mut(ada) {
+    ///     *score = 5;
+    /// }
+    /// assert_eq!(rt; scores.get(ada), Some((&"Ada", &5)));
+    /// ```
     pub fn value_mut(&mut self, p: P) -> Option<&mut V>
         ensures* writes_back { sem 𝓛 (LendsIf (the_row K.row V.row P.row A.row P.Inx.row P.Gen.row
             K.Ord.own K.PartialEq K.PartialOrd.own

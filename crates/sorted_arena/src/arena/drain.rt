@@ -47,6 +47,15 @@ impl<K: Ord + Drop, V: Drop, P: BasePtr, A: Allocator> SortedArena<K, V, P, A> {
     /// Removes and drops all entries whose keys are in `range`, and returns how many there were. O(log n) for each.
     ///
     /// A range that runs backwards has no entries.
+    ///
+    /// ```
+    /// let mut users: SortedArena<u64, &str> = SortedArena::new(rt.alloc());
+    /// users.insert(100, "Ada").map_err(|refused| refused.1)?;
+    /// users.insert(110, "Alan").map_err(|refused| refused.1)?;
+    /// users.insert(120, "Grace").map_err(|refused| refused.1)?;
+    /// assert_eq!(rt; users.remove_range(100..120), 2);
+    /// assert_eq!(rt; users.len(), 1);
+    /// ```
     pub fn remove_range<R: RangeBounds<K> + Drop>(&mut self, range: R) -> usize
         ensures removed { R.has_bounds range → result ≡ length (entries_between K.cmp
             (R.start_bound range) (R.end_bound range) self.old.entries) }

@@ -1,6 +1,6 @@
 //! Insertions of many pairs that are in order.
 
-ghost use Rattle.std.specs.Prelude.{◌≡◌, ◌≢◌, ◌≤◌, ◌+◌, ◌++◌, ℕ, true, [], Err, IfOk, map, length, vec_len};
+ghost use Rattle.std.specs.Prelude.{◌≡◌, ◌≢◌, ◌↔◌, ◌<◌, ◌≤◌, ◌+◌, ◌++◌, ℕ, true, [], Err, IfOk, IsOk, map, length, vec_len};
 ghost use Rattle.std.specs.{Ordering.is_gt, Option.option_map_or, Prelude.false, List.AllAdjacentBelow};
 ghost use Rattle.std.specs.declared.cmp.Ordering.TheVariants.{Greater};
 ghost use Rattle.sorted_arena.specs.Change.{ExtendsSorted, ChangesCapacity};
@@ -20,10 +20,11 @@ impl<K: Ord + Drop, V: Drop, P: BasePtr, A: Allocator> SortedArena<K, V, P, A> {
     ///
     /// # Errors
     ///
-    /// The pairs before the refused one are inserted; it and the rest are dropped. Old pointers stay valid.
+    /// The pairs before the refused one are inserted; it and the rest are dropped. Old pointers stay valid, and the capacity never falls.
     /// - `OutOfOrder(i)`: the key of the pair at index i is smaller than the one before it, or than the last key.
     /// - `BeyondMaxCapacity`: there are as many entries as pointers have indexes now.
-    /// - `AllocError`: the arena is full now, and growing failed.
+    /// - `AllocError`: the arena is full now, and growing failed. Never if there was room for all pairs, as after a
+    ///   [`reserve`](Self::reserve) for them; no memory is taken then.
     pub fn extend_sorted<B: Allocator>(&mut self, pairs: Vec<(K, V), B>) -> Result<(), SortedError>
         ensures { ExtendsSorted K.cmp P.Inx.most self.old pairs.items result self.new }
     {
@@ -34,39 +35,60 @@ impl<K: Ord + Drop, V: Drop, P: BasePtr, A: Allocator> SortedArena<K, V, P, A> {
         self.insert_sorted(pairs)
     }
 
-    /// Creates an arena of pairs that are in order. One comparison and amortized O(1) for each.
+    /// Creates an arena of pairs that are in order, with the capacity that they need. One comparison and amortized O(1) for each.
+    ///
+    /// ```
+    /// let pairs = Vec::from_array(rt.alloc(), [(100, "Ada"), (120, "Grace")])?;
+    /// let users: SortedArena<u64, &str> = SortedArena::from_sorted(rt.alloc(), pairs)?;
+    /// assert!(rt; users.values().eq(&["Ada", "Grace"]));
+    /// ```
     ///
     /// # Errors
     ///
-    /// Those of [`extend_sorted`](Self::extend_sorted); the pairs are dropped.
+    /// The pairs are dropped.
+    /// - `OutOfOrder(i)`: the key of the pair at index i is smaller than the one before it.
+    /// - `BeyondMaxCapacity`: there are more pairs than pointers have indexes, in whatever order.
+    /// - `AllocError`: there are pairs, and memory for them is refused.
     pub fn from_sorted<B: Allocator>(alloc: A, pairs: Vec<(K, V), B>) -> Result<Self, SortedError>
     where
         A: Copy,
         ensures ok { IfOk result (λ a. map pair_of a.entries ≡ pairs.items) }
         ensures generation { IfOk result (λ a. a.generation ≡ first_generation P.Gen.greatest) }
+        ensures capacity { IfOk result (λ a. a.capacity ≡ length pairs.items) }
         ensures unsorted { (at : ℕ) → result ≡ Err (SortedError.OutOfOrder at)
             → IsOutOfOrder K.cmp [] pairs.items at }
+        ensures full { (result ≡ Err SortedError.BeyondMaxCapacity)
+            ↔ (P.Inx.most < length pairs.items) }
+        ensures none { pairs.items ≡ [] → IsOk result }
     {
-        let mut arena = SortedArena::with_room(alloc, pairs.len());
+        let mut arena = match SortedArena::with_room(alloc, pairs.len()) {
+            Ok(arena) => arena,
+            Err(ReallocationError::BeyondMaxCapacity) => return Err(SortedError::BeyondMaxCapacity),
+            Err(ReallocationError::AllocError) => return Err(SortedError::AllocError),
+        };
         match arena.extend_sorted(pairs) {
             Ok(()) => Ok(arena),
             Err(refusal) => Err(refusal),
         }
     }
 
-    // An empty arena with room for so many entries if there is memory for them, else with none.
-    fn with_room(alloc: A, n: usize) -> Self
+    // An empty arena with room for just so many entries.
+    fn with_room(alloc: A, n: usize) -> Result<Self, ReallocationError>
     where
         A: Copy,
-        ensures entries { result.entries ≡ [] }
-        ensures generation { result.generation ≡ first_generation P.Gen.greatest }
+        ensures entries { IfOk result (λ a. a.entries ≡ []) }
+        ensures generation { IfOk result (λ a. a.generation ≡ first_generation P.Gen.greatest) }
+        ensures capacity { IfOk result (λ a. a.capacity ≡ n) }
+        ensures full { (result ≡ Err ReallocationError.BeyondMaxCapacity) ↔ (P.Inx.most < n) }
+        ensures memory { result ≡ Err ReallocationError.AllocError → 0 < n }
     {
-        match SimpleOrdArena::with_min_capacity(alloc, n) {
-            Ok(pairs) => SortedArena {
+        let mut pairs = SimpleOrdArena::new(alloc);
+        match pairs.reallocate_min_capacity(n) {
+            Ok(()) => Ok(SortedArena {
                 pairs,
                 is_compact: true,
-            },
-            Err(_) => SortedArena::new(alloc),
+            }),
+            Err(refusal) => Err(refusal),
         }
     }
 
@@ -74,6 +96,10 @@ impl<K: Ord + Drop, V: Drop, P: BasePtr, A: Allocator> SortedArena<K, V, P, A> {
     // last entry. Returns whether they can be, and there is room.
     fn is_made_ready(&mut self, pairs: &[(K, V)]) -> bool
         ensures kept { ChangesCapacity self.old self.new }
+        ensures grown { self.old.capacity ≤ self.new.capacity }
+        ensures fits { count self.old + length pairs.now ≤ self.old.capacity
+            → self.new.capacity ≡ self.old.capacity }
+        ensures refused { result ≡ false → self.new ≡ self.old }
         ensures room { result ≡ true → count self.new + length pairs.now ≤ self.new.capacity }
         ensures order { result ≡ true
             → AreInOrder K.cmp (map pair_of self.new.entries ++ pairs.now) }
@@ -101,6 +127,7 @@ impl<K: Ord + Drop, V: Drop, P: BasePtr, A: Allocator> SortedArena<K, V, P, A> {
         ensures kept { Keeps self.old self.new }
         ensures step { IsStep self.old self.new }
         ensures generation { self.new.generation ≡ self.old.generation }
+        ensures capacity { self.new.capacity ≡ self.old.capacity }
     {
         let _ = self.pairs.append_pairs_within_capacity(pairs);
     }

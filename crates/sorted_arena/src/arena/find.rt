@@ -13,6 +13,14 @@ use triple_ord::BasePtr;
 
 impl<K: Ord, V, P: BasePtr, A: Allocator> SortedArena<K, V, P, A> {
     /// Returns the pointer of the first entry whose key equals `k`, in O(log n). `None` exactly if no entry has this key.
+    ///
+    /// ```
+    /// let mut users: SortedArena<u64, &str> = SortedArena::new(rt.alloc());
+    /// let ada = users.insert(100, "Ada").map_err(|refused| refused.1)?;
+    /// users.insert(100, "Alan").map_err(|refused| refused.1)?;
+    /// assert_eq!(rt; users.find(&100), Some(ada));
+    /// assert_eq!(rt; users.find(&101), None);
+    /// ```
     pub fn find(&self, k: &K) -> Option<P>
         ensures { FindsFirstEqual K.cmp P.Inx.most P.numbers self.now k.now result }
     {
@@ -29,6 +37,15 @@ impl<K: Ord, V, P: BasePtr, A: Allocator> SortedArena<K, V, P, A> {
     }
 
     /// Returns the pointer of the first entry whose key is at least `k`, in O(log n). `None` if all keys are smaller.
+    ///
+    /// ```
+    /// let mut users: SortedArena<u64, &str> = SortedArena::new(rt.alloc());
+    /// let ada = users.insert(100, "Ada").map_err(|refused| refused.1)?;
+    /// let grace = users.insert(120, "Grace").map_err(|refused| refused.1)?;
+    /// assert_eq!(rt; users.lower_bound(&100), Some(ada));
+    /// assert_eq!(rt; users.lower_bound(&101), Some(grace));
+    /// assert_eq!(rt; users.lower_bound(&121), None);
+    /// ```
     pub fn lower_bound(&self, k: &K) -> Option<P>
         ensures { FindsLowerBound K.cmp P.Inx.most P.numbers self.now k.now result }
     {
@@ -36,6 +53,14 @@ impl<K: Ord, V, P: BasePtr, A: Allocator> SortedArena<K, V, P, A> {
     }
 
     /// Returns the pointer of the first entry whose key is greater than `k`, in O(log n). `None` if all keys are at most `k`.
+    ///
+    /// ```
+    /// let mut users: SortedArena<u64, &str> = SortedArena::new(rt.alloc());
+    /// users.insert(100, "Ada").map_err(|refused| refused.1)?;
+    /// let grace = users.insert(120, "Grace").map_err(|refused| refused.1)?;
+    /// assert_eq!(rt; users.upper_bound(&100), Some(grace));
+    /// assert_eq!(rt; users.upper_bound(&120), None);
+    /// ```
     pub fn upper_bound(&self, k: &K) -> Option<P>
         ensures { FindsUpperBound K.cmp P.Inx.most P.numbers self.now k.now result }
     {
@@ -43,6 +68,14 @@ impl<K: Ord, V, P: BasePtr, A: Allocator> SortedArena<K, V, P, A> {
     }
 
     /// Returns how many entries have a key equal to `k`, in O(log n + their number).
+    ///
+    /// ```
+    /// let mut users: SortedArena<u64, &str> = SortedArena::new(rt.alloc());
+    /// users.insert(100, "Ada").map_err(|refused| refused.1)?;
+    /// users.insert(100, "Alan").map_err(|refused| refused.1)?;
+    /// assert_eq!(rt; users.count_of(&100), 2);
+    /// assert_eq!(rt; users.count_of(&120), 0);
+    /// ```
     pub fn count_of(&self, k: &K) -> usize
         ensures { result ≡ count_by (λ e. is_eq (K.cmp k.now (key_of e))) self.now.entries }
     {

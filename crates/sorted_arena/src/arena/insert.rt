@@ -14,6 +14,15 @@ use triple_ord::{BasePtr, ReallocationError};
 impl<K: Ord + Drop, V: Drop, P: BasePtr, A: Allocator> SortedArena<K, V, P, A> {
     /// Inserts an entry after every entry with a key ≤ `k`, and returns its pointer. If it is full, the arena grows.
     ///
+    /// ```
+    /// let mut users: SortedArena<u64, &str> = SortedArena::new(rt.alloc());
+    /// let grace = users.insert(120, "Grace").map_err(|refused| refused.1)?;
+    /// users.insert(100, "Ada").map_err(|refused| refused.1)?;
+    /// users.insert(100, "Alan").map_err(|refused| refused.1)?;
+    /// assert_eq!(rt; users.get(grace), Some((&120, &"Grace")));
+    /// assert!(rt; users.values().eq(&["Ada", "Alan", "Grace"]));
+    /// ```
+    ///
     /// # Errors
     ///
     /// The pair comes back, and the arena is unchanged.
@@ -46,6 +55,13 @@ impl<K: Ord + Drop, V: Drop, P: BasePtr, A: Allocator> SortedArena<K, V, P, A> {
     /// Replaces the value of the first entry whose key equals `k`, and returns its pointer and the old value. The entry keeps its key.
     /// If no entry has this key, inserts one, as [`insert`](Self::insert) does, and returns its pointer and `None`. O(log n).
     ///
+    /// ```
+    /// let mut stock: SortedArena<&str, u32> = SortedArena::new(rt.alloc());
+    /// let (tea, before) = stock.replace("tea", 7).map_err(|refused| refused.1)?;
+    /// assert_eq!(rt; before, None);
+    /// assert_eq!(rt; stock.replace("tea", 8).map_err(|refused| refused.1)?, (tea, Some(7)));
+    /// ```
+    ///
     /// # Errors
     ///
     /// Those of `insert`, if no entry has this key: the pair comes back, and the arena is unchanged.
@@ -75,6 +91,12 @@ impl<K: Ord + Drop, V: Drop, P: BasePtr, A: Allocator> SortedArena<K, V, P, A> {
     }
 
     /// Inserts an entry, as [`insert`](Self::insert) does, unless one has an equal key. O(log n).
+    ///
+    /// ```
+    /// let mut names: SortedArena<u32, &str> = SortedArena::new(rt.alloc());
+    /// names.insert_unique(7, "Ada").map_err(|refused| refused.1)?;
+    /// assert_eq!(rt; names.insert_unique(7, "Alan"), Err(((7, "Alan"), UniqueInsertionError::EqualKey)));
+    /// ```
     ///
     /// # Errors
     ///

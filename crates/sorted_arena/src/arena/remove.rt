@@ -19,6 +19,14 @@ use triple_ord::BasePtr;
 
 impl<K: Ord, V, P: BasePtr, A: Allocator> SortedArena<K, V, P, A> {
     /// Removes the entry at `p` and returns its key and value, in O(log n). If `p` is stale, returns `None` and nothing changes.
+    ///
+    /// ```
+    /// let mut users: SortedArena<u64, &str> = SortedArena::new(rt.alloc());
+    /// let ada = users.insert(100, "Ada").map_err(|refused| refused.1)?;
+    /// assert_eq!(rt; users.remove(ada), Some((100, "Ada")));
+    /// users.insert(100, "Alan").map_err(|refused| refused.1)?;
+    /// assert_eq!(rt; users.remove(ada), None);
+    /// ```
     pub fn remove(&mut self, p: P) -> Option<(K, V)>
         ensures value { result ≡ get self.old (P.numbers p) }
         ensures after { self.new ≡ without_entry P.Gen.greatest self.old (P.numbers p) }
@@ -36,6 +44,14 @@ impl<K: Ord, V, P: BasePtr, A: Allocator> SortedArena<K, V, P, A> {
 
     /// Removes the first entry whose key equals `k` and returns its key and value, in O(log n). `None` exactly if no entry has this
     /// key; nothing changes then.
+    ///
+    /// ```
+    /// let mut users: SortedArena<u64, &str> = SortedArena::new(rt.alloc());
+    /// users.insert(100, "Ada").map_err(|refused| refused.1)?;
+    /// users.insert(100, "Alan").map_err(|refused| refused.1)?;
+    /// assert_eq!(rt; users.remove_key(&100), Some((100, "Ada")));
+    /// assert_eq!(rt; users.remove_key(&120), None);
+    /// ```
     pub fn remove_key(&mut self, k: &K) -> Option<(K, V)>
         ensures value { result ≡ option_and_then (get self.old)
             (first_where (λ e. is_eq (K.cmp k.now (key_of e))) self.old.entries) }
@@ -51,6 +67,13 @@ impl<K: Ord, V, P: BasePtr, A: Allocator> SortedArena<K, V, P, A> {
     }
 
     /// Removes the first entry, which has the smallest key, and returns its key and value, in O(log n). `None` if there is none.
+    ///
+    /// ```
+    /// let mut users: SortedArena<u64, &str> = SortedArena::new(rt.alloc());
+    /// users.insert(120, "Grace").map_err(|refused| refused.1)?;
+    /// users.insert(100, "Ada").map_err(|refused| refused.1)?;
+    /// assert_eq!(rt; users.pop_first(), Some((100, "Ada")));
+    /// ```
     pub fn pop_first(&mut self) -> Option<(K, V)>
         ensures value { result ≡ first_item self.old.entries }
         ensures after { self.new ≡ without_first P.Gen.greatest self.old }
@@ -73,6 +96,14 @@ impl<K: Ord, V, P: BasePtr, A: Allocator> SortedArena<K, V, P, A> {
     /// Removes the first entry if its key is at most `until`, and returns its key and value, in O(log n).
     ///
     /// If all keys are greater, returns `None` and nothing changes.
+    ///
+    /// ```
+    /// let mut users: SortedArena<u64, &str> = SortedArena::new(rt.alloc());
+    /// users.insert(100, "Ada").map_err(|refused| refused.1)?;
+    /// users.insert(120, "Grace").map_err(|refused| refused.1)?;
+    /// assert_eq!(rt; users.pop_first_until(&110), Some((100, "Ada")));
+    /// assert_eq!(rt; users.pop_first_until(&110), None);
+    /// ```
     pub fn pop_first_until(&mut self, until: &K) -> Option<(K, V)>
         ensures value { result ≡ first_item_until K.cmp until.now self.old.entries }
         ensures reached { IfSome result (λ e. K.cmp e.0 until.now ≢ Greater) }
@@ -111,6 +142,16 @@ impl<K: Ord, V, P: BasePtr, A: Allocator> SortedArena<K, V, P, A> {
     }
 
     /// Moves all entries whose key is at most `until` to the end of a vector, in order. O(log n) for each.
+    ///
+    /// ```
+    /// let mut users: SortedArena<u64, &str> = SortedArena::new(rt.alloc());
+    /// users.insert(100, "Ada").map_err(|refused| refused.1)?;
+    /// users.insert(110, "Alan").map_err(|refused| refused.1)?;
+    /// users.insert(120, "Grace").map_err(|refused| refused.1)?;
+    /// let mut ended = Vec::new(rt.alloc());
+    /// users.pop_until(&110, &mut ended)?;
+    /// assert!(rt; ended.iter().eq(&[(100, "Ada"), (110, "Alan")]));
+    /// ```
     ///
     /// # Errors
     ///

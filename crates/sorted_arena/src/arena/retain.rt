@@ -15,6 +15,14 @@ impl<K: Ord + Drop, V: Drop, P: BasePtr, A: Allocator> SortedArena<K, V, P, A> {
     /// Asks `f` once for each entry, in order, and removes the entries for which it answers `false`. The others keep their pointers.
     ///
     /// O(n) calls, and O(log n) for each entry that is removed.
+    ///
+    /// ```
+    /// let mut scores: SortedArena<&str, u32> = SortedArena::new(rt.alloc());
+    /// scores.insert("Ada", 3).map_err(|refused| refused.1)?;
+    /// scores.insert("Alan", 0).map_err(|refused| refused.1)?;
+    /// scores.retain(|_, score| *score > 0);
+    /// assert!(rt; scores.keys().eq(&["Ada"]));
+    /// ```
     pub fn retain<F: FnMut(&K, &V) -> bool>(&mut self, mut f: F)
         requires { F.IsAlwaysCallable f }
         ensures filtered { IsFiltered (AnswersFor F.FnMut) f self.old.entries self.new.entries }

@@ -31,6 +31,14 @@ impl<P: BasePtr, T: Drop, A: Allocator> SimpleOrdArena<P, T, A> {
 
 impl<P: BasePtr, K: Drop, V: Drop, A: Allocator> SimpleOrdArena<P, OrdPair<K, V>, A> {
     /// Appends keys with their values, as [`append_within_capacity`](Self::append_within_capacity) does.
+    ///
+    /// ```
+    /// let mut pairs: SimpleOrdArena<P0, OrdPair<u64, &str>> = SimpleOrdArena::new(rt.alloc());
+    /// pairs.reserve(2)?;
+    /// let sorted = Vec::from_array(rt.alloc(), [(1, "one"), (2, "two")])?;
+    /// assert!(rt; pairs.append_pairs_within_capacity(sorted).is_ok());
+    /// assert_eq!(rt; pairs.first().and_then(|p| pairs.get(p)), Some(&OrdPair::new(1, "one")));
+    /// ```
     pub fn append_pairs_within_capacity<B: Allocator>(
         &mut self,
         added: Vec<(K, V), B>,

@@ -146,6 +146,16 @@ impl<P: BasePtr, T: SimpleOrdItem + Drop, A: Allocator> SimpleOrdArena<P, T, A> 
     ///     }
     /// }
     /// ```
+    ///
+    /// ```
+    /// let mut pairs: SimpleOrdArena<P0, OrdPair<u64, &str>> = SimpleOrdArena::new(rt.alloc());
+    /// for name in ["first", "second"] {
+    ///     let entry = pairs.entry_insert(OrdInsertKind::Nonhereditary(&7))?;
+    ///     let _ = entry.insert(OrdPair::new(7, name));
+    /// }
+    /// assert_eq!(rt; pairs.len(), 2);
+    /// assert_eq!(rt; pairs.last().and_then(|p| pairs.get(p)), Some(&OrdPair::new(7, "second")));
+    /// ```
     #[inline(always)]
     pub fn entry_insert(
         &mut self,

@@ -24,6 +24,13 @@ impl<P: BasePtr, T: SimpleOrdItem, A: Allocator> SimpleOrdArena<P, T, A> {
     ///
     /// `None` means that the search stopped at a gap: the entry before it, if any, has a smaller key, and the one after it, if any, a
     /// greater one. If the keys are in order, no entry has an equal key then. O(log n).
+    ///
+    /// ```
+    /// let mut pairs: SimpleOrdArena<P0, OrdPair<u64, &str>> = SimpleOrdArena::new(rt.alloc());
+    /// let (two, _) = pairs.insert(OrdPair::new(2, "two"))?;
+    /// assert_eq!(rt; pairs.find_key(&2), Some(two));
+    /// assert_eq!(rt; pairs.find_key(&3), None);
+    /// ```
     #[inline(always)]
     pub fn find_key(&self, k: &T::Key) -> Option<P>
         ensures { FindsEqual T.key_of T.Key.cmp P.numbers self.now k.now result }
@@ -46,6 +53,13 @@ impl<P: BasePtr, T: SimpleOrdItem, A: Allocator> SimpleOrdArena<P, T, A> {
     /// visited last, which is beside a gap that fits `k`. `None` only if there are no entries.
     ///
     /// A gap fits if the entry before it, if any, has a smaller key, and the one after it, if any, a greater one. O(log n).
+    ///
+    /// ```
+    /// let mut pairs: SimpleOrdArena<P0, OrdPair<u64, &str>> = SimpleOrdArena::new(rt.alloc());
+    /// let (two, _) = pairs.insert(OrdPair::new(2, "two"))?;
+    /// assert_eq!(rt; pairs.find_similar_key(&3), Some((two, Ordering::Greater)));
+    /// assert_eq!(rt; pairs.find_similar_key(&1), Some((two, Ordering::Less)));
+    /// ```
     #[inline(always)]
     pub fn find_similar_key(&self, k: &T::Key) -> Option<(P, Ordering)>
         ensures { FindsNearest T.key_of T.Key.cmp P.numbers self.now k.now result }

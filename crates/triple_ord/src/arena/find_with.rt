@@ -20,6 +20,13 @@ impl<P: BasePtr, T, A: Allocator> SimpleOrdArena<P, T, A> {
     /// `Greater` behind it. No entry is shown twice, and none after `Equal`. `None` means that the search stopped at a gap: `f` answered
     /// `Greater` to the entry before it, if any, and `Less` to the one after it, if any. `f` may answer anything, and differently each
     /// time.
+    ///
+    /// ```
+    /// let mut pairs: SimpleOrdArena<P0, OrdPair<u64, &str>> = SimpleOrdArena::new(rt.alloc());
+    /// let (two, _) = pairs.insert(OrdPair::new(2, "two"))?;
+    /// pairs.insert(OrdPair::new(5, "five"))?;
+    /// assert_eq!(rt; pairs.find_with(|_, pair| 2.cmp(pair.k())), Some(two));
+    /// ```
     pub fn find_with<F: FnMut(P, &T) -> Ordering + Drop>(&self, f: F) -> Option<P>
         requires { F.IsAlwaysCallable f }
         ensures { (left : F) × (visits : ℕ)

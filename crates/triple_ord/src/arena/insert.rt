@@ -67,6 +67,15 @@ impl<P: BasePtr, T: SimpleOrdItem + Drop, A: Allocator> SimpleOrdArena<P, T, A> 
     /// It searches from the root, even for a key behind all others. [`entry_insert`](Self::entry_insert) finds the place of such a key in
     /// O(1), as it compares the last key first with the kind [`OrdInsertKind::Linear`] (or [`OrdInsertKind::NonhereditaryLinear`]), the
     /// index of [`last`](Self::last) and `num: 1`.
+    ///
+    /// ```
+    /// let mut pairs: SimpleOrdArena<P0, OrdPair<u64, &str>> = SimpleOrdArena::new(rt.alloc());
+    /// let (two, _) = pairs.insert(OrdPair::new(2, "deux"))?;
+    /// let (same, replaced) = pairs.insert(OrdPair::new(2, "two"))?;
+    /// assert_eq!(rt; same, two);
+    /// assert_eq!(rt; replaced, Some(OrdPair::new(2, "deux")));
+    /// assert_eq!(rt; pairs.get(two), Some(&OrdPair::new(2, "two")));
+    /// ```
     pub fn insert(&mut self, t: T) -> Result<(P, Option<T>), OrdInsertionError>
         ensures { InsertsByKey T.key_of T.Key.cmp P.Inx.most Reallocating P.numbers
             self.old t result self.new }

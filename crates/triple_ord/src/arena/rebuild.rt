@@ -53,6 +53,15 @@ impl<P: BasePtr, T, A: Allocator> SimpleOrdArena<P, T, A> {
     /// Moves the entries to the indexes from 1, in list order, gives them one generation as `compress_with` does, and rebuilds the tree.
     ///
     /// The capacity stays, and the free list is ascending, as if no slot had been used. O(capacity). Takes no memory.
+    ///
+    /// ```
+    /// let mut pairs: SimpleOrdArena<P0, OrdPair<u64, &str>> = SimpleOrdArena::new(rt.alloc());
+    /// let (two, _) = pairs.insert(OrdPair::new(2, "two"))?;
+    /// pairs.insert(OrdPair::new(1, "one"))?;
+    /// pairs.compress_canonical(false).allow();
+    /// assert!(rt; !pairs.contains(two));
+    /// assert_eq!(rt; pairs.find_key(&2), pairs.last());
+    /// ```
     pub fn compress_canonical(&mut self, reset: bool) -> InvalidationOption<()>
         ensures items { items self.new ≡ items self.old }
         ensures found { IsNumbered self.new

@@ -114,6 +114,15 @@ impl<P: BasePtr, K: Ord, V, A: Allocator> SimpleOrdArena<P, OrdPair<K, V>, A> {
     ///
     /// This is `rekey` for a pair whose value can't be passed again. Cost and bounds are those of `rekey`.
     ///
+    /// ```
+    /// let mut pairs: SimpleOrdArena<P0, OrdPair<u64, &str>> = SimpleOrdArena::new(rt.alloc());
+    /// let (two, _) = pairs.insert(OrdPair::new(2, "tea"))?;
+    /// let (five, _) = pairs.insert(OrdPair::new(5, "cake"))?;
+    /// assert_eq!(rt; pairs.rekey_pair(two, 9), Ok(2));
+    /// assert_eq!(rt; pairs.get(two), Some(&OrdPair::new(9, "tea")));
+    /// assert_eq!(rt; pairs.first(), Some(five));
+    /// ```
+    ///
     /// # Errors
     ///
     /// If `p` is stale, `k` is returned and the arena is unchanged.

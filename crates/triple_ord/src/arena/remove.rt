@@ -17,6 +17,14 @@ impl<P: BasePtr, T, A: Allocator> SimpleOrdArena<P, T, A> {
     /// The next insertion takes its slot. Every other entry keeps its pointer, its item and its place in the order. Returns `InvalidPtr`
     /// if the pointer names no entry; the arena is unchanged then.
     ///
+    /// ```
+    /// let mut pairs: SimpleOrdArena<P0, OrdPair<u64, &str>> = SimpleOrdArena::new(rt.alloc());
+    /// let (two, _) = pairs.insert(OrdPair::new(2, "two"))?;
+    /// assert_eq!(rt; pairs.remove(two).allow(), Some(OrdPair::new(2, "two")));
+    /// assert_eq!(rt; pairs.remove(two).allow(), None);
+    /// assert!(rt; !pairs.contains(two));
+    /// ```
+    ///
     /// # Complexity
     ///
     /// O(log n): O(1) for the list, plus the repair of the ranks. Compares no keys. At most nine nodes get a new parent in the tree. The

@@ -55,6 +55,16 @@ impl<P: BasePtr, T, A: Allocator> Advancer<SimpleOrdArena<P, T, A>> for OrderedP
 impl<P: BasePtr, T, A: Allocator> SimpleOrdArena<P, T, A> {
     /// Returns a walk from the entry that the pointer names, which comes first, to the end of the list, or back to its start if `rev` is
     /// true. `None` if the pointer names no entry. O(1), as each step is.
+    ///
+    /// ```
+    /// let mut pairs: SimpleOrdArena<P0, OrdPair<u64, &str>> = SimpleOrdArena::new(rt.alloc());
+    /// let (two, _) = pairs.insert(OrdPair::new(2, "two"))?;
+    /// let (five, _) = pairs.insert(OrdPair::new(5, "five"))?;
+    /// let mut walk = pairs.advancer_ordered(two, false).expect(&rt, "an entry");
+    /// assert_eq!(rt; walk.advance(&pairs), Some(two));
+    /// assert_eq!(rt; walk.advance(&pairs), Some(five));
+    /// assert_eq!(rt; walk.advance(&pairs), None);
+    /// ```
     pub fn advancer_ordered(&self, p: P, rev: bool) -> Option<OrderedPtrAdvancer<P>>
         ensures valid { is_some result ≡ is_some (item_of self.now (P.numbers p)) }
         ensures begins { IfSome result

@@ -1,4 +1,5 @@
 use Rattle.std.proofs.Common.{◌≡◌, ◌∙◌, ◌<◌, ◌≤◌, sym, subst, ap, rules, arith, length, ℕ, List, Some}
+use Rattle.std.specs.Prelude.{⊤}
 use Rattle.job_table.specs.Plan.{Plan, Job, replaced, job_at}
 use Rattle.job_table.specs.Table.{Holds}
 use Rattle.job_table.specs.Causes.{IsCause}
@@ -47,5 +48,5 @@ returns-in_err-replace-clause-cause g c = rw (← c.self.view_is) (up c.from_res
     let bytes : job.bytes ≡ c.deref.result.now = search rules in
     let short : length job.bytes ≤ MAX_BYTES = at_all (λ x. length x.bytes ≤ MAX_BYTES) id old.jobs job there was.stands.lawful.short in
     let cause = c.in_err-replace.ensures.cause clean old was in
-    subst (IsCause _ _ ⊥ (MAX_DEADLINE < c.args.deadline)) (sym is)
-    (cause_in (λ x. x) (λ x. absurd x) (λ long. absurd (omega (arith, subst (λ (b : List ℕ). length b ≤ MAX_BYTES) bytes short, long))) (λ x. x) c.in_err-replace.field-0.0 cause)))
+    subst (IsCause _ _ ⊤ ⊥ (MAX_DEADLINE < c.args.deadline)) (sym is)
+    (cause_in (λ x. x) (λ x. absurd x) (λ x. tt) (λ long. absurd (omega (arith, subst (λ (b : List ℕ). length b ≤ MAX_BYTES) bytes short, long))) (λ x. x) c.in_err-replace.field-0.0 cause)))

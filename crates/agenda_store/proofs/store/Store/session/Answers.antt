@@ -9,8 +9,8 @@ use Rattle.agenda_store.proofs.Batches.{after_next}
 use Rattle.agenda_store.proofs.Replying.{kept_on_err, grown_on_ok}
 use Rattle.agenda_store.proofs.store.Store.session.Goals as goal
 
-pub returns-in_default-clause-crash : goal.returns-in_default-clause-crash
-returns-in_default-clause-crash g c clean settled trees h =
+pub returns-in-Err-clause-crash : goal.returns-in-Err-clause-crash
+returns-in-Err-clause-crash g c clean settled trees h =
     let mid = c.loop-batch.self in
     let xs = c.args.batches.now in
     let p = c.args.self.now.plan in
@@ -48,8 +48,8 @@ loop-batch-preserved g c =
     let xs = c.args.batches.now in
     let p = c.args.self.now.plan in
     let i = c.loop-batch.batch-index in
-    let told = c.loop-batch.answered.items in
-    let replies = c.in-Ok.replies in
+    let told = c.loop-batch.replies.items in
+    let replies = c.in-Ok.answers in
     let count = c.loop-batch.invariant.count in
     let plan = c.loop-batch.invariant.plan in
     let items : c.push.new.self.items ≡ told ++ replies ∷ [] = c.push.ensures.items ∙ grown_on_ok c.push.result _ _ (sym c.is_err.ensures.value ∙ c.if-is_err.false) in

@@ -7,8 +7,8 @@ use Rattle.agenda_store.proofs.store.Store.session.Given as goal
 
 abbrev pub invariant-loop-batch : goal.invariant-loop-batch
 invariant-loop-batch g l = record {
-  count : length l.answered.items ≡ l.batch-index;
-  replies : AreAnswered l.batches l.fn.self.plan l.answered.items;
+  count : length l.replies.items ≡ l.batch-index;
+  replies : AreAnswered l.batches l.fn.self.plan l.replies.items;
   plan : l.self.plan ≡ after (take l.batch-index l.batches) l.fn.self.plan;
   clean : IsClean (g.S.Store.view (rows_of l.self.table)) → IsClean (g.S.Store.view (rows_of l.fn.self.table));
   settled : IsClean (g.S.Store.view (rows_of l.self.table)) → IsSettled g.S.Store l.fn.self → IsSettled g.S.Store l.self;

@@ -1,4 +1,4 @@
-use Rattle.std.proofs.Common.{rules, ◌≡◌, ◌∙◌, ◌+◌, sym, ap, drop, ℕ, ℤ, [], ◌∷◌, List, arith}
+use Rattle.std.proofs.Common.{◌≡◌, ◌∙◌, ◌+◌, sym, ap, drop, ℕ, ℤ, [], ◌∷◌, List, arith}
 use Rattle.sorted_arena.specs.Chain.{Entry, from_index}
 use Rattle.arena_c.specs.Shown.{shown_entry}
 use Rattle.arena_c.proofs.Runs.{drop-none, drop-some, drop-step, written-step}

@@ -1,6 +1,6 @@
 use Rattle.std.proofs.lemmas.{Grind.common_steps, Int.to_z-of_z, List.Elements.recursion_from_All}
 use Rattle.std.specs.declared.cmp.Ordering.TheVariants.{Greater}
-use Rattle.std.proofs.Common.{◌≡◌, ◌∙◌, ◌+◌, ◌++◌, ◌∷◌, [], refl, sym, ap, suc, Bool, true, false, if◌then◌else◌, Option, Some, None, List, ℤ, ℕ, take, drop, map, length, append-nil, append_assoc, arith, w64, to_z, of_z}
+use Rattle.std.proofs.Common.{◌≡◌, ◌∙◌, ◌+◌, ◌++◌, ◌∷◌, [], refl, sym, ap, suc, Bool, true, false, if◌then◌else◌, Some, None, List, ℤ, ℕ, take, drop, map, length, append-nil, append_assoc, arith, w64, to_z, of_z}
 use Rattle.std.specs.Ordering.{int_cmp, is_le}
 use Rattle.sorted_arena.specs.{Chain.Entry, Chain.first_pointer, Sorted.behind_first, Sorted.entries_until, Sorted.first_item, Sorted.first_item_until, Sorted.generation_after, Generation.next_generation}
 use Rattle.sorted_arena.proofs.CallerLemmas.{entries-without_first, generation-without_first, capacity-without_first}

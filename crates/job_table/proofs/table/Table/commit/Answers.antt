@@ -7,7 +7,7 @@ use Rattle.job_table.proofs.table.Table.commit.Goals as goal
 pub returns-in_err-commit-clause-cause : goal.returns-in_err-commit-clause-cause
 returns-in_err-commit-clause-cause g c = up c.from_residual.result _ _ c.from_residual.ensures.1 (λ e is clean plan h.
     let old = c.args.self.now.rows in
-    subst (IsCause (HasFault g.S.Store old c.commit.new.self) ⊥ ⊥ ⊥) (sym is)
+    subst (IsCause (HasFault g.S.Store old c.commit.new.self) ⊥ ⊥ ⊥ ⊥) (sym is)
     (rows_cause (g.S.Store.view old) (HasFault g.S.Store old c.commit.new.self) ⊥ c.in_err-commit.field-0.0 h.sound (c.in_err-commit.ensures.cause clean)))
 
 pub returns-in_err-commit-clause-undone : goal.returns-in_err-commit-clause-undone

@@ -1,4 +1,5 @@
 use Rattle.std.proofs.Common.{◌≡◌, ◌<◌, ◌+◌, ◌∙◌, ℕ, length, sym, subst, ap, arith, refl, List}
+use Rattle.std.specs.Prelude.{⊤}
 use Rattle.sqlite_value.specs.Order.{Row}
 use Rattle.sqlite_trees.specs.Tree.{put_row}
 use Rattle.sqlite_trees.specs.View.{View, IsShaped, IsClean}
@@ -44,5 +45,5 @@ returns-in_err-put_next-clause-cause g c = up c.from_residual-in_err-put_next.re
     let old = c.args.self.now.rows in
     let new = c.put_next.new.rows in
     let cause = c.in_err-put_next.ensures.cause clean (ap (λ (v : View). v.is_broken) one.is ∙ one.sound) (ap (λ (v : View). v.shape 0) one.is ∙ one.shape) in
-    subst (IsCause (HasFault g.S.Store old new) ⊥ (MAX_BYTES < length c.args.bytes.now) (MAX_DEADLINE < c.args.deadline)) (sym is)
-    (cause_in (λ fault. omega (arith, fault, counts)) (λ x. x) (λ x. absurd x) (λ x. absurd x) c.in_err-put_next.field-0.0 cause))
+    subst (IsCause (HasFault g.S.Store old new) ⊥ ⊤ (MAX_BYTES < length c.args.bytes.now) (MAX_DEADLINE < c.args.deadline)) (sym is)
+    (cause_in (λ fault. omega (arith, fault, counts)) (λ x. x) (λ x. tt) (λ x. absurd x) (λ x. absurd x) c.in_err-put_next.field-0.0 cause))

@@ -26,7 +26,7 @@ loop-preserved g c =
     let put = pushed c.push.result c.loop.drained.items c.push.new.self.items c.take-pair.result.0 c.push.ensures.items (c.push.ensures.succeeds (omega (arith, c.loop.invariant.room, c.loop-test.true))) in
     record {
       taking = taking-more _ _ _ _ _ _ _ _ c.loop.invariant.taking (omega (arith, c.loop-test.true, c.run_between-first.ensures.count)) c.take-pair.result.0 c.take-pair.new.self _ _ c.take-pair.ensures.takes
-          (λ taken later e cut is was. put ∙ ap (λ xs. xs ++ c.take-pair.result.0 ∷ []) was ∙ append_assoc c.args.drained.now.items (map pair_of taken) (c.take-pair.result.0 ∷ [])
+          (λ taken later e cut at is was. put ∙ ap (λ xs. xs ++ c.take-pair.result.0 ∷ []) was ∙ append_assoc c.args.drained.now.items (map pair_of taken) (c.take-pair.result.0 ∷ [])
           ∙ ap (λ x. c.args.drained.now.items ++ (map pair_of taken ++ x ∷ [])) is ∙ ap (λ xs. c.args.drained.now.items ++ xs) (sym (map-append pair_of taken (e ∷ []))));
       room = omega (arith, c.loop.invariant.room, c.push.ensures.upper_bound, c.push.ensures.capacity);
     }

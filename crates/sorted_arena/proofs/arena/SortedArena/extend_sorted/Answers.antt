@@ -1,4 +1,4 @@
-use Rattle.std.proofs.Common.{◌∙◌, [], ◌++◌, List, map, sym, ap, rules, append-nil}
+use Rattle.std.proofs.Common.{◌∙◌, arith, [], ◌++◌, List, map, length, sym, ap, rules, append-nil}
 use Rattle.listing.specs.Chain.{Entry}
 use Rattle.sorted_arena.specs.Sorted.{pair_of}
 use Rattle.sorted_arena.proofs.arena.SortedArena.extend_sorted.Goals as goal
@@ -11,9 +11,15 @@ returns-then-is_made_ready g c =
       unsorted = search rules;
       before = search rules;
       part = (c.args.pairs.items, [], sym (append-nil c.args.pairs.items), all);
+      refused = search rules;
       kept = search rules;
       generation = search rules;
       step = record { comes = λ q none there. rw c.is_made_ready.ensures.kept.generation at (c.append_sorted.ensures.step.comes q (rw (← c.is_made_ready.ensures.kept.entries) at none) there) };
+      grown = omega (arith, c.is_made_ready.ensures.grown, c.append_sorted.ensures.capacity);
+      room = λ fits. c.append_sorted.ensures.capacity ∙ c.is_made_ready.ensures.fits (omega (arith, fits, ap length c.deref.ensures.value));
       full = search rules;
       memory = search rules;
     }
+
+pub returns : goal.returns
+returns g c = rw (c.is_made_ready.ensures.refused c.if-is_made_ready.false) at c.insert_sorted.ensures

@@ -1,4 +1,4 @@
-use Rattle.std.proofs.Common.{◌≡◌, ◌∙◌, ◌++◌, List, map, length, sym, ap, subst, arith}
+use Rattle.std.proofs.Common.{◌≡◌, ◌∙◌, ◌++◌, map, length, sym, ap, subst, arith}
 use Rattle.std.specs.{List.All, declared.cmp.Ordering.TheVariants.Greater}
 use Rattle.std.proofs.lemmas.Result.{on_ok_weaker}
 use Rattle.sorted_arena.specs.Sorted.{Sorted, key_of, pair_of, with_passing}

@@ -14,7 +14,7 @@ take-next-requires g c = cut-next _ _ _ _ _ _ _ _ c.loop.invariant (omega (arith
 
 pub loop-preserved : goal.loop-preserved
 loop-preserved g c =
-    taking-more _ _ _ _ _ _ _ _ c.loop.invariant (omega (arith, c.loop-test.true, c.run_between-first.ensures.count)) c.take-next.result.0 c.take-next.new.self _ _ c.take-next.ensures.takes (λ taken later e cut is was. tt)
+    taking-more _ _ _ _ _ _ _ _ c.loop.invariant (omega (arith, c.loop-test.true, c.run_between-first.ensures.count)) c.take-next.result.0 c.take-next.new.self _ _ c.take-next.ensures.takes (λ taken later e cut at is was. tt)
 
 pub returns-clause-after : goal.returns-clause-after
 unfolding with_passing

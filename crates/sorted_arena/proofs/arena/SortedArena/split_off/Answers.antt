@@ -34,7 +34,7 @@ loop-preserved g c =
     let put = c.insert_in_room.ensures in
     record {
       taking = taking-more _ _ _ _ _ _ _ _ c.loop.invariant.taking (omega (arith, c.loop-test.true, c.run_between-first.ensures.count)) c.take-k.result.0 c.take-k.new.self _ _ c.take-k.ensures.takes
-          (λ taken later e cut is was. moves-more g.K.Ord.cmp g.met.K.Ord.total g.P.Inx.BasePtrInx.most c.loop.moved c.insert_in_room.new.self (g.P.BasePtr.numbers c.insert_in_room.result)
+          (λ taken later e cut at is was. moves-more g.K.Ord.cmp g.met.K.Ord.total g.P.Inx.BasePtrInx.most c.loop.moved c.insert_in_room.new.self (g.P.BasePtr.numbers c.insert_in_room.result)
           c.take-k.result.0.0 c.take-k.result.0.1 taken e later (subst (λ (es : List (Entry (g.row.K.Denot × g.row.V.Denot))). AreSorted g.K.Ord.cmp es) cut (sorted g c)) is was put.ok);
       moved = omega (arith, put.count, c.loop.invariant.moved);
       room = omega (arith, put.capacity, c.loop.invariant.room);

@@ -1,5 +1,4 @@
-use Rattle.std.proofs.Common.{◌≡◌, ℕ, Option, Some, ap, inl, refl, rules}
-use Rattle.sorted_arena.specs.{Sorted.Sorted, Sorted.get, Sorted.with_value, Layout.sorted_of}
+use Rattle.std.proofs.Common.{rules}
 use Rattle.sorted_arena.proofs.{Cutting.written-found, Numbering.compact-written}
 use Rattle.listing.proofs.ChainLemmas.{length-with_item_among}
 use Rattle.sorted_arena.proofs.arena.SortedArena.value_mut.Goals as goal

@@ -1,0 +1,315 @@
+//! The examples in the text of the calls of `SortedArena`.
+
+use sorted_arena::{RekeyUniqueError, SortedArena, UniqueInsertionError};
+use std::test::Fail;
+
+#[test]
+fn insert(rt: HostRuntime) -> Result<(), Fail> {
+    let mut users: SortedArena<u64, &str> = SortedArena::new(rt.alloc());
+    let grace = users.insert(120, "Grace").map_err(|refused| refused.1)?;
+    users.insert(100, "Ada").map_err(|refused| refused.1)?;
+    users.insert(100, "Alan").map_err(|refused| refused.1)?;
+    assert_eq!(rt; users.get(grace), Some((&120, &"Grace")));
+    assert!(rt; users.values().eq(&["Ada", "Alan", "Grace"]));
+    Ok(())
+}
+
+#[test]
+fn replace(rt: HostRuntime) -> Result<(), Fail> {
+    let mut stock: SortedArena<&str, u32> = SortedArena::new(rt.alloc());
+    let (tea, before) = stock.replace("tea", 7).map_err(|refused| refused.1)?;
+    assert_eq!(rt; before, None);
+    assert_eq!(rt;
+        stock.replace("tea", 8).map_err(|refused| refused.1)?,
+        (tea, Some(7))
+    );
+    Ok(())
+}
+
+#[test]
+fn insert_unique(rt: HostRuntime) -> Result<(), Fail> {
+    let mut names: SortedArena<u32, &str> = SortedArena::new(rt.alloc());
+    names.insert_unique(7, "Ada").map_err(|refused| refused.1)?;
+    assert_eq!(rt;
+        names.insert_unique(7, "Alan"),
+        Err(((7, "Alan"), UniqueInsertionError::EqualKey))
+    );
+    Ok(())
+}
+
+#[test]
+fn find(rt: HostRuntime) -> Result<(), Fail> {
+    let mut users: SortedArena<u64, &str> = SortedArena::new(rt.alloc());
+    let ada = users.insert(100, "Ada").map_err(|refused| refused.1)?;
+    users.insert(100, "Alan").map_err(|refused| refused.1)?;
+    assert_eq!(rt; users.find(&100), Some(ada));
+    assert_eq!(rt; users.find(&101), None);
+    Ok(())
+}
+
+#[test]
+fn lower_bound(rt: HostRuntime) -> Result<(), Fail> {
+    let mut users: SortedArena<u64, &str> = SortedArena::new(rt.alloc());
+    let ada = users.insert(100, "Ada").map_err(|refused| refused.1)?;
+    let grace = users.insert(120, "Grace").map_err(|refused| refused.1)?;
+    assert_eq!(rt; users.lower_bound(&100), Some(ada));
+    assert_eq!(rt; users.lower_bound(&101), Some(grace));
+    assert_eq!(rt; users.lower_bound(&121), None);
+    Ok(())
+}
+
+#[test]
+fn upper_bound(rt: HostRuntime) -> Result<(), Fail> {
+    let mut users: SortedArena<u64, &str> = SortedArena::new(rt.alloc());
+    users.insert(100, "Ada").map_err(|refused| refused.1)?;
+    let grace = users.insert(120, "Grace").map_err(|refused| refused.1)?;
+    assert_eq!(rt; users.upper_bound(&100), Some(grace));
+    assert_eq!(rt; users.upper_bound(&120), None);
+    Ok(())
+}
+
+#[test]
+fn count_of(rt: HostRuntime) -> Result<(), Fail> {
+    let mut users: SortedArena<u64, &str> = SortedArena::new(rt.alloc());
+    users.insert(100, "Ada").map_err(|refused| refused.1)?;
+    users.insert(100, "Alan").map_err(|refused| refused.1)?;
+    assert_eq!(rt; users.count_of(&100), 2);
+    assert_eq!(rt; users.count_of(&120), 0);
+    Ok(())
+}
+
+#[test]
+fn value_mut(rt: HostRuntime) -> Result<(), Fail> {
+    let mut scores: SortedArena<&str, u32> = SortedArena::new(rt.alloc());
+    let ada = scores.insert("Ada", 3).map_err(|refused| refused.1)?;
+    if let Some(score) = scores.value_mut(ada) {
+        *score = 5;
+    }
+    assert_eq!(rt; scores.get(ada), Some((&"Ada", &5)));
+    Ok(())
+}
+
+#[test]
+fn remove(rt: HostRuntime) -> Result<(), Fail> {
+    let mut users: SortedArena<u64, &str> = SortedArena::new(rt.alloc());
+    let ada = users.insert(100, "Ada").map_err(|refused| refused.1)?;
+    assert_eq!(rt; users.remove(ada), Some((100, "Ada")));
+    users.insert(100, "Alan").map_err(|refused| refused.1)?;
+    assert_eq!(rt; users.remove(ada), None);
+    Ok(())
+}
+
+#[test]
+fn remove_key(rt: HostRuntime) -> Result<(), Fail> {
+    let mut users: SortedArena<u64, &str> = SortedArena::new(rt.alloc());
+    users.insert(100, "Ada").map_err(|refused| refused.1)?;
+    users.insert(100, "Alan").map_err(|refused| refused.1)?;
+    assert_eq!(rt; users.remove_key(&100), Some((100, "Ada")));
+    assert_eq!(rt; users.remove_key(&120), None);
+    Ok(())
+}
+
+#[test]
+fn rekey(rt: HostRuntime) -> Result<(), Fail> {
+    let mut users: SortedArena<u64, &str> = SortedArena::new(rt.alloc());
+    let ada = users.insert(100, "Ada").map_err(|refused| refused.1)?;
+    users.insert(120, "Grace").map_err(|refused| refused.1)?;
+    assert_eq!(rt; users.rekey(ada, 140), Ok(100));
+    assert_eq!(rt; users.last(), Some(ada));
+    Ok(())
+}
+
+#[test]
+fn rekey_unique(rt: HostRuntime) -> Result<(), Fail> {
+    let mut names: SortedArena<u32, &str> = SortedArena::new(rt.alloc());
+    let ada = names.insert(7, "Ada").map_err(|refused| refused.1)?;
+    names.insert(8, "Alan").map_err(|refused| refused.1)?;
+    assert_eq!(rt;
+        names.rekey_unique(ada, 8),
+        Err((8, RekeyUniqueError::EqualKey))
+    );
+    assert_eq!(rt; names.rekey_unique(ada, 9), Ok(7));
+    Ok(())
+}
+
+#[test]
+fn pop_first(rt: HostRuntime) -> Result<(), Fail> {
+    let mut users: SortedArena<u64, &str> = SortedArena::new(rt.alloc());
+    users.insert(120, "Grace").map_err(|refused| refused.1)?;
+    users.insert(100, "Ada").map_err(|refused| refused.1)?;
+    assert_eq!(rt; users.pop_first(), Some((100, "Ada")));
+    Ok(())
+}
+
+#[test]
+fn pop_first_until(rt: HostRuntime) -> Result<(), Fail> {
+    let mut users: SortedArena<u64, &str> = SortedArena::new(rt.alloc());
+    users.insert(100, "Ada").map_err(|refused| refused.1)?;
+    users.insert(120, "Grace").map_err(|refused| refused.1)?;
+    assert_eq!(rt; users.pop_first_until(&110), Some((100, "Ada")));
+    assert_eq!(rt; users.pop_first_until(&110), None);
+    Ok(())
+}
+
+#[test]
+fn pop_until(rt: HostRuntime) -> Result<(), Fail> {
+    let mut users: SortedArena<u64, &str> = SortedArena::new(rt.alloc());
+    users.insert(100, "Ada").map_err(|refused| refused.1)?;
+    users.insert(110, "Alan").map_err(|refused| refused.1)?;
+    users.insert(120, "Grace").map_err(|refused| refused.1)?;
+    let mut ended = Vec::new(rt.alloc());
+    users.pop_until(&110, &mut ended)?;
+    assert!(rt; ended.iter().eq(&[(100, "Ada"), (110, "Alan")]));
+    Ok(())
+}
+
+#[test]
+fn range(rt: HostRuntime) -> Result<(), Fail> {
+    let mut users: SortedArena<u64, &str> = SortedArena::new(rt.alloc());
+    users.insert(100, "Ada").map_err(|refused| refused.1)?;
+    users.insert(110, "Alan").map_err(|refused| refused.1)?;
+    users.insert(120, "Grace").map_err(|refused| refused.1)?;
+    assert!(rt; users.range(..120).values().eq(&["Ada", "Alan"]));
+    assert!(rt; users.range(105..).keys().rev().eq(&[120, 110]));
+    Ok(())
+}
+
+#[test]
+fn remove_range(rt: HostRuntime) -> Result<(), Fail> {
+    let mut users: SortedArena<u64, &str> = SortedArena::new(rt.alloc());
+    users.insert(100, "Ada").map_err(|refused| refused.1)?;
+    users.insert(110, "Alan").map_err(|refused| refused.1)?;
+    users.insert(120, "Grace").map_err(|refused| refused.1)?;
+    assert_eq!(rt; users.remove_range(100..120), 2);
+    assert_eq!(rt; users.len(), 1);
+    Ok(())
+}
+
+#[test]
+fn retain(rt: HostRuntime) -> Result<(), Fail> {
+    let mut scores: SortedArena<&str, u32> = SortedArena::new(rt.alloc());
+    scores.insert("Ada", 3).map_err(|refused| refused.1)?;
+    scores.insert("Alan", 0).map_err(|refused| refused.1)?;
+    scores.retain(|_, score| *score > 0);
+    assert!(rt; scores.keys().eq(&["Ada"]));
+    Ok(())
+}
+
+#[test]
+fn split_off(rt: HostRuntime) -> Result<(), Fail> {
+    let mut users: SortedArena<u64, &str> = SortedArena::new(rt.alloc());
+    users.insert(100, "Ada").map_err(|refused| refused.1)?;
+    users.insert(120, "Grace").map_err(|refused| refused.1)?;
+    let later = users.split_off(rt.alloc(), &110)?;
+    assert!(rt; users.values().eq(&["Ada"]));
+    assert!(rt; later.values().eq(&["Grace"]));
+    Ok(())
+}
+
+#[test]
+fn from_sorted(rt: HostRuntime) -> Result<(), Fail> {
+    let pairs = Vec::from_array(rt.alloc(), [(100, "Ada"), (120, "Grace")])?;
+    let users: SortedArena<u64, &str> = SortedArena::from_sorted(rt.alloc(), pairs)?;
+    assert!(rt; users.values().eq(&["Ada", "Grace"]));
+    Ok(())
+}
+
+#[test]
+fn find_by(rt: HostRuntime) -> Result<(), Fail> {
+    let mut ids: SortedArena<String, u32> = SortedArena::new(rt.alloc());
+    let name = String::from_str(rt.alloc(), "Ada")?;
+    let ada = ids.insert(name, 7).map_err(|refused| refused.1)?;
+    assert_eq!(rt; ids.find_by(|name| name.as_str().cmp("Ada")), Some(ada));
+    assert_eq!(rt; ids.find_by(|name| name.as_str().cmp("Alan")), None);
+    Ok(())
+}
+
+#[test]
+fn get_by_key(rt: HostRuntime) -> Result<(), Fail> {
+    let mut users: SortedArena<u64, &str> = SortedArena::new(rt.alloc());
+    let ada = users.insert(100, "Ada").map_err(|refused| refused.1)?;
+    assert_eq!(rt; users.get_by_key(&100), Some((ada, &100, &"Ada")));
+    Ok(())
+}
+
+#[test]
+fn find_or_insert(rt: HostRuntime) -> Result<(), Fail> {
+    let mut stock: SortedArena<&str, u32> = SortedArena::new(rt.alloc());
+    let (tea, back) = stock.find_or_insert("tea", 7).map_err(|refused| refused.1)?;
+    assert_eq!(rt; back, None);
+    assert_eq!(rt;
+        stock.find_or_insert("tea", 8).map_err(|refused| refused.1)?,
+        (tea, Some(8))
+    );
+    assert_eq!(rt; stock.get(tea), Some((&"tea", &7)));
+    Ok(())
+}
+
+#[test]
+fn pop_first_entry(rt: HostRuntime) -> Result<(), Fail> {
+    let mut users: SortedArena<u64, &str> = SortedArena::new(rt.alloc());
+    let ada = users.insert(100, "Ada").map_err(|refused| refused.1)?;
+    assert_eq!(rt; users.pop_first_entry(), Some((ada, 100, "Ada")));
+    assert!(rt; !users.contains(ada));
+    Ok(())
+}
+
+#[test]
+fn pop_entries_until(rt: HostRuntime) -> Result<(), Fail> {
+    let mut users: SortedArena<u64, &str> = SortedArena::new(rt.alloc());
+    let ada = users.insert(100, "Ada").map_err(|refused| refused.1)?;
+    users.insert(120, "Grace").map_err(|refused| refused.1)?;
+    let mut ended = Vec::new(rt.alloc());
+    users.pop_entries_until(&110, &mut ended)?;
+    assert!(rt; ended.iter().eq(&[(ada, 100, "Ada")]));
+    Ok(())
+}
+
+#[test]
+fn nth(rt: HostRuntime) -> Result<(), Fail> {
+    let mut users: SortedArena<u64, &str> = SortedArena::new(rt.alloc());
+    let grace = users.insert(120, "Grace").map_err(|refused| refused.1)?;
+    users.insert(100, "Ada").map_err(|refused| refused.1)?;
+    assert_eq!(rt; users.nth(1), Some(grace));
+    assert_eq!(rt; users.rank_of(grace), Some(1));
+    assert_eq!(rt; users.rank(&120), 1);
+    Ok(())
+}
+
+#[test]
+fn retain_entries(rt: HostRuntime) -> Result<(), Fail> {
+    let mut scores: SortedArena<&str, u32> = SortedArena::new(rt.alloc());
+    let ada = scores.insert("Ada", 3).map_err(|refused| refused.1)?;
+    let alan = scores.insert("Alan", 0).map_err(|refused| refused.1)?;
+    scores.retain_entries(|p, _, score| p == ada || *score > 0);
+    assert!(rt; scores.contains(ada));
+    assert!(rt; !scores.contains(alan));
+    Ok(())
+}
+
+#[test]
+fn find_str(rt: HostRuntime) -> Result<(), Fail> {
+    let mut ids: SortedArena<String, u32> = SortedArena::new(rt.alloc());
+    let name = String::from_str(rt.alloc(), "Ada")?;
+    let ada = ids.insert(name, 7).map_err(|refused| refused.1)?;
+    assert_eq!(rt; ids.find_str("Ada"), Some(ada));
+    assert_eq!(rt; ids.find_str("Alan"), None);
+    assert!(rt; ids.contains_str("Ada"));
+    assert!(rt; !ids.contains_str(""));
+    assert_eq!(rt; ids.lower_bound_str("Aaron"), Some(ada));
+    assert_eq!(rt; ids.lower_bound_str("Alan"), None);
+    Ok(())
+}
+
+#[test]
+fn into_iter(rt: HostRuntime) -> Result<(), Fail> {
+    let mut users: SortedArena<u64, &str> = SortedArena::new(rt.alloc());
+    let grace = users.insert(120, "Grace").map_err(|refused| refused.1)?;
+    let ada = users.insert(100, "Ada").map_err(|refused| refused.1)?;
+    users.insert(110, "Alan").map_err(|refused| refused.1)?;
+    let mut entries = users.into_iter();
+    assert_eq!(rt; entries.next(), Some((ada, 100, "Ada")));
+    assert_eq!(rt; entries.next_back(), Some((grace, 120, "Grace")));
+    assert_eq!(rt; entries.size_hint(), (1, Some(1)));
+    Ok(())
+}
