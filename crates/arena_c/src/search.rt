@@ -1,9 +1,10 @@
 //! Entries by their keys and by their places in the order. Each call writes the entry that it found, with its pointer.
 
-ghost use Rattle.std.specs.Prelude.{◌≡◌, Some, count_by};
-ghost use Rattle.std.specs.Ordering.{int_cmp, is_eq, is_le, is_lt};
+ghost use Rattle.std.specs.Prelude.{◌≡◌, Some, count_by, slice_get};
+ghost use Rattle.std.specs.Option.{option_map};
+ghost use Rattle.std.specs.Ordering.{int_cmp, is_eq, is_gt, is_le, is_lt};
 ghost use Rattle.sorted_arena.specs.Chain.{first_pointer, last_pointer};
-ghost use Rattle.sorted_arena.specs.Sorted.{first_where, key_of, next_of, prev_of};
+ghost use Rattle.sorted_arena.specs.Sorted.{first_where, key_of, next_of, pointer_of, prev_of};
 ghost use Rattle.arena_c.specs.Answer.{Looks};
 ghost use Rattle.arena_c.specs.Shown.{entry_found, numbers_of};
 
@@ -148,4 +149,40 @@ pub extern "C" fn topscedar_arena_count(
     };
     let found = content.pairs.count_of(&key);
     arena.answer(content, Some(found), count)
+}
+
+/// Writes how many entries have a key smaller than `key`, in O(log n), plus O(1) for each of them. `OK` or `CLOSED`.
+#[unsafe(no_mangle)]
+pub extern "C" fn topscedar_arena_rank(
+    alloc: Global,
+    arena: &mut Handle,
+    key: i64,
+    rank: &mut usize,
+) -> u8
+    ensures { Looks (λ a. Some (count_by (λ e. is_gt (int_cmp key (key_of e))) a.entries))
+        arena.old.slot.held arena.new.slot.held result rank.old rank.new }
+{
+    let Some(content) = arena.take(alloc) else {
+        return CLOSED;
+    };
+    let found = content.pairs.rank(&key);
+    arena.answer(content, Some(found), rank)
+}
+
+/// Finds the entry that has `index` entries before it, in O(`index`). `OK`, `CLOSED`, or `NOT_FOUND` if there are no more than `index` entries.
+#[unsafe(no_mangle)]
+pub extern "C" fn topscedar_arena_nth(
+    alloc: Global,
+    arena: &mut Handle,
+    index: usize,
+    entry: &mut Entry,
+) -> u8
+    ensures { Looks (λ a. entry_found a (option_map pointer_of (slice_get a.entries index)))
+        arena.old.slot.held arena.new.slot.held result entry.old entry.new }
+{
+    let Some(content) = arena.take(alloc) else {
+        return CLOSED;
+    };
+    let found = content.entry_found(content.pairs.nth(index));
+    arena.answer(content, found, entry)
 }

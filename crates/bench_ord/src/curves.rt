@@ -53,7 +53,7 @@ pub fn draw<W: Write>(
     alloc: Global,
     out: &mut W,
     points: &[Point],
-    caches: &[u64],
+    caches: &[usize],
 ) -> io::Result<()> {
     let axes = axes_of(points);
     head(out)?;
@@ -117,7 +117,12 @@ fn head<W: Write>(out: &mut W) -> io::Result<()> {
 }
 
 // The heading of a panel, and the lines that its curves lie on.
-fn background<W: Write>(out: &mut W, axes: Axes, measure: &str, caches: &[u64]) -> io::Result<()> {
+fn background<W: Write>(
+    out: &mut W,
+    axes: Axes,
+    measure: &str,
+    caches: &[usize],
+) -> io::Result<()> {
     writeln!(
         out,
         "<text class=\"tsb-measure\" x=\"0\" y=\"-9\">{measure}</text>"
@@ -146,9 +151,9 @@ fn line<W: Write>(out: &mut W, class: &str, from: (u64, u64), to: (u64, u64)) ->
 }
 
 // A line for each cache, at the number of entries that fill it.
-fn marks<W: Write>(out: &mut W, axes: Axes, caches: &[u64]) -> io::Result<()> {
+fn marks<W: Write>(out: &mut W, axes: Axes, caches: &[usize]) -> io::Result<()> {
     for (at, bytes) in caches.iter().enumerate() {
-        let n = bytes / BYTES_AN_ENTRY;
+        let n = *bytes as u64 / BYTES_AN_ENTRY;
         if axes.has_entries(n) {
             let (x, level) = (axes.across(n), at.saturating_add(1));
             line(out, "tsb-cache", (x, 0), (x, PLOT_HEIGHT))?;

@@ -1,12 +1,6 @@
 //! Measures an ordered arena beside std's `BTreeMap` and plain vectors, and its searches from a hint beside whole ones; and a sorted
 //! arena beside `BTreeMap`; an agenda beside std's `BinaryHeap` and `BTreeMap`; a timeline beside a `BTreeMap` of its changes; and an order
 //! book beside two `BTreeMap`s.
-//!
-//! Each argument is a number of entries, of jobs, of stretches, and of orders. Standard output gets the sums of what the measured calls answered,
-//! the same on each run; standard error gets their times, in nanoseconds an operation, the best of several rounds.
-//!
-//! With `--csv` in front standard output gets the times instead, as comma-separated values. `--svg BYTES..` draws such values, which it reads
-//! from standard input, as curves, and marks where an arena fills a cache of so many bytes.
 #![tactic(auto)]
 
 mod arena;
@@ -21,6 +15,7 @@ mod market;
 mod measured;
 mod measures;
 mod names;
+mod options;
 mod rekeying;
 mod report;
 mod scheduling;
@@ -34,14 +29,12 @@ mod timetable;
 mod trading;
 mod vector;
 
-use anyhow::{Context, Result};
+use anyhow::Result;
+use line_service::{Failure, Request, arguments, ended, parse_arguments};
+use options::{Task, command};
+use std::io;
 use std::io::{BufWriter, Write};
-use std::{env, io};
-
-/// The number that an argument says.
-fn number_of(argument: &str) -> Result<usize> {
-    Ok(argument.parse::<usize>().context("a number is wanted")?)
-}
+use std::process::ExitCode;
 
 /// Measures everything at n entries, and prints it.
 fn measure(rt: &HostRuntime, n: usize) -> Result<()> {
@@ -53,8 +46,16 @@ fn measure(rt: &HostRuntime, n: usize) -> Result<()> {
     trading::run(rt, n)
 }
 
+/// Measures everything at each of these numbers of entries.
+fn measure_all(rt: &HostRuntime, numbers: &[usize]) -> Result<()> {
+    for n in numbers {
+        measure(rt, *n)?;
+    }
+    Ok(())
+}
+
 /// Draws what standard input says was measured.
-fn draw(rt: &HostRuntime, caches: &[u64]) -> Result<()> {
+fn draw(rt: &HostRuntime, caches: &[usize]) -> Result<()> {
     let text = io::read_to_string(rt.alloc(), rt.reader())?;
     let points = measured::points_of(rt.alloc(), text.as_str())?;
     let mut out = BufWriter::new(rt.alloc(), io::writer(rt))?;
@@ -63,25 +64,36 @@ fn draw(rt: &HostRuntime, caches: &[u64]) -> Result<()> {
     Ok(())
 }
 
-fn main(rt: HostRuntime) -> Result<()> {
-    let mut numbers = Vec::new(rt.alloc());
-    let mut is_drawing = false;
-    for argument in env::args(&rt)?.skip(1) {
-        match argument.as_str() {
-            "--csv" => println!(rt; "entries,measure,structure,nanoseconds")?,
-            "--svg" => is_drawing = true,
-            number => numbers.push(number_of(number)?)?,
+/// Does what is asked for.
+fn work(rt: &HostRuntime, task: &Task) -> Result<()> {
+    match task {
+        Task::Measure(numbers) => measure_all(rt, numbers),
+        Task::List(numbers) => {
+            println!(rt; "entries,measure,structure,nanoseconds")?;
+            measure_all(rt, numbers)
+        }
+        Task::Draw(caches) => draw(rt, caches),
+    }
+}
+
+/// Does what the command line asks for. What fails is written to standard error as one line.
+fn work_by_arguments(rt: &HostRuntime) -> Result<ExitCode, Failure> {
+    let words = arguments(rt)?;
+    let command = command(rt.alloc())?;
+    let matches = match parse_arguments(rt, "bench_ord", command, words.as_slice())? {
+        Request::End(status) => return Ok(status),
+        Request::Run(matches) => matches,
+    };
+    match Task::of(rt.alloc(), &matches).and_then(|task| work(rt, &task)) {
+        Ok(()) => Ok(ExitCode::SUCCESS),
+        Err(error) => {
+            let _ = eprintln!(rt; "bench_ord: {error}");
+            Ok(ExitCode::FAILURE)
         }
     }
-    if is_drawing {
-        let caches: Vec<u64> = numbers
-            .iter()
-            .map(|bytes| *bytes as u64)
-            .collect(rt.alloc())?;
-        return draw(&rt, &caches);
-    }
-    for n in &numbers {
-        measure(&rt, *n)?;
-    }
-    Ok(())
+}
+
+fn main(rt: HostRuntime) -> ExitCode {
+    let outcome = work_by_arguments(&rt);
+    ended(&rt, "bench_ord", outcome)
 }

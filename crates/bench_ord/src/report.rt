@@ -13,12 +13,12 @@ pub struct Row<'a> {
     pub other_name: &'a str,
 }
 
-/// Prints the sums to standard output, and the times to standard error; or, if the first argument is `--csv`, the times to standard output.
+/// Prints the sums to standard output, and the times to standard error; or, if `--csv` is an argument, the times to standard output.
 pub fn print(rt: &HostRuntime, row: Row) -> io::Result<()> {
-    match env::args(rt)?.nth(1) {
-        Some(first) if first.as_str() == "--csv" => print_values(rt, row),
-        _ => print_table(rt, row),
+    if env::args(rt)?.any(|word| word.as_str() == "--csv") {
+        return print_values(rt, row);
     }
+    print_table(rt, row)
 }
 
 // Prints the times as comma-separated values, a line for each structure. A measure may have commas, and stands in quotation marks.

@@ -43,11 +43,21 @@ static PyObject *arena_insert_unique(Arena *self, PyObject *const *args, Py_ssiz
     return takes(count, 2, 2, "insert_unique") ? insert_by(self, args, true) : NULL;
 }
 
-static PyObject *arena_extend_sorted(Arena *self, PyObject *const *args, Py_ssize_t given) {
-    if (!takes(given, 2, 2, "extend_sorted")) return NULL;
+/* The list of these tokens. */
+static int fill_tokens(PyObject *tokens, const struct topscedar_pointer *pointers, size_t count) {
+    for (size_t i = 0; i < count; i++) {
+        PyObject *token = token_out(pointers[i]);
+        if (!token || PyList_SetItem(tokens, (Py_ssize_t)i, token)) return -1;
+    }
+    return 0;
+}
+
+/* Inserts pairs behind all entries, and returns their tokens, if they are wanted, else None. */
+static PyObject *extended(Arena *self, PyObject *const *args, bool wants_tokens) {
     PyObject *keys = PySequence_Fast(args[0], "keys is no iterable"), *values = NULL, *result = NULL;
     int64_t *numbers = NULL;
     uint64_t *words = NULL;
+    struct topscedar_pointer *pointers = NULL;
     if (!keys || !(values = PySequence_Fast(args[1], "values is no iterable"))) goto end;
     Py_ssize_t count = FAST_COUNT(keys), made = 0;
     if (count != FAST_COUNT(values)) {
@@ -56,7 +66,8 @@ static PyObject *arena_extend_sorted(Arena *self, PyObject *const *args, Py_ssiz
     }
     numbers = PyMem_Malloc((size_t)count * sizeof *numbers + 1);
     words = PyMem_Malloc((size_t)count * sizeof *words + 1);
-    if (!numbers || !words) {
+    if (wants_tokens) pointers = PyMem_Malloc((size_t)count * sizeof *pointers + 1);
+    if (!numbers || !words || (wants_tokens && !pointers)) {
         PyErr_NoMemory();
         goto end;
     }
@@ -71,25 +82,43 @@ static PyObject *arena_extend_sorted(Arena *self, PyObject *const *args, Py_ssiz
         words[made++] = word_of(pair);
         if (key_of(self, KEY_OF(pair), &numbers[made - 1])) goto release;
     }
-    size_t at = 0;
-    uint8_t status = topscedar_extend_sorted(&self->handle, numbers, words, (size_t)count, NULL, &at);
-    if (status == TOPSCEDAR_OK) {
-        self->shape++;
-        made = 0;
+    if (wants_tokens) {
+        result = PyList_New(count);
+        if (!result) goto release;
+    } else {
         Py_INCREF(Py_None);
         result = Py_None;
+    }
+    size_t at = 0;
+    uint8_t status = topscedar_extend_sorted(&self->handle, numbers, words, (size_t)count, pointers, &at);
+    if (status == TOPSCEDAR_OK) {
+        self->shape++;
+        if (!wants_tokens || fill_tokens(result, pointers, (size_t)count) == 0)
+            made = 0;
+        else
+            for (Py_ssize_t i = 0; i < count; i++) topscedar_remove(&self->handle, pointers[i], NULL);
     } else if (status == TOPSCEDAR_OUT_OF_ORDER)
         PyErr_Format(PyExc_ValueError, "the key at index %zu is out of order", at);
     else
         failed(status, Py_None);
 release:
+    if (made || PyErr_Occurred()) Py_CLEAR(result);
     while (made) Py_DECREF((PyObject *)(uintptr_t)words[--made]);
 end:
     PyMem_Free(numbers);
     PyMem_Free(words);
+    PyMem_Free(pointers);
     Py_XDECREF(keys);
     Py_XDECREF(values);
     return result;
+}
+
+static PyObject *arena_extend_sorted(Arena *self, PyObject *const *args, Py_ssize_t given) {
+    return takes(given, 2, 2, "extend_sorted") ? extended(self, args, true) : NULL;
+}
+
+static PyObject *arena_extend(Arena *self, PyObject *const *args, Py_ssize_t given) {
+    return takes(given, 2, 2, "_extend") ? extended(self, args, false) : NULL;
 }
 
 static PyObject *arena_reserve(Arena *self, PyObject *more) {
@@ -238,6 +267,19 @@ static PyObject *searched(Arena *self, PyObject *object, search *call) {
 static PyObject *arena_find(Arena *self, PyObject *key) { return searched(self, key, topscedar_arena_find); }
 static PyObject *arena_lower_bound(Arena *self, PyObject *key) { return searched(self, key, topscedar_arena_lower_bound); }
 static PyObject *arena_upper_bound(Arena *self, PyObject *key) { return searched(self, key, topscedar_arena_upper_bound); }
+
+static PyObject *arena_rank(Arena *self, PyObject *object) {
+    int64_t key;
+    return key_of(self, object, &key) ? NULL : PyLong_FromSize_t(topscedar_rank(&self->handle, key));
+}
+
+static PyObject *arena_nth(Arena *self, PyObject *object) {
+    struct topscedar_entry entry;
+    size_t index = PyLong_AsSize_t(object);
+    if (index == (size_t)-1 && PyErr_Occurred()) return NULL;
+    if (topscedar_arena_nth(&self->handle, index, &entry)) Py_RETURN_NONE;
+    return entry_out(&entry);
+}
 
 static PyObject *at_edge(Arena *self, edge *call) {
     struct topscedar_entry entry;
@@ -529,7 +571,8 @@ static void arena_drop(Arena *self) {
 static PyMethodDef arena_methods[] = {
     {"insert", FAST(arena_insert), "insert(key, value): inserts behind all entries whose key is at most this one, and returns a token."},
     {"insert_unique", FAST(arena_insert_unique), "insert_unique(key, value): the same, or ValueError if an entry has an equal key."},
-    {"extend_sorted", FAST(arena_extend_sorted), "extend_sorted(keys, values): inserts pairs in order behind all entries, all of them or none."},
+    {"extend_sorted", FAST(arena_extend_sorted), "extend_sorted(keys, values): inserts pairs in order behind all entries, all of them or none, and returns the list of their tokens."},
+    {"_extend", FAST(arena_extend), NULL},
     {"reserve", (PyCFunction)arena_reserve, METH_O, "reserve(count): makes room for so many more entries."},
     {"value", (PyCFunction)arena_value, METH_O, "value(token): the value of an entry, or KeyError."},
     {"key", (PyCFunction)arena_key, METH_O, "key(token): the key of an entry, or KeyError."},
@@ -544,6 +587,8 @@ static PyMethodDef arena_methods[] = {
     {"find", (PyCFunction)arena_find, METH_O, "find(key): the first entry with this key, as (token, key, value), or None."},
     {"lower_bound", (PyCFunction)arena_lower_bound, METH_O, "lower_bound(key): the first entry whose key is at least this one, or None."},
     {"upper_bound", (PyCFunction)arena_upper_bound, METH_O, "upper_bound(key): the first entry whose key is greater, or None."},
+    {"rank", (PyCFunction)arena_rank, METH_O, "rank(key): how many entries have a smaller key."},
+    {"nth", (PyCFunction)arena_nth, METH_O, "nth(index): the entry that has so many entries before it, or None. O(index)."},
     {"first", (PyCFunction)arena_first, METH_NOARGS, "first(): the first entry, as (token, key, value), or None."},
     {"last", (PyCFunction)arena_last, METH_NOARGS, "last(): the last entry, or None."},
     {"pop_first", (PyCFunction)arena_pop_first, METH_NOARGS, "pop_first(): removes the first entry and returns key and value, or None."},

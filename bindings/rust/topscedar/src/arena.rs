@@ -221,12 +221,16 @@ impl<K: Key, V> SortedArena<K, V> {
         self.insert_by(raw::topscedar_arena_insert_unique, key, value)
     }
 
-    /// Inserts pairs whose keys are in order behind all entries, in one call: all of them, or none. Amortized O(1) for each.
+    /// Inserts pairs whose keys are in order behind all entries, in one call: all of them, or none. Returns their pointers in order.
+    /// Amortized O(1) for each.
     ///
     /// # Errors
     ///
     /// `OutOfOrder`, `Full`, `NoMemory`; the entries are unchanged, and the pairs are dropped.
-    pub fn extend_sorted(&mut self, pairs: impl IntoIterator<Item = (K, V)>) -> Result<(), Error> {
+    pub fn extend_sorted(
+        &mut self,
+        pairs: impl IntoIterator<Item = (K, V)>,
+    ) -> Result<Vec<Pointer>, Error> {
         let (keys, values): (Vec<i64>, Vec<V>) = pairs
             .into_iter()
             .map(|(key, value)| (key.to_i64(), value))
@@ -252,13 +256,14 @@ impl<K: Key, V> SortedArena<K, V> {
             raw::OUT_OF_ORDER => return Err(Error::OutOfOrder(at)),
             _ => changed(status)?,
         }
-        let pointers = pointers
+        let pointers: Vec<Pointer> = pointers
             .into_iter()
-            .map(|pointer| Pointer::of(pointer).expect("an entry has an index"));
-        for (pointer, value) in pointers.zip(values) {
+            .map(|pointer| Pointer::of(pointer).expect("an entry has an index"))
+            .collect();
+        for (&pointer, value) in pointers.iter().zip(values) {
             self.keep(pointer, value);
         }
-        Ok(())
+        Ok(pointers)
     }
 
     /// Returns whether a pointer names an entry, in O(1).
@@ -331,6 +336,19 @@ impl<K: Key, V> SortedArena<K, V> {
         // Safety: as in `found`.
         unsafe { raw::topscedar_arena_count(self.raw(), key.to_i64(), &mut count) };
         count
+    }
+
+    /// Returns how many entries have a smaller key, in O(log n), and O(1) for each.
+    pub fn rank(&self, key: K) -> usize {
+        let mut rank = 0;
+        // Safety: as in `found`.
+        unsafe { raw::topscedar_arena_rank(self.raw(), key.to_i64(), &mut rank) };
+        rank
+    }
+
+    /// Returns the entry that has `index` entries before it, in O(index); `None` if there are no more than `index` entries.
+    pub fn nth(&self, index: usize) -> Option<Entry<K, &V>> {
+        Some(self.shown(self.found(raw::topscedar_arena_nth, index)?))
     }
 
     /// Removes the entry at a pointer and returns it, in O(log n); `None` if the pointer is stale.

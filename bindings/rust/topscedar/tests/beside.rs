@@ -141,6 +141,12 @@ fn does_as_a_sorted_list() {
                     arena.count(key),
                     model.iter().filter(|it| it.0 == key).count()
                 );
+                let rank = model.iter().filter(|it| it.0 < key).count();
+                assert_eq!(arena.rank(key), rank);
+                assert_eq!(
+                    arena.nth(rank).map(|it| it.pointer),
+                    model.get(rank).map(|it| it.2)
+                );
                 clone.compact();
                 assert!(
                     clone == arena && clone.iter().zip(1..).all(|(it, i)| it.pointer.index() == i)
@@ -272,7 +278,14 @@ fn builds_and_collects() {
         b.extend_sorted([(9, "w"), (8, "v")]),
         Err(Error::OutOfOrder(1))
     );
-    assert_eq!(b.extend_sorted([(9, "w"), (10, "v")]), Ok(()));
+    let pointers = b.extend_sorted([(9, "w"), (10, "v")]).unwrap();
+    assert_eq!(
+        pointers
+            .iter()
+            .map(|&p| *b.get(p).unwrap().value)
+            .collect::<String>(),
+        "wv"
+    );
     assert_eq!(b.iter().map(|it| *it.value).collect::<String>(), "xyzwv");
     assert_eq!(b.insert_unique(9, "q"), Err(Error::EqualKey));
     for it in &mut b {
