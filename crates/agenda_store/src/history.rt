@@ -30,8 +30,6 @@ impl<S: Rows> Store<S> {
     /// skipped, none that was answered lost.
     ///
     /// ```
-    /// let rows = MemStore::new(rt.alloc(), &[JOB_OBJECT])?;
-    /// let mut store = Store::open(rt.alloc(), rows).map_err(|failed| failed.0)?;
     /// let tea = Vec::from_slice(rt.alloc(), b"tea")?;
     /// let scheduled = Vec::from_array(rt.alloc(), [Request::Schedule(10, tea)])?;
     /// let too_late = Vec::from_array(rt.alloc(), [Request::ClaimDue(10, u64::MAX)])?;

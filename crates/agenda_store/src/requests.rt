@@ -121,8 +121,6 @@ impl<S: Rows> Store<S> {
     /// A crash at any moment leaves the whole batch, or what it could leave before. After `Ok` every crash leaves the whole batch.
     ///
     /// ```
-    /// let rows = MemStore::new(rt.alloc(), &[JOB_OBJECT])?;
-    /// let mut store = Store::open(rt.alloc(), rows).map_err(|failed| failed.0)?;
     /// let tea = Vec::from_slice(rt.alloc(), b"tea")?;
     /// let replies = store.run(&[Request::Schedule(10, tea), Request::PopDue(10)])?;
     /// assert_eq!(rt; replies.len(), 2);

@@ -26,6 +26,8 @@ use std::marker::Model;
 ///
 /// A change lasts once [`commit`](Self::commit) has returned `Ok`. A call that fails midway closes the store: [`rollback`](Self::rollback) goes
 /// back to the last commit, or the file has to be opened again. A refused request (`TooLong`, `TooLate`) changes nothing.
+///
+/// In the examples `store` is an open agenda without jobs, as [`open`](Self::open) returns it.
 #[derive(Drop)]
 pub struct Store<S: Rows> {
     pub(crate) alloc: Global,
@@ -159,8 +161,6 @@ impl<S: Rows> Store<S> {
     /// Schedules a job after every job with a deadline at most its own, and returns its number.
     ///
     /// ```
-    /// let rows = MemStore::new(rt.alloc(), &[JOB_OBJECT])?;
-    /// let mut store = Store::open(rt.alloc(), rows).map_err(|failed| failed.0)?;
     /// let report = store.schedule(30, b"report")?;
     /// let tea = store.schedule(10, b"tea")?;
     /// store.commit()?;
@@ -206,8 +206,6 @@ impl<S: Rows> Store<S> {
     /// Removes the job of a number and returns it, in O(log n). If the number names no job, returns `None` and nothing changes.
     ///
     /// ```
-    /// let rows = MemStore::new(rt.alloc(), &[JOB_OBJECT])?;
-    /// let mut store = Store::open(rt.alloc(), rows).map_err(|failed| failed.0)?;
     /// let tea = store.schedule(10, b"tea")?;
     /// assert_eq!(rt; store.cancel(tea)?.map(|job| job.deadline), Some(10));
     /// assert!(rt; store.cancel(tea)?.is_none());
@@ -244,8 +242,6 @@ impl<S: Rows> Store<S> {
     /// The job goes behind all other jobs whose deadline is at most its own, also if its deadline doesn't change.
     ///
     /// ```
-    /// let rows = MemStore::new(rt.alloc(), &[JOB_OBJECT])?;
-    /// let mut store = Store::open(rt.alloc(), rows).map_err(|failed| failed.0)?;
     /// let tea = store.schedule(10, b"tea")?;
     /// assert!(rt; store.reschedule(tea, 40)?);
     /// assert_eq!(rt; store.get(tea).map(|job| job.deadline), Some(40));
@@ -303,8 +299,6 @@ impl<S: Rows> Store<S> {
     /// Returns the first job, in O(1).
     ///
     /// ```
-    /// let rows = MemStore::new(rt.alloc(), &[JOB_OBJECT])?;
-    /// let mut store = Store::open(rt.alloc(), rows).map_err(|failed| failed.0)?;
     /// store.schedule(30, b"report")?;
     /// let tea = store.schedule(10, b"tea")?;
     /// assert_eq!(rt; store.peek().map(|job| job.id), Some(tea));
@@ -320,8 +314,6 @@ impl<S: Rows> Store<S> {
     /// A caller that fails before the work is done has lost the job: [`claim_due`](Self::claim_due) keeps it.
     ///
     /// ```
-    /// let rows = MemStore::new(rt.alloc(), &[JOB_OBJECT])?;
-    /// let mut store = Store::open(rt.alloc(), rows).map_err(|failed| failed.0)?;
     /// let tea = store.schedule(10, b"tea")?;
     /// assert!(rt; store.pop_due(9)?.is_none());
     /// assert_eq!(rt; store.pop_due(10)?.map(|job| job.id), Some(tea));
@@ -357,8 +349,6 @@ impl<S: Rows> Store<S> {
     /// done at least once.
     ///
     /// ```
-    /// let rows = MemStore::new(rt.alloc(), &[JOB_OBJECT])?;
-    /// let mut store = Store::open(rt.alloc(), rows).map_err(|failed| failed.0)?;
     /// let tea = store.schedule(10, b"tea")?;
     /// assert_eq!(rt; store.claim_due(20, 80)?.map(|job| job.id), Some(tea));
     /// assert_eq!(rt; store.get(tea).map(|job| (job.deadline, job.attempts)), Some((80, 1)));
@@ -407,8 +397,6 @@ impl<S: Rows> Store<S> {
     /// Goes back to the last commit. A store that a failed call has closed is open again.
     ///
     /// ```
-    /// let rows = MemStore::new(rt.alloc(), &[JOB_OBJECT])?;
-    /// let mut store = Store::open(rt.alloc(), rows).map_err(|failed| failed.0)?;
     /// store.schedule(10, b"tea")?;
     /// store.commit()?;
     /// store.schedule(30, b"report")?;

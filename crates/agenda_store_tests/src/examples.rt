@@ -5,6 +5,13 @@ use job_table::JOB_OBJECT;
 use sqlite_trees::memory::MemStore;
 use std::test::Fail;
 
+// An agenda without jobs, over rows in memory.
+fn opened(rt: &HostRuntime) -> Result<Store<MemStore>, Fail> {
+    let rows = MemStore::new(rt.alloc(), &[JOB_OBJECT])?;
+    let store = Store::open(rt.alloc(), rows).map_err(|failed| failed.0)?;
+    Ok(store)
+}
+
 #[test]
 fn open(rt: HostRuntime) -> Result<(), Fail> {
     let rows = MemStore::new(rt.alloc(), &[JOB_OBJECT])?;
@@ -15,8 +22,10 @@ fn open(rt: HostRuntime) -> Result<(), Fail> {
 
 #[test]
 fn schedule(rt: HostRuntime) -> Result<(), Fail> {
-    let rows = MemStore::new(rt.alloc(), &[JOB_OBJECT])?;
-    let mut store = Store::open(rt.alloc(), rows).map_err(|failed| failed.0)?;
+    schedule_in(&rt, &mut opened(&rt)?)
+}
+
+fn schedule_in(rt: &HostRuntime, store: &mut Store<MemStore>) -> Result<(), Fail> {
     let report = store.schedule(30, b"report")?;
     let tea = store.schedule(10, b"tea")?;
     store.commit()?;
@@ -27,8 +36,10 @@ fn schedule(rt: HostRuntime) -> Result<(), Fail> {
 
 #[test]
 fn cancel(rt: HostRuntime) -> Result<(), Fail> {
-    let rows = MemStore::new(rt.alloc(), &[JOB_OBJECT])?;
-    let mut store = Store::open(rt.alloc(), rows).map_err(|failed| failed.0)?;
+    cancel_in(&rt, &mut opened(&rt)?)
+}
+
+fn cancel_in(rt: &HostRuntime, store: &mut Store<MemStore>) -> Result<(), Fail> {
     let tea = store.schedule(10, b"tea")?;
     assert_eq!(rt; store.cancel(tea)?.map(|job| job.deadline), Some(10));
     assert!(rt; store.cancel(tea)?.is_none());
@@ -37,8 +48,10 @@ fn cancel(rt: HostRuntime) -> Result<(), Fail> {
 
 #[test]
 fn reschedule(rt: HostRuntime) -> Result<(), Fail> {
-    let rows = MemStore::new(rt.alloc(), &[JOB_OBJECT])?;
-    let mut store = Store::open(rt.alloc(), rows).map_err(|failed| failed.0)?;
+    reschedule_in(&rt, &mut opened(&rt)?)
+}
+
+fn reschedule_in(rt: &HostRuntime, store: &mut Store<MemStore>) -> Result<(), Fail> {
     let tea = store.schedule(10, b"tea")?;
     assert!(rt; store.reschedule(tea, 40)?);
     assert_eq!(rt; store.get(tea).map(|job| job.deadline), Some(40));
@@ -47,8 +60,10 @@ fn reschedule(rt: HostRuntime) -> Result<(), Fail> {
 
 #[test]
 fn pop_due(rt: HostRuntime) -> Result<(), Fail> {
-    let rows = MemStore::new(rt.alloc(), &[JOB_OBJECT])?;
-    let mut store = Store::open(rt.alloc(), rows).map_err(|failed| failed.0)?;
+    pop_due_in(&rt, &mut opened(&rt)?)
+}
+
+fn pop_due_in(rt: &HostRuntime, store: &mut Store<MemStore>) -> Result<(), Fail> {
     let tea = store.schedule(10, b"tea")?;
     assert!(rt; store.pop_due(9)?.is_none());
     assert_eq!(rt; store.pop_due(10)?.map(|job| job.id), Some(tea));
@@ -57,8 +72,10 @@ fn pop_due(rt: HostRuntime) -> Result<(), Fail> {
 
 #[test]
 fn claim_due(rt: HostRuntime) -> Result<(), Fail> {
-    let rows = MemStore::new(rt.alloc(), &[JOB_OBJECT])?;
-    let mut store = Store::open(rt.alloc(), rows).map_err(|failed| failed.0)?;
+    claim_due_in(&rt, &mut opened(&rt)?)
+}
+
+fn claim_due_in(rt: &HostRuntime, store: &mut Store<MemStore>) -> Result<(), Fail> {
     let tea = store.schedule(10, b"tea")?;
     assert_eq!(rt; store.claim_due(20, 80)?.map(|job| job.id), Some(tea));
     assert_eq!(rt;
@@ -70,8 +87,10 @@ fn claim_due(rt: HostRuntime) -> Result<(), Fail> {
 
 #[test]
 fn peek(rt: HostRuntime) -> Result<(), Fail> {
-    let rows = MemStore::new(rt.alloc(), &[JOB_OBJECT])?;
-    let mut store = Store::open(rt.alloc(), rows).map_err(|failed| failed.0)?;
+    peek_in(&rt, &mut opened(&rt)?)
+}
+
+fn peek_in(rt: &HostRuntime, store: &mut Store<MemStore>) -> Result<(), Fail> {
     store.schedule(30, b"report")?;
     let tea = store.schedule(10, b"tea")?;
     assert_eq!(rt; store.peek().map(|job| job.id), Some(tea));
@@ -80,8 +99,10 @@ fn peek(rt: HostRuntime) -> Result<(), Fail> {
 
 #[test]
 fn rollback(rt: HostRuntime) -> Result<(), Fail> {
-    let rows = MemStore::new(rt.alloc(), &[JOB_OBJECT])?;
-    let mut store = Store::open(rt.alloc(), rows).map_err(|failed| failed.0)?;
+    rollback_in(&rt, &mut opened(&rt)?)
+}
+
+fn rollback_in(rt: &HostRuntime, store: &mut Store<MemStore>) -> Result<(), Fail> {
     store.schedule(10, b"tea")?;
     store.commit()?;
     store.schedule(30, b"report")?;
@@ -92,8 +113,10 @@ fn rollback(rt: HostRuntime) -> Result<(), Fail> {
 
 #[test]
 fn run(rt: HostRuntime) -> Result<(), Fail> {
-    let rows = MemStore::new(rt.alloc(), &[JOB_OBJECT])?;
-    let mut store = Store::open(rt.alloc(), rows).map_err(|failed| failed.0)?;
+    run_in(&rt, &mut opened(&rt)?)
+}
+
+fn run_in(rt: &HostRuntime, store: &mut Store<MemStore>) -> Result<(), Fail> {
     let tea = Vec::from_slice(rt.alloc(), b"tea")?;
     let replies = store.run(&[Request::Schedule(10, tea), Request::PopDue(10)])?;
     assert_eq!(rt; replies.len(), 2);
@@ -103,8 +126,10 @@ fn run(rt: HostRuntime) -> Result<(), Fail> {
 
 #[test]
 fn session(rt: HostRuntime) -> Result<(), Fail> {
-    let rows = MemStore::new(rt.alloc(), &[JOB_OBJECT])?;
-    let mut store = Store::open(rt.alloc(), rows).map_err(|failed| failed.0)?;
+    session_in(&rt, &mut opened(&rt)?)
+}
+
+fn session_in(rt: &HostRuntime, store: &mut Store<MemStore>) -> Result<(), Fail> {
     let tea = Vec::from_slice(rt.alloc(), b"tea")?;
     let scheduled = Vec::from_array(rt.alloc(), [Request::Schedule(10, tea)])?;
     let too_late = Vec::from_array(rt.alloc(), [Request::ClaimDue(10, u64::MAX)])?;
