@@ -25,7 +25,7 @@ fn schedule(rt: HostRuntime) -> Result<(), Fail> {
     schedule_in(&rt, &mut opened(&rt)?)
 }
 
-fn schedule_in(rt: &HostRuntime, store: &mut Store<MemStore>) -> Result<(), Fail> {
+fn schedule_in(rt: &impl Abort, store: &mut Store<MemStore>) -> Result<(), Fail> {
     let report = store.schedule(30, b"report")?;
     let tea = store.schedule(10, b"tea")?;
     store.commit()?;
@@ -39,7 +39,7 @@ fn cancel(rt: HostRuntime) -> Result<(), Fail> {
     cancel_in(&rt, &mut opened(&rt)?)
 }
 
-fn cancel_in(rt: &HostRuntime, store: &mut Store<MemStore>) -> Result<(), Fail> {
+fn cancel_in(rt: &impl Abort, store: &mut Store<MemStore>) -> Result<(), Fail> {
     let tea = store.schedule(10, b"tea")?;
     assert_eq!(rt; store.cancel(tea)?.map(|job| job.deadline), Some(10));
     assert!(rt; store.cancel(tea)?.is_none());
@@ -51,7 +51,7 @@ fn reschedule(rt: HostRuntime) -> Result<(), Fail> {
     reschedule_in(&rt, &mut opened(&rt)?)
 }
 
-fn reschedule_in(rt: &HostRuntime, store: &mut Store<MemStore>) -> Result<(), Fail> {
+fn reschedule_in(rt: &impl Abort, store: &mut Store<MemStore>) -> Result<(), Fail> {
     let tea = store.schedule(10, b"tea")?;
     assert!(rt; store.reschedule(tea, 40)?);
     assert_eq!(rt; store.get(tea).map(|job| job.deadline), Some(40));
@@ -63,7 +63,7 @@ fn pop_due(rt: HostRuntime) -> Result<(), Fail> {
     pop_due_in(&rt, &mut opened(&rt)?)
 }
 
-fn pop_due_in(rt: &HostRuntime, store: &mut Store<MemStore>) -> Result<(), Fail> {
+fn pop_due_in(rt: &impl Abort, store: &mut Store<MemStore>) -> Result<(), Fail> {
     let tea = store.schedule(10, b"tea")?;
     assert!(rt; store.pop_due(9)?.is_none());
     assert_eq!(rt; store.pop_due(10)?.map(|job| job.id), Some(tea));
@@ -75,7 +75,7 @@ fn claim_due(rt: HostRuntime) -> Result<(), Fail> {
     claim_due_in(&rt, &mut opened(&rt)?)
 }
 
-fn claim_due_in(rt: &HostRuntime, store: &mut Store<MemStore>) -> Result<(), Fail> {
+fn claim_due_in(rt: &impl Abort, store: &mut Store<MemStore>) -> Result<(), Fail> {
     let tea = store.schedule(10, b"tea")?;
     assert_eq!(rt; store.claim_due(20, 80)?.map(|job| job.id), Some(tea));
     assert_eq!(rt;
@@ -90,7 +90,7 @@ fn peek(rt: HostRuntime) -> Result<(), Fail> {
     peek_in(&rt, &mut opened(&rt)?)
 }
 
-fn peek_in(rt: &HostRuntime, store: &mut Store<MemStore>) -> Result<(), Fail> {
+fn peek_in(rt: &impl Abort, store: &mut Store<MemStore>) -> Result<(), Fail> {
     store.schedule(30, b"report")?;
     let tea = store.schedule(10, b"tea")?;
     assert_eq!(rt; store.peek().map(|job| job.id), Some(tea));
@@ -102,7 +102,7 @@ fn rollback(rt: HostRuntime) -> Result<(), Fail> {
     rollback_in(&rt, &mut opened(&rt)?)
 }
 
-fn rollback_in(rt: &HostRuntime, store: &mut Store<MemStore>) -> Result<(), Fail> {
+fn rollback_in(rt: &impl Abort, store: &mut Store<MemStore>) -> Result<(), Fail> {
     store.schedule(10, b"tea")?;
     store.commit()?;
     store.schedule(30, b"report")?;
@@ -116,7 +116,7 @@ fn run(rt: HostRuntime) -> Result<(), Fail> {
     run_in(&rt, &mut opened(&rt)?)
 }
 
-fn run_in(rt: &HostRuntime, store: &mut Store<MemStore>) -> Result<(), Fail> {
+fn run_in(rt: &(impl Abort + AllocGlobal), store: &mut Store<MemStore>) -> Result<(), Fail> {
     let tea = Vec::from_slice(rt.alloc(), b"tea")?;
     let replies = store.run(&[Request::Schedule(10, tea), Request::PopDue(10)])?;
     assert_eq!(rt; replies.len(), 2);
@@ -129,7 +129,7 @@ fn session(rt: HostRuntime) -> Result<(), Fail> {
     session_in(&rt, &mut opened(&rt)?)
 }
 
-fn session_in(rt: &HostRuntime, store: &mut Store<MemStore>) -> Result<(), Fail> {
+fn session_in(rt: &(impl Abort + AllocGlobal), store: &mut Store<MemStore>) -> Result<(), Fail> {
     let tea = Vec::from_slice(rt.alloc(), b"tea")?;
     let scheduled = Vec::from_array(rt.alloc(), [Request::Schedule(10, tea)])?;
     let too_late = Vec::from_array(rt.alloc(), [Request::ClaimDue(10, u64::MAX)])?;
