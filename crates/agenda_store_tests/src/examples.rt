@@ -3,6 +3,7 @@
 use agenda_store::{Reply, Request, Store, StoreError};
 use job_table::JOB_OBJECT;
 use sqlite_trees::memory::MemStore;
+use std::process::Abort;
 use std::test::Fail;
 
 // An agenda without jobs, over rows in memory.
