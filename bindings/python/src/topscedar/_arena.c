@@ -43,7 +43,7 @@ static PyObject *arena_insert_unique(Arena *self, PyObject *const *args, Py_ssiz
     return takes(count, 2, 2, "insert_unique") ? insert_by(self, args, true) : NULL;
 }
 
-/* The list of these tokens. */
+/* Puts the tokens of these pointers into a list of as many places. */
 static int fill_tokens(PyObject *tokens, const struct topscedar_pointer *pointers, size_t count) {
     for (size_t i = 0; i < count; i++) {
         PyObject *token = token_out(pointers[i]);
