@@ -1,6 +1,5 @@
-//! Order books: a trading day, replaced orders, every sequence of a few orders, refused memory, and the texts of errors.
+//! Order books: a trading day, every sequence of a few orders, refused memory, and the texts of errors.
 mod day;
 mod error;
 mod refused;
-mod replaced;
 mod sequences;

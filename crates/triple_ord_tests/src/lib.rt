@@ -1,10 +1,8 @@
-//! Tests of `triple_ord` from the outside: worked examples, every call, failing memory, what no clause can say, and the uses of
-//! `triple_ord_uses`.
+//! Tests of `triple_ord` from the outside: worked examples, every call, failing memory, what no clause can say, and the examples in the
+//! text of calls.
 #![tactic(auto)]
 
 #[cfg(test)]
 mod examples;
 #[cfg(test)]
 mod tests;
-#[cfg(test)]
-mod uses;
