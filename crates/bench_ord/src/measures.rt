@@ -81,11 +81,21 @@ fn compare_small(rt: &HostRuntime, keys: &Keys) -> Result<()> {
     }
     let small: SmallPairs = filled(rt.alloc(), &keys.random)?;
     let usual: Pairs = filled(rt.alloc(), &keys.random)?;
+    compare_small_standing(rt, keys, &small, &usual)
+}
+
+// The same, while their entries stay.
+fn compare_small_standing(
+    rt: &HostRuntime,
+    keys: &Keys,
+    small: &SmallPairs,
+    usual: &Pairs,
+) -> Result<()> {
     for (measure, keys) in &[("find hits", &keys.hits), ("find misses", &keys.misses)] {
-        compare_finding(rt, SMALL, measure, &small, &usual, keys)?;
+        compare_finding(rt, SMALL, measure, small, usual, keys)?;
     }
-    compare_walking(rt, SMALL, "go through in order", &small, &usual)?;
-    compare_small_pointers(rt, &small, &usual)
+    compare_walking(rt, SMALL, "go through in order", small, usual)?;
+    compare_small_pointers(rt, small, usual)
 }
 
 // The names of the structures that are measured in turn.

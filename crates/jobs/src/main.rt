@@ -79,7 +79,12 @@ fn list_rows<S: Checkpoint + Drop>(rt: &HostRuntime, style: Style, rows: S) -> R
 
 /// Answers lines, with the jobs in a file.
 fn keep(rt: &HostRuntime, style: Style, path: &str) -> Result<(), Failure> {
-    let Opened { rows, lock } = files::open(rt, path)?;
+    answer_from(rt, style, files::open(rt, path)?)
+}
+
+/// Answers lines, with the jobs in a file that is open, and then lets its lock go.
+fn answer_from(rt: &HostRuntime, style: Style, opened: Opened) -> Result<(), Failure> {
+    let Opened { rows, lock } = opened;
     let done = answer_lines(rt, style, rows);
     drop(lock);
     done
@@ -93,11 +98,9 @@ fn show(rt: &HostRuntime, style: Style, path: &str) -> Result<(), Failure> {
 /// Begins a file with the jobs of one of the earlier format, and then answers lines.
 fn import(rt: &HostRuntime, style: Style, path: &str, old: &OldJobs) -> Result<(), Failure> {
     drop(image::new_file(rt, path)?);
-    let Opened { mut rows, lock } = files::open(rt, path)?;
-    old.fill(rt.alloc(), &mut rows)?;
-    let done = answer_lines(rt, style, rows);
-    drop(lock);
-    done
+    let mut opened = files::open(rt, path)?;
+    old.fill(rt.alloc(), &mut opened.rows)?;
+    answer_from(rt, style, opened)
 }
 
 /// Reads a file of the earlier format.

@@ -65,24 +65,37 @@ fn flag<'a>(alloc: Global, name: &'static str, help: &'static str) -> Arg<'a> {
         .help(help)
 }
 
-// Returns the options that say where the jobs live.
-fn with_files<'a>(alloc: Global, command: Command<'a>) -> Result<Command<'a>, AllocError> {
-    let file = Arg::new(alloc, "file").long("file").value_name("PATH").help(
+// Returns the option that names the file of the jobs.
+fn file<'a>(alloc: Global) -> Arg<'a> {
+    Arg::new(alloc, "file").long("file").value_name("PATH").help(
         "Keeps the jobs in this file, and its log in PATH-wal; otherwise they live in memory",
-    );
-    let read_only = flag(
+    )
+}
+
+// Returns the option by which the file is only listed.
+fn read_only<'a>(alloc: Global) -> Result<Arg<'a>, AllocError> {
+    flag(
         alloc,
         "read-only",
         "Lists the jobs of the file, and writes nothing",
     )
-    .requires_arg("file")?;
+    .requires_arg("file")
+}
+
+// Returns the option by which a new file begins with the jobs of an old one.
+fn import<'a>(alloc: Global) -> Result<Arg<'a>, AllocError> {
     let import = Arg::new(alloc, "import")
         .long("import")
         .value_name("OLD")
-        .requires_arg("file")?
-        .conflicts_with("read-only")?
         .help("Begins the file, which must be new, with the jobs of a file of the earlier format");
-    command.arg(file)?.arg(read_only)?.arg(import)
+    import.requires_arg("file")?.conflicts_with("read-only")
+}
+
+// Returns the options that say where the jobs live.
+fn with_files<'a>(alloc: Global, command: Command<'a>) -> Result<Command<'a>, AllocError> {
+    let command = command.arg(file(alloc))?;
+    let command = command.arg(read_only(alloc)?)?;
+    command.arg(import(alloc)?)
 }
 
 // Returns the option that copies what a damaged file has. It answers no lines.
