@@ -54,13 +54,24 @@ pub fn time(word: Option<&str>) -> Result<u64, TimeError>
     ensures value { IfOk result (λ n. IsSomeAnd word.entry (λ w. IsTime w.now n)) }
     ensures ok { IfSome word.entry (λ w. (n : ℕ) → n < 2 ^ 64 → IsTime w.now n → IsOk result) }
 {
-    let error = match number(word) {
-        Ok(seconds) => return Ok(seconds),
-        Err(error) => error,
-    };
-    let Some(word) = word else {
-        return Err(TimeError::Number(error));
-    };
+    match number(word) {
+        Ok(seconds) => Ok(seconds),
+        Err(error) => match word {
+            Some(word) => time_of_date(word, error),
+            None => Err(TimeError::Number(error)),
+        },
+    }
+}
+
+// Returns the time of a word that is no number, for this reason: that of a date, if it is one. It stands apart since most words are numbers,
+// and would have to move the large error of a date.
+#[cold]
+#[inline(never)]
+fn time_of_date(word: &str, error: NumberError) -> Result<u64, TimeError>
+    ensures number { (e : NumberError) → result ≡ Err (TimeError.Number e) → e ≡ error }
+    ensures value { IfOk result (λ n. ReadsAsDate word.now n) }
+    ensures ok { (n : ℕ) → ReadsAsDate word.now n → IsOk result }
+{
     match date(word) {
         Ok(seconds) => Ok(seconds),
         Err(DateError::Unreadable(_)) if !is_meant_as_date(word) => Err(TimeError::Number(error)),
