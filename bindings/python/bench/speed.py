@@ -54,7 +54,7 @@ def arena(who, make, keys, more, perm, n):
     t(who, "pop first", h // 2, lambda: [pf() for _ in range(h // 2)])
     t(who, "pop until", len(a), lambda: a.pop_until(2**62))
     sk, ones = sorted(keys), [1] * n
-    t(who, "build sorted", n, lambda: a.extend_sorted(sk, ones))
+    a = t(who, "build sorted", n, lambda: make.from_sorted(sk, ones))
     t(who, "len", n, lambda: [len(a) for _ in range(n)])
     pairs = list(zip(keys, ones))
     b = t(who, "build any", n, lambda: make(pairs))
