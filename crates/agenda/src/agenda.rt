@@ -31,7 +31,8 @@ type Jobs<J, A> = SimpleOrdArena<P0, OrdPair<u64, J>, A>;
 /// [`len`](Self::len) promises what holds of every agenda: the list is in order, no ticket names two jobs, and all jobs fit in the
 /// capacity.
 ///
-/// Only `schedule` takes memory. In the docs n is the number of jobs.
+/// Only `schedule` takes memory. In the docs n is the number of jobs. In the examples of the calls `agenda` is an empty `Agenda<&str>`, as
+/// `Agenda::new(rt.alloc())` makes it.
 #[derive(Drop)]
 pub struct Agenda<J, A: Allocator = Global> {
     jobs: Jobs<J, A>,
@@ -109,7 +110,6 @@ impl<J, A: Allocator> Agenda<J, A> {
     /// If the ticket names no job, returns `None` and nothing changes.
     ///
     /// ```
-    /// let mut agenda: Agenda<&str> = Agenda::new(rt.alloc());
     /// let report = agenda.schedule(30, "report").map_err(|refused| refused.1)?;
     /// assert_eq!(rt; agenda.cancel(report), Some((30, "report")));
     /// assert_eq!(rt; agenda.cancel(report), None);
@@ -134,7 +134,6 @@ impl<J, A: Allocator> Agenda<J, A> {
     /// If no job is due, returns `None` and nothing changes.
     ///
     /// ```
-    /// let mut agenda: Agenda<&str> = Agenda::new(rt.alloc());
     /// agenda.schedule(30, "report").map_err(|refused| refused.1)?;
     /// agenda.schedule(10, "tea").map_err(|refused| refused.1)?;
     /// assert_eq!(rt; agenda.pop_due(20), Some((10, "tea")));
@@ -164,7 +163,6 @@ impl<J: Drop, A: Allocator> Agenda<J, A> {
     /// Inserts a job after every job with a deadline ≤ its own, and returns its ticket. If it is full, the agenda grows.
     ///
     /// ```
-    /// let mut agenda: Agenda<&str> = Agenda::new(rt.alloc());
     /// agenda.schedule(30, "report").map_err(|refused| refused.1)?;
     /// agenda.schedule(10, "tea").map_err(|refused| refused.1)?;
     /// assert_eq!(rt; agenda.next_deadline(), Some(10));
@@ -210,7 +208,6 @@ impl<J: Drop, A: Allocator> Agenda<J, A> {
     /// changes.
     ///
     /// ```
-    /// let mut agenda: Agenda<&str> = Agenda::new(rt.alloc());
     /// let tea = agenda.schedule(10, "tea").map_err(|refused| refused.1)?;
     /// agenda.schedule(30, "report").map_err(|refused| refused.1)?;
     /// assert!(rt; agenda.reschedule(tea, 40));
@@ -236,7 +233,6 @@ impl<J: Drop, A: Allocator> Agenda<J, A> {
     /// `None` and nothing changes.
     ///
     /// ```
-    /// let mut agenda: Agenda<&str> = Agenda::new(rt.alloc());
     /// let tea = agenda.schedule(10, "tea").map_err(|refused| refused.1)?;
     /// let later = agenda.move_to(tea, 40);
     /// assert!(rt; later.is_some());

@@ -29,7 +29,8 @@ use std::marker::Model;
 /// an ask.
 ///
 /// In contracts a book is two queues, bids and asks, each a list of orders in the order in which they trade. [`count`](Self::count)
-/// promises what holds of every book. In the docs n is the number of orders on a side, and k that of the orders that are filled.
+/// promises what holds of every book. In the docs n is the number of orders on a side, and k that of the orders that are filled. In the
+/// examples of the calls `book` is an empty book, as `OrderBook::new(rt.alloc())` makes it.
 #[derive(Drop)]
 pub struct OrderBook<A: Allocator = Global> {
     bids: OrderQueue<A>,
@@ -93,7 +94,6 @@ impl<A: Allocator> OrderBook<A> {
     /// Makes room for `additional` more orders on a side, which then aren't refused by it. O(capacity) if the side grows, else O(1).
     ///
     /// ```
-    /// let mut book = OrderBook::new(rt.alloc());
     /// let mut trades = Vec::new(rt.alloc());
     /// book.reserve(Side::Sell, 1)?;
     /// let room = book.capacity(Side::Sell);
@@ -136,7 +136,6 @@ impl<A: Allocator> OrderBook<A> {
     /// Returns the ask that trades first, the oldest at the lowest price, in O(1).
     ///
     /// ```
-    /// let mut book = OrderBook::new(rt.alloc());
     /// let mut trades = Vec::new(rt.alloc());
     /// book.place(NewOrder::limit(Side::Sell, 103, 20), &mut trades)?;
     /// book.place(NewOrder::limit(Side::Sell, 101, 10), &mut trades)?;
@@ -154,7 +153,6 @@ impl<A: Allocator> OrderBook<A> {
     /// Returns an iterator over the orders of a side, first the one that trades first. Each step is O(1).
     ///
     /// ```
-    /// let mut book = OrderBook::new(rt.alloc());
     /// let mut trades = Vec::new(rt.alloc());
     /// book.place(NewOrder::limit(Side::Sell, 101, 10), &mut trades)?;
     /// book.place(NewOrder::limit(Side::Sell, 103, 20), &mut trades)?;
@@ -175,7 +173,6 @@ impl<A: Allocator> OrderBook<A> {
     /// A step is O(1) for each order of its level.
     ///
     /// ```
-    /// let mut book = OrderBook::new(rt.alloc());
     /// let mut trades = Vec::new(rt.alloc());
     /// book.place(NewOrder::limit(Side::Sell, 101, 10), &mut trades)?;
     /// book.place(NewOrder::limit(Side::Sell, 101, 5), &mut trades)?;
@@ -199,7 +196,6 @@ impl<A: Allocator> OrderBook<A> {
     /// trade with.
     ///
     /// ```
-    /// let mut book = OrderBook::new(rt.alloc());
     /// let mut trades = Vec::new(rt.alloc());
     /// book.place(NewOrder::limit(Side::Sell, 101, 10), &mut trades)?;
     /// book.place(NewOrder::limit(Side::Sell, 103, 20), &mut trades)?;
@@ -218,7 +214,6 @@ impl<A: Allocator> OrderBook<A> {
     /// Returns how much the other side offers an order of a side with this limit in all. O(1) for each order within the limit.
     ///
     /// ```
-    /// let mut book = OrderBook::new(rt.alloc());
     /// let mut trades = Vec::new(rt.alloc());
     /// book.place(NewOrder::limit(Side::Sell, 101, 10), &mut trades)?;
     /// book.place(NewOrder::limit(Side::Sell, 103, 20), &mut trades)?;
@@ -239,7 +234,6 @@ impl<A: Allocator> OrderBook<A> {
     /// If `id` names no order, returns `None` and nothing changes.
     ///
     /// ```
-    /// let mut book = OrderBook::new(rt.alloc());
     /// let mut trades = Vec::new(rt.alloc());
     /// let ask = book.place(NewOrder::limit(Side::Sell, 101, 10), &mut trades)?;
     /// let cancelled = ask.and_then(|ask| book.cancel(ask));
@@ -265,7 +259,6 @@ impl<A: Allocator> OrderBook<A> {
     /// nothing changes. O(1), or O(log n) if the order leaves.
     ///
     /// ```
-    /// let mut book = OrderBook::new(rt.alloc());
     /// let mut trades = Vec::new(rt.alloc());
     /// let ask = book.place(NewOrder::limit(Side::Sell, 101, 10), &mut trades)?;
     /// if let Some(ask) = ask {
@@ -325,7 +318,6 @@ impl<A: Allocator> OrderBook<A> {
     /// the list and returns the id of what rests, `None` if nothing does.
     ///
     /// ```
-    /// let mut book = OrderBook::new(rt.alloc());
     /// let mut trades = Vec::new(rt.alloc());
     /// book.place(NewOrder::limit(Side::Sell, 101, 10), &mut trades)?;
     /// let rest = book.place(NewOrder::limit(Side::Buy, 102, 4), &mut trades)?;
@@ -418,7 +410,6 @@ impl<A: Allocator> OrderBook<A> {
     /// same price, and gets a new id. Returns what [`place`](Self::place) returns, at the same cost.
     ///
     /// ```
-    /// let mut book = OrderBook::new(rt.alloc());
     /// let mut trades = Vec::new(rt.alloc());
     /// let ask = book.place(NewOrder::limit(Side::Sell, 101, 10), &mut trades)?;
     /// if let Some(ask) = ask {

@@ -43,7 +43,9 @@ use triple_ord::{BasePtr, BasePtrInx, P0, ReallocationError, SimpleOrdArena};
 /// pointer, and the capacity. [`len`](Self::len) promises what holds of every sorted arena (`IsSound`): the keys are in order, no two
 /// entries share an index, and all entries fit in the capacity. The searches, the iterators and the changes promise it too.
 ///
-/// Only the insertions and `reserve` take memory. In the docs n is the number of entries.
+/// Only the insertions and `reserve` take memory. In the docs n is the number of entries. In the examples of the calls `users` is an empty
+/// `SortedArena<u64, &str>`, as `SortedArena::new(rt.alloc())` makes it; `names` has `u32`s and `&str`s, `stock` and `scores` have `&str`s
+/// and `u32`s, `ids` has `String`s and `u32`s.
 #[derive(Drop)]
 pub struct SortedArena<K: Ord, V, P: BasePtr = P0, A: Allocator = Global> {
     pairs: Pairs<K, V, P, A>,

@@ -1,11 +1,15 @@
 //! The examples in the text of the calls of `SortedArena`.
 
 use sorted_arena::{RekeyUniqueError, SortedArena, UniqueInsertionError};
+use std::process::Abort;
 use std::test::Fail;
 
 #[test]
 fn insert(rt: HostRuntime) -> Result<(), Fail> {
-    let mut users: SortedArena<u64, &str> = SortedArena::new(rt.alloc());
+    insert_in(&rt, &mut SortedArena::new(rt.alloc()))
+}
+
+fn insert_in(rt: &impl Abort, users: &mut SortedArena<u64, &str>) -> Result<(), Fail> {
     let grace = users.insert(120, "Grace").map_err(|refused| refused.1)?;
     users.insert(100, "Ada").map_err(|refused| refused.1)?;
     users.insert(100, "Alan").map_err(|refused| refused.1)?;
@@ -16,7 +20,10 @@ fn insert(rt: HostRuntime) -> Result<(), Fail> {
 
 #[test]
 fn replace(rt: HostRuntime) -> Result<(), Fail> {
-    let mut stock: SortedArena<&str, u32> = SortedArena::new(rt.alloc());
+    replace_in(&rt, &mut SortedArena::new(rt.alloc()))
+}
+
+fn replace_in(rt: &impl Abort, stock: &mut SortedArena<&str, u32>) -> Result<(), Fail> {
     let (tea, before) = stock.replace("tea", 7).map_err(|refused| refused.1)?;
     assert_eq!(rt; before, None);
     assert_eq!(rt;
@@ -28,7 +35,10 @@ fn replace(rt: HostRuntime) -> Result<(), Fail> {
 
 #[test]
 fn insert_unique(rt: HostRuntime) -> Result<(), Fail> {
-    let mut names: SortedArena<u32, &str> = SortedArena::new(rt.alloc());
+    insert_unique_in(&rt, &mut SortedArena::new(rt.alloc()))
+}
+
+fn insert_unique_in(rt: &impl Abort, names: &mut SortedArena<u32, &str>) -> Result<(), Fail> {
     names.insert_unique(7, "Ada").map_err(|refused| refused.1)?;
     assert_eq!(rt;
         names.insert_unique(7, "Alan"),
@@ -39,7 +49,10 @@ fn insert_unique(rt: HostRuntime) -> Result<(), Fail> {
 
 #[test]
 fn find(rt: HostRuntime) -> Result<(), Fail> {
-    let mut users: SortedArena<u64, &str> = SortedArena::new(rt.alloc());
+    find_in(&rt, &mut SortedArena::new(rt.alloc()))
+}
+
+fn find_in(rt: &impl Abort, users: &mut SortedArena<u64, &str>) -> Result<(), Fail> {
     let ada = users.insert(100, "Ada").map_err(|refused| refused.1)?;
     users.insert(100, "Alan").map_err(|refused| refused.1)?;
     assert_eq!(rt; users.find(&100), Some(ada));
@@ -49,7 +62,10 @@ fn find(rt: HostRuntime) -> Result<(), Fail> {
 
 #[test]
 fn lower_bound(rt: HostRuntime) -> Result<(), Fail> {
-    let mut users: SortedArena<u64, &str> = SortedArena::new(rt.alloc());
+    lower_bound_in(&rt, &mut SortedArena::new(rt.alloc()))
+}
+
+fn lower_bound_in(rt: &impl Abort, users: &mut SortedArena<u64, &str>) -> Result<(), Fail> {
     let ada = users.insert(100, "Ada").map_err(|refused| refused.1)?;
     let grace = users.insert(120, "Grace").map_err(|refused| refused.1)?;
     assert_eq!(rt; users.lower_bound(&100), Some(ada));
@@ -60,7 +76,10 @@ fn lower_bound(rt: HostRuntime) -> Result<(), Fail> {
 
 #[test]
 fn upper_bound(rt: HostRuntime) -> Result<(), Fail> {
-    let mut users: SortedArena<u64, &str> = SortedArena::new(rt.alloc());
+    upper_bound_in(&rt, &mut SortedArena::new(rt.alloc()))
+}
+
+fn upper_bound_in(rt: &impl Abort, users: &mut SortedArena<u64, &str>) -> Result<(), Fail> {
     users.insert(100, "Ada").map_err(|refused| refused.1)?;
     let grace = users.insert(120, "Grace").map_err(|refused| refused.1)?;
     assert_eq!(rt; users.upper_bound(&100), Some(grace));
@@ -70,7 +89,10 @@ fn upper_bound(rt: HostRuntime) -> Result<(), Fail> {
 
 #[test]
 fn count_of(rt: HostRuntime) -> Result<(), Fail> {
-    let mut users: SortedArena<u64, &str> = SortedArena::new(rt.alloc());
+    count_of_in(&rt, &mut SortedArena::new(rt.alloc()))
+}
+
+fn count_of_in(rt: &impl Abort, users: &mut SortedArena<u64, &str>) -> Result<(), Fail> {
     users.insert(100, "Ada").map_err(|refused| refused.1)?;
     users.insert(100, "Alan").map_err(|refused| refused.1)?;
     assert_eq!(rt; users.count_of(&100), 2);
@@ -80,7 +102,10 @@ fn count_of(rt: HostRuntime) -> Result<(), Fail> {
 
 #[test]
 fn value_mut(rt: HostRuntime) -> Result<(), Fail> {
-    let mut scores: SortedArena<&str, u32> = SortedArena::new(rt.alloc());
+    value_mut_in(&rt, &mut SortedArena::new(rt.alloc()))
+}
+
+fn value_mut_in(rt: &impl Abort, scores: &mut SortedArena<&str, u32>) -> Result<(), Fail> {
     let ada = scores.insert("Ada", 3).map_err(|refused| refused.1)?;
     if let Some(score) = scores.value_mut(ada) {
         *score = 5;
@@ -91,7 +116,10 @@ fn value_mut(rt: HostRuntime) -> Result<(), Fail> {
 
 #[test]
 fn remove(rt: HostRuntime) -> Result<(), Fail> {
-    let mut users: SortedArena<u64, &str> = SortedArena::new(rt.alloc());
+    remove_in(&rt, &mut SortedArena::new(rt.alloc()))
+}
+
+fn remove_in(rt: &impl Abort, users: &mut SortedArena<u64, &str>) -> Result<(), Fail> {
     let ada = users.insert(100, "Ada").map_err(|refused| refused.1)?;
     assert_eq!(rt; users.remove(ada), Some((100, "Ada")));
     users.insert(100, "Alan").map_err(|refused| refused.1)?;
@@ -101,7 +129,10 @@ fn remove(rt: HostRuntime) -> Result<(), Fail> {
 
 #[test]
 fn remove_key(rt: HostRuntime) -> Result<(), Fail> {
-    let mut users: SortedArena<u64, &str> = SortedArena::new(rt.alloc());
+    remove_key_in(&rt, &mut SortedArena::new(rt.alloc()))
+}
+
+fn remove_key_in(rt: &impl Abort, users: &mut SortedArena<u64, &str>) -> Result<(), Fail> {
     users.insert(100, "Ada").map_err(|refused| refused.1)?;
     users.insert(100, "Alan").map_err(|refused| refused.1)?;
     assert_eq!(rt; users.remove_key(&100), Some((100, "Ada")));
@@ -111,7 +142,10 @@ fn remove_key(rt: HostRuntime) -> Result<(), Fail> {
 
 #[test]
 fn rekey(rt: HostRuntime) -> Result<(), Fail> {
-    let mut users: SortedArena<u64, &str> = SortedArena::new(rt.alloc());
+    rekey_in(&rt, &mut SortedArena::new(rt.alloc()))
+}
+
+fn rekey_in(rt: &impl Abort, users: &mut SortedArena<u64, &str>) -> Result<(), Fail> {
     let ada = users.insert(100, "Ada").map_err(|refused| refused.1)?;
     users.insert(120, "Grace").map_err(|refused| refused.1)?;
     assert_eq!(rt; users.rekey(ada, 140), Ok(100));
@@ -121,7 +155,10 @@ fn rekey(rt: HostRuntime) -> Result<(), Fail> {
 
 #[test]
 fn rekey_unique(rt: HostRuntime) -> Result<(), Fail> {
-    let mut names: SortedArena<u32, &str> = SortedArena::new(rt.alloc());
+    rekey_unique_in(&rt, &mut SortedArena::new(rt.alloc()))
+}
+
+fn rekey_unique_in(rt: &impl Abort, names: &mut SortedArena<u32, &str>) -> Result<(), Fail> {
     let ada = names.insert(7, "Ada").map_err(|refused| refused.1)?;
     names.insert(8, "Alan").map_err(|refused| refused.1)?;
     assert_eq!(rt;
@@ -134,7 +171,10 @@ fn rekey_unique(rt: HostRuntime) -> Result<(), Fail> {
 
 #[test]
 fn pop_first(rt: HostRuntime) -> Result<(), Fail> {
-    let mut users: SortedArena<u64, &str> = SortedArena::new(rt.alloc());
+    pop_first_in(&rt, &mut SortedArena::new(rt.alloc()))
+}
+
+fn pop_first_in(rt: &impl Abort, users: &mut SortedArena<u64, &str>) -> Result<(), Fail> {
     users.insert(120, "Grace").map_err(|refused| refused.1)?;
     users.insert(100, "Ada").map_err(|refused| refused.1)?;
     assert_eq!(rt; users.pop_first(), Some((100, "Ada")));
@@ -143,7 +183,10 @@ fn pop_first(rt: HostRuntime) -> Result<(), Fail> {
 
 #[test]
 fn pop_first_until(rt: HostRuntime) -> Result<(), Fail> {
-    let mut users: SortedArena<u64, &str> = SortedArena::new(rt.alloc());
+    pop_first_until_in(&rt, &mut SortedArena::new(rt.alloc()))
+}
+
+fn pop_first_until_in(rt: &impl Abort, users: &mut SortedArena<u64, &str>) -> Result<(), Fail> {
     users.insert(100, "Ada").map_err(|refused| refused.1)?;
     users.insert(120, "Grace").map_err(|refused| refused.1)?;
     assert_eq!(rt; users.pop_first_until(&110), Some((100, "Ada")));
@@ -153,7 +196,13 @@ fn pop_first_until(rt: HostRuntime) -> Result<(), Fail> {
 
 #[test]
 fn pop_until(rt: HostRuntime) -> Result<(), Fail> {
-    let mut users: SortedArena<u64, &str> = SortedArena::new(rt.alloc());
+    pop_until_in(&rt, &mut SortedArena::new(rt.alloc()))
+}
+
+fn pop_until_in(
+    rt: &(impl Abort + AllocGlobal),
+    users: &mut SortedArena<u64, &str>,
+) -> Result<(), Fail> {
     users.insert(100, "Ada").map_err(|refused| refused.1)?;
     users.insert(110, "Alan").map_err(|refused| refused.1)?;
     users.insert(120, "Grace").map_err(|refused| refused.1)?;
@@ -165,7 +214,10 @@ fn pop_until(rt: HostRuntime) -> Result<(), Fail> {
 
 #[test]
 fn range(rt: HostRuntime) -> Result<(), Fail> {
-    let mut users: SortedArena<u64, &str> = SortedArena::new(rt.alloc());
+    range_in(&rt, &mut SortedArena::new(rt.alloc()))
+}
+
+fn range_in(rt: &impl Abort, users: &mut SortedArena<u64, &str>) -> Result<(), Fail> {
     users.insert(100, "Ada").map_err(|refused| refused.1)?;
     users.insert(110, "Alan").map_err(|refused| refused.1)?;
     users.insert(120, "Grace").map_err(|refused| refused.1)?;
@@ -176,7 +228,10 @@ fn range(rt: HostRuntime) -> Result<(), Fail> {
 
 #[test]
 fn remove_range(rt: HostRuntime) -> Result<(), Fail> {
-    let mut users: SortedArena<u64, &str> = SortedArena::new(rt.alloc());
+    remove_range_in(&rt, &mut SortedArena::new(rt.alloc()))
+}
+
+fn remove_range_in(rt: &impl Abort, users: &mut SortedArena<u64, &str>) -> Result<(), Fail> {
     users.insert(100, "Ada").map_err(|refused| refused.1)?;
     users.insert(110, "Alan").map_err(|refused| refused.1)?;
     users.insert(120, "Grace").map_err(|refused| refused.1)?;
@@ -187,7 +242,10 @@ fn remove_range(rt: HostRuntime) -> Result<(), Fail> {
 
 #[test]
 fn retain(rt: HostRuntime) -> Result<(), Fail> {
-    let mut scores: SortedArena<&str, u32> = SortedArena::new(rt.alloc());
+    retain_in(&rt, &mut SortedArena::new(rt.alloc()))
+}
+
+fn retain_in(rt: &impl Abort, scores: &mut SortedArena<&str, u32>) -> Result<(), Fail> {
     scores.insert("Ada", 3).map_err(|refused| refused.1)?;
     scores.insert("Alan", 0).map_err(|refused| refused.1)?;
     scores.retain(|_, score| *score > 0);
@@ -197,7 +255,13 @@ fn retain(rt: HostRuntime) -> Result<(), Fail> {
 
 #[test]
 fn split_off(rt: HostRuntime) -> Result<(), Fail> {
-    let mut users: SortedArena<u64, &str> = SortedArena::new(rt.alloc());
+    split_off_in(&rt, &mut SortedArena::new(rt.alloc()))
+}
+
+fn split_off_in(
+    rt: &(impl Abort + AllocGlobal),
+    users: &mut SortedArena<u64, &str>,
+) -> Result<(), Fail> {
     users.insert(100, "Ada").map_err(|refused| refused.1)?;
     users.insert(120, "Grace").map_err(|refused| refused.1)?;
     let later = users.split_off(rt.alloc(), &110)?;
@@ -216,7 +280,13 @@ fn from_sorted(rt: HostRuntime) -> Result<(), Fail> {
 
 #[test]
 fn find_by(rt: HostRuntime) -> Result<(), Fail> {
-    let mut ids: SortedArena<String, u32> = SortedArena::new(rt.alloc());
+    find_by_in(&rt, &mut SortedArena::new(rt.alloc()))
+}
+
+fn find_by_in(
+    rt: &(impl Abort + AllocGlobal),
+    ids: &mut SortedArena<String, u32>,
+) -> Result<(), Fail> {
     let name = String::from_str(rt.alloc(), "Ada")?;
     let ada = ids.insert(name, 7).map_err(|refused| refused.1)?;
     assert_eq!(rt; ids.find_by(|name| name.as_str().cmp("Ada")), Some(ada));
@@ -226,7 +296,10 @@ fn find_by(rt: HostRuntime) -> Result<(), Fail> {
 
 #[test]
 fn get_by_key(rt: HostRuntime) -> Result<(), Fail> {
-    let mut users: SortedArena<u64, &str> = SortedArena::new(rt.alloc());
+    get_by_key_in(&rt, &mut SortedArena::new(rt.alloc()))
+}
+
+fn get_by_key_in(rt: &impl Abort, users: &mut SortedArena<u64, &str>) -> Result<(), Fail> {
     let ada = users.insert(100, "Ada").map_err(|refused| refused.1)?;
     assert_eq!(rt; users.get_by_key(&100), Some((ada, &100, &"Ada")));
     Ok(())
@@ -234,7 +307,10 @@ fn get_by_key(rt: HostRuntime) -> Result<(), Fail> {
 
 #[test]
 fn find_or_insert(rt: HostRuntime) -> Result<(), Fail> {
-    let mut stock: SortedArena<&str, u32> = SortedArena::new(rt.alloc());
+    find_or_insert_in(&rt, &mut SortedArena::new(rt.alloc()))
+}
+
+fn find_or_insert_in(rt: &impl Abort, stock: &mut SortedArena<&str, u32>) -> Result<(), Fail> {
     let (tea, back) = stock.find_or_insert("tea", 7).map_err(|refused| refused.1)?;
     assert_eq!(rt; back, None);
     assert_eq!(rt;
@@ -247,7 +323,10 @@ fn find_or_insert(rt: HostRuntime) -> Result<(), Fail> {
 
 #[test]
 fn pop_first_entry(rt: HostRuntime) -> Result<(), Fail> {
-    let mut users: SortedArena<u64, &str> = SortedArena::new(rt.alloc());
+    pop_first_entry_in(&rt, &mut SortedArena::new(rt.alloc()))
+}
+
+fn pop_first_entry_in(rt: &impl Abort, users: &mut SortedArena<u64, &str>) -> Result<(), Fail> {
     let ada = users.insert(100, "Ada").map_err(|refused| refused.1)?;
     assert_eq!(rt; users.pop_first_entry(), Some((ada, 100, "Ada")));
     assert!(rt; !users.contains(ada));
@@ -256,7 +335,13 @@ fn pop_first_entry(rt: HostRuntime) -> Result<(), Fail> {
 
 #[test]
 fn pop_entries_until(rt: HostRuntime) -> Result<(), Fail> {
-    let mut users: SortedArena<u64, &str> = SortedArena::new(rt.alloc());
+    pop_entries_until_in(&rt, &mut SortedArena::new(rt.alloc()))
+}
+
+fn pop_entries_until_in(
+    rt: &(impl Abort + AllocGlobal),
+    users: &mut SortedArena<u64, &str>,
+) -> Result<(), Fail> {
     let ada = users.insert(100, "Ada").map_err(|refused| refused.1)?;
     users.insert(120, "Grace").map_err(|refused| refused.1)?;
     let mut ended = Vec::new(rt.alloc());
@@ -267,7 +352,10 @@ fn pop_entries_until(rt: HostRuntime) -> Result<(), Fail> {
 
 #[test]
 fn nth(rt: HostRuntime) -> Result<(), Fail> {
-    let mut users: SortedArena<u64, &str> = SortedArena::new(rt.alloc());
+    nth_in(&rt, &mut SortedArena::new(rt.alloc()))
+}
+
+fn nth_in(rt: &impl Abort, users: &mut SortedArena<u64, &str>) -> Result<(), Fail> {
     let grace = users.insert(120, "Grace").map_err(|refused| refused.1)?;
     users.insert(100, "Ada").map_err(|refused| refused.1)?;
     assert_eq!(rt; users.nth(1), Some(grace));
@@ -278,7 +366,10 @@ fn nth(rt: HostRuntime) -> Result<(), Fail> {
 
 #[test]
 fn retain_entries(rt: HostRuntime) -> Result<(), Fail> {
-    let mut scores: SortedArena<&str, u32> = SortedArena::new(rt.alloc());
+    retain_entries_in(&rt, &mut SortedArena::new(rt.alloc()))
+}
+
+fn retain_entries_in(rt: &impl Abort, scores: &mut SortedArena<&str, u32>) -> Result<(), Fail> {
     let ada = scores.insert("Ada", 3).map_err(|refused| refused.1)?;
     let alan = scores.insert("Alan", 0).map_err(|refused| refused.1)?;
     scores.retain_entries(|p, _, score| p == ada || *score > 0);
@@ -289,7 +380,13 @@ fn retain_entries(rt: HostRuntime) -> Result<(), Fail> {
 
 #[test]
 fn find_str(rt: HostRuntime) -> Result<(), Fail> {
-    let mut ids: SortedArena<String, u32> = SortedArena::new(rt.alloc());
+    find_str_in(&rt, &mut SortedArena::new(rt.alloc()))
+}
+
+fn find_str_in(
+    rt: &(impl Abort + AllocGlobal),
+    ids: &mut SortedArena<String, u32>,
+) -> Result<(), Fail> {
     let name = String::from_str(rt.alloc(), "Ada")?;
     let ada = ids.insert(name, 7).map_err(|refused| refused.1)?;
     assert_eq!(rt; ids.find_str("Ada"), Some(ada));

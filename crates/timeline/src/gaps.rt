@@ -31,7 +31,6 @@ impl<V, A: Allocator> Timeline<V, A> {
     /// Returns an iterator over the stretches without a value from `from` until before `until`, in order. O(log n), and each step is O(1).
     ///
     /// ```
-    /// let mut day: Timeline<u8> = Timeline::new(rt.alloc());
     /// day.set(9, 12, 1)?;
     /// day.set(13, 17, 1)?;
     /// let gap = day.gaps(9, 17).next().map(|gap| (gap.from, gap.until));

@@ -31,7 +31,6 @@ impl<V, A: Allocator> Timeline<V, A> {
     /// Returns an iterator over the spans from `from` until before `until`, in order. O(log n), and each step is O(1).
     ///
     /// ```
-    /// let mut day: Timeline<u8> = Timeline::new(rt.alloc());
     /// day.set(9, 17, 1)?;
     /// day.set(12, 13, 2)?;
     /// let mut hours = 0;

@@ -22,7 +22,8 @@ use std::marker::Model;
 /// A time is a number in whatever unit the program counts it. In contracts a timeline is the list of its changes, each a time from which on
 /// another value holds, or none, and its capacity.
 ///
-/// Only `reserve` and the settings take memory. In the docs n is the number of changes.
+/// Only `reserve` and the settings take memory. In the docs n is the number of changes. In the examples of the calls `day` is a `Timeline<u8>`
+/// without values, as `Timeline::new(rt.alloc())` makes it.
 #[derive(Drop)]
 pub struct Timeline<V, A: Allocator = Global> {
     changes: Changes<V, A>,
@@ -81,7 +82,6 @@ impl<V, A: Allocator> Timeline<V, A> {
     /// It begins with the change that brought the value, and ends at the next one; `until` is `None` if no change follows.
     ///
     /// ```
-    /// let mut day: Timeline<u8> = Timeline::new(rt.alloc());
     /// day.set(9, 17, 1)?;
     /// let span = day.span_at(12).map(|span| (span.from, span.until));
     /// assert_eq!(rt; span, Some((9, Some(17))));
@@ -105,7 +105,6 @@ impl<V, A: Allocator> Timeline<V, A> {
     /// Returns the first time after `time` at which another value holds, or none, in O(log n). `None` if there is no such time.
     ///
     /// ```
-    /// let mut day: Timeline<u8> = Timeline::new(rt.alloc());
     /// day.set(9, 17, 1)?;
     /// assert_eq!(rt; day.next_change(0), Some(9));
     /// assert_eq!(rt; day.next_change(9), Some(17));
@@ -139,7 +138,6 @@ impl<V, A: Allocator> Timeline<V, A> {
     /// O(n) if the timeline grows, else O(1). If it grows, its capacity at least doubles, up to the limit.
     ///
     /// ```
-    /// let mut day: Timeline<u8> = Timeline::new(rt.alloc());
     /// day.reserve(1)?;
     /// let room = day.capacity();
     /// day.set(9, 17, 1)?;
@@ -185,7 +183,6 @@ impl<V: TimelineValue, A: Allocator> Timeline<V, A> {
     /// If `until` isn't later than `from`, nothing changes. If a stretch that began before `from` goes on at `until`, its value is cloned.
     ///
     /// ```
-    /// let mut day: Timeline<u8> = Timeline::new(rt.alloc());
     /// day.set(9, 17, 1)?;
     /// day.set(12, 13, 2)?;
     /// assert_eq!(rt; day.get(12), Some(&2));
@@ -212,7 +209,6 @@ impl<V: TimelineValue, A: Allocator> Timeline<V, A> {
     /// Removes all values from `from` until before `until`. At all other times the value stays.
     ///
     /// ```
-    /// let mut day: Timeline<u8> = Timeline::new(rt.alloc());
     /// day.set(9, 17, 1)?;
     /// day.clear(12, 13)?;
     /// assert_eq!(rt; day.get(12), None);
@@ -231,7 +227,6 @@ impl<V: TimelineValue, A: Allocator> Timeline<V, A> {
     /// Makes `value` hold from `from` on, without end: also at `u64::MAX`. Before, the value stays. Nothing is cloned.
     ///
     /// ```
-    /// let mut day: Timeline<u8> = Timeline::new(rt.alloc());
     /// day.set_from(20, 3)?;
     /// assert_eq!(rt; day.get(19), None);
     /// assert_eq!(rt; day.get(u64::MAX), Some(&3));
@@ -255,7 +250,6 @@ impl<V: TimelineValue, A: Allocator> Timeline<V, A> {
     /// Removes all values from `from` on, without end. Before, the value stays.
     ///
     /// ```
-    /// let mut day: Timeline<u8> = Timeline::new(rt.alloc());
     /// day.set(9, 17, 1)?;
     /// day.clear_from(12)?;
     /// assert_eq!(rt; day.next_change(9), Some(12));

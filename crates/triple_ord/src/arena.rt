@@ -51,6 +51,8 @@ pub use walk::OrderedPtrAdvancer;
 /// An entry keeps its pointer while others come and go. The entries form one list, with a rank-balanced tree over it (Haeupler, Sen and
 /// Tarjan, "Rank-balanced trees", 2015). Nothing is assumed of the order of the keys. If it is broken, a search is as safe as ever: it
 /// finds an entry with an equal key, or stops between two neighbours, the first with a smaller key and the second with a greater one.
+///
+/// In the examples of the calls `pairs` is an empty `SimpleOrdArena<P0, OrdPair<u64, &str>>`, as `SimpleOrdArena::new(rt.alloc())` makes it.
 #[derive(Drop)]
 pub struct SimpleOrdArena<P: BasePtr, T, A: Allocator = Global> {
     tree: OrdTree<P, T, A>,

@@ -2,12 +2,19 @@
 
 use arena_base::{InvalidationResult, P0};
 use std::cmp::Ordering;
+use std::process::Abort;
 use std::test::Fail;
 use triple_ord::{Advancer, OrdInsertKind, OrdPair, SimpleOrdArena};
 
 #[test]
 fn insert(rt: HostRuntime) -> Result<(), Fail> {
-    let mut pairs: SimpleOrdArena<P0, OrdPair<u64, &str>> = SimpleOrdArena::new(rt.alloc());
+    insert_in(&rt, &mut SimpleOrdArena::new(rt.alloc()))
+}
+
+fn insert_in(
+    rt: &impl Abort,
+    pairs: &mut SimpleOrdArena<P0, OrdPair<u64, &str>>,
+) -> Result<(), Fail> {
     let (two, _) = pairs.insert(OrdPair::new(2, "deux"))?;
     let (same, replaced) = pairs.insert(OrdPair::new(2, "two"))?;
     assert_eq!(rt; same, two);
@@ -18,7 +25,13 @@ fn insert(rt: HostRuntime) -> Result<(), Fail> {
 
 #[test]
 fn entry_insert(rt: HostRuntime) -> Result<(), Fail> {
-    let mut pairs: SimpleOrdArena<P0, OrdPair<u64, &str>> = SimpleOrdArena::new(rt.alloc());
+    entry_insert_in(&rt, &mut SimpleOrdArena::new(rt.alloc()))
+}
+
+fn entry_insert_in(
+    rt: &impl Abort,
+    pairs: &mut SimpleOrdArena<P0, OrdPair<u64, &str>>,
+) -> Result<(), Fail> {
     for name in ["first", "second"] {
         let entry = pairs.entry_insert(OrdInsertKind::Nonhereditary(&7))?;
         let _ = entry.insert(OrdPair::new(7, name));
@@ -33,7 +46,13 @@ fn entry_insert(rt: HostRuntime) -> Result<(), Fail> {
 
 #[test]
 fn find_key(rt: HostRuntime) -> Result<(), Fail> {
-    let mut pairs: SimpleOrdArena<P0, OrdPair<u64, &str>> = SimpleOrdArena::new(rt.alloc());
+    find_key_in(&rt, &mut SimpleOrdArena::new(rt.alloc()))
+}
+
+fn find_key_in(
+    rt: &impl Abort,
+    pairs: &mut SimpleOrdArena<P0, OrdPair<u64, &str>>,
+) -> Result<(), Fail> {
     let (two, _) = pairs.insert(OrdPair::new(2, "two"))?;
     assert_eq!(rt; pairs.find_key(&2), Some(two));
     assert_eq!(rt; pairs.find_key(&3), None);
@@ -42,7 +61,13 @@ fn find_key(rt: HostRuntime) -> Result<(), Fail> {
 
 #[test]
 fn find_similar_key(rt: HostRuntime) -> Result<(), Fail> {
-    let mut pairs: SimpleOrdArena<P0, OrdPair<u64, &str>> = SimpleOrdArena::new(rt.alloc());
+    find_similar_key_in(&rt, &mut SimpleOrdArena::new(rt.alloc()))
+}
+
+fn find_similar_key_in(
+    rt: &impl Abort,
+    pairs: &mut SimpleOrdArena<P0, OrdPair<u64, &str>>,
+) -> Result<(), Fail> {
     let (two, _) = pairs.insert(OrdPair::new(2, "two"))?;
     assert_eq!(rt; pairs.find_similar_key(&3), Some((two, Ordering::Greater)));
     assert_eq!(rt; pairs.find_similar_key(&1), Some((two, Ordering::Less)));
@@ -51,7 +76,13 @@ fn find_similar_key(rt: HostRuntime) -> Result<(), Fail> {
 
 #[test]
 fn find_with(rt: HostRuntime) -> Result<(), Fail> {
-    let mut pairs: SimpleOrdArena<P0, OrdPair<u64, &str>> = SimpleOrdArena::new(rt.alloc());
+    find_with_in(&rt, &mut SimpleOrdArena::new(rt.alloc()))
+}
+
+fn find_with_in(
+    rt: &impl Abort,
+    pairs: &mut SimpleOrdArena<P0, OrdPair<u64, &str>>,
+) -> Result<(), Fail> {
     let (two, _) = pairs.insert(OrdPair::new(2, "two"))?;
     pairs.insert(OrdPair::new(5, "five"))?;
     assert_eq!(rt; pairs.find_with(|_, pair| 2.cmp(pair.k())), Some(two));
@@ -60,7 +91,13 @@ fn find_with(rt: HostRuntime) -> Result<(), Fail> {
 
 #[test]
 fn remove(rt: HostRuntime) -> Result<(), Fail> {
-    let mut pairs: SimpleOrdArena<P0, OrdPair<u64, &str>> = SimpleOrdArena::new(rt.alloc());
+    remove_in(&rt, &mut SimpleOrdArena::new(rt.alloc()))
+}
+
+fn remove_in(
+    rt: &impl Abort,
+    pairs: &mut SimpleOrdArena<P0, OrdPair<u64, &str>>,
+) -> Result<(), Fail> {
     let (two, _) = pairs.insert(OrdPair::new(2, "two"))?;
     assert_eq!(rt; pairs.remove(two).allow(), Some(OrdPair::new(2, "two")));
     assert_eq!(rt; pairs.remove(two).allow(), None);
@@ -70,7 +107,13 @@ fn remove(rt: HostRuntime) -> Result<(), Fail> {
 
 #[test]
 fn rekey_pair(rt: HostRuntime) -> Result<(), Fail> {
-    let mut pairs: SimpleOrdArena<P0, OrdPair<u64, &str>> = SimpleOrdArena::new(rt.alloc());
+    rekey_pair_in(&rt, &mut SimpleOrdArena::new(rt.alloc()))
+}
+
+fn rekey_pair_in(
+    rt: &impl Abort,
+    pairs: &mut SimpleOrdArena<P0, OrdPair<u64, &str>>,
+) -> Result<(), Fail> {
     let (two, _) = pairs.insert(OrdPair::new(2, "tea"))?;
     let (five, _) = pairs.insert(OrdPair::new(5, "cake"))?;
     assert_eq!(rt; pairs.rekey_pair(two, 9), Ok(2));
@@ -93,7 +136,13 @@ fn advancer_ordered(rt: HostRuntime) -> Result<(), Fail> {
 
 #[test]
 fn append_pairs_within_capacity(rt: HostRuntime) -> Result<(), Fail> {
-    let mut pairs: SimpleOrdArena<P0, OrdPair<u64, &str>> = SimpleOrdArena::new(rt.alloc());
+    append_pairs_within_capacity_in(&rt, &mut SimpleOrdArena::new(rt.alloc()))
+}
+
+fn append_pairs_within_capacity_in(
+    rt: &(impl Abort + AllocGlobal),
+    pairs: &mut SimpleOrdArena<P0, OrdPair<u64, &str>>,
+) -> Result<(), Fail> {
     pairs.reserve(2)?;
     let sorted = Vec::from_array(rt.alloc(), [(1, "one"), (2, "two")])?;
     assert!(rt; pairs.append_pairs_within_capacity(sorted).is_ok());
@@ -106,7 +155,13 @@ fn append_pairs_within_capacity(rt: HostRuntime) -> Result<(), Fail> {
 
 #[test]
 fn compress_canonical(rt: HostRuntime) -> Result<(), Fail> {
-    let mut pairs: SimpleOrdArena<P0, OrdPair<u64, &str>> = SimpleOrdArena::new(rt.alloc());
+    compress_canonical_in(&rt, &mut SimpleOrdArena::new(rt.alloc()))
+}
+
+fn compress_canonical_in(
+    rt: &impl Abort,
+    pairs: &mut SimpleOrdArena<P0, OrdPair<u64, &str>>,
+) -> Result<(), Fail> {
     let (two, _) = pairs.insert(OrdPair::new(2, "two"))?;
     pairs.insert(OrdPair::new(1, "one"))?;
     pairs.compress_canonical(false).allow();

@@ -15,7 +15,6 @@ impl<J, A: Allocator> Agenda<J, A> {
     /// If it grows, it grows at least as much as for one more job, so that repeated reservations cost amortized O(1) for each job.
     ///
     /// ```
-    /// let mut agenda: Agenda<&str> = Agenda::new(rt.alloc());
     /// agenda.reserve(2)?;
     /// let room = agenda.capacity();
     /// agenda.schedule(30, "report").map_err(|refused| refused.1)?;
@@ -49,7 +48,6 @@ impl<J: Drop, A: Allocator> Agenda<J, A> {
     /// Removes and drops all jobs, in O(capacity). Their tickets end. The capacity stays.
     ///
     /// ```
-    /// let mut agenda: Agenda<&str> = Agenda::new(rt.alloc());
     /// let tea = agenda.schedule(10, "tea").map_err(|refused| refused.1)?;
     /// agenda.clear();
     /// assert!(rt; agenda.is_empty());
@@ -70,7 +68,6 @@ impl<J: Clone + Drop, A: Allocator + Copy> Agenda<J, A> {
     /// The clone's capacity is the greatest index of a ticket, which is at least the number of jobs and at most this agenda's capacity.
     ///
     /// ```
-    /// let mut agenda: Agenda<&str> = Agenda::new(rt.alloc());
     /// let tea = agenda.schedule(10, "tea").map_err(|refused| refused.1)?;
     /// let copy = agenda.try_clone()?;
     /// agenda.clear();

@@ -1,11 +1,15 @@
 //! The examples in the text of `Agenda`'s calls.
 
 use agenda::Agenda;
+use std::process::Abort;
 use std::test::Fail;
 
 #[test]
 fn schedule(rt: HostRuntime) -> Result<(), Fail> {
-    let mut agenda: Agenda<&str> = Agenda::new(rt.alloc());
+    schedule_in(&rt, &mut Agenda::new(rt.alloc()))
+}
+
+fn schedule_in(rt: &impl Abort, agenda: &mut Agenda<&str>) -> Result<(), Fail> {
     agenda.schedule(30, "report").map_err(|refused| refused.1)?;
     agenda.schedule(10, "tea").map_err(|refused| refused.1)?;
     assert_eq!(rt; agenda.next_deadline(), Some(10));
@@ -14,7 +18,10 @@ fn schedule(rt: HostRuntime) -> Result<(), Fail> {
 
 #[test]
 fn cancel(rt: HostRuntime) -> Result<(), Fail> {
-    let mut agenda: Agenda<&str> = Agenda::new(rt.alloc());
+    cancel_in(&rt, &mut Agenda::new(rt.alloc()))
+}
+
+fn cancel_in(rt: &impl Abort, agenda: &mut Agenda<&str>) -> Result<(), Fail> {
     let report = agenda.schedule(30, "report").map_err(|refused| refused.1)?;
     assert_eq!(rt; agenda.cancel(report), Some((30, "report")));
     assert_eq!(rt; agenda.cancel(report), None);
@@ -23,7 +30,10 @@ fn cancel(rt: HostRuntime) -> Result<(), Fail> {
 
 #[test]
 fn pop_due(rt: HostRuntime) -> Result<(), Fail> {
-    let mut agenda: Agenda<&str> = Agenda::new(rt.alloc());
+    pop_due_in(&rt, &mut Agenda::new(rt.alloc()))
+}
+
+fn pop_due_in(rt: &impl Abort, agenda: &mut Agenda<&str>) -> Result<(), Fail> {
     agenda.schedule(30, "report").map_err(|refused| refused.1)?;
     agenda.schedule(10, "tea").map_err(|refused| refused.1)?;
     assert_eq!(rt; agenda.pop_due(20), Some((10, "tea")));
@@ -33,7 +43,10 @@ fn pop_due(rt: HostRuntime) -> Result<(), Fail> {
 
 #[test]
 fn reschedule(rt: HostRuntime) -> Result<(), Fail> {
-    let mut agenda: Agenda<&str> = Agenda::new(rt.alloc());
+    reschedule_in(&rt, &mut Agenda::new(rt.alloc()))
+}
+
+fn reschedule_in(rt: &impl Abort, agenda: &mut Agenda<&str>) -> Result<(), Fail> {
     let tea = agenda.schedule(10, "tea").map_err(|refused| refused.1)?;
     agenda.schedule(30, "report").map_err(|refused| refused.1)?;
     assert!(rt; agenda.reschedule(tea, 40));
@@ -44,7 +57,10 @@ fn reschedule(rt: HostRuntime) -> Result<(), Fail> {
 
 #[test]
 fn move_to(rt: HostRuntime) -> Result<(), Fail> {
-    let mut agenda: Agenda<&str> = Agenda::new(rt.alloc());
+    move_to_in(&rt, &mut Agenda::new(rt.alloc()))
+}
+
+fn move_to_in(rt: &impl Abort, agenda: &mut Agenda<&str>) -> Result<(), Fail> {
     let tea = agenda.schedule(10, "tea").map_err(|refused| refused.1)?;
     let later = agenda.move_to(tea, 40);
     assert!(rt; later.is_some());
@@ -55,7 +71,10 @@ fn move_to(rt: HostRuntime) -> Result<(), Fail> {
 
 #[test]
 fn get(rt: HostRuntime) -> Result<(), Fail> {
-    let mut agenda: Agenda<&str> = Agenda::new(rt.alloc());
+    get_in(&rt, &mut Agenda::new(rt.alloc()))
+}
+
+fn get_in(rt: &impl Abort, agenda: &mut Agenda<&str>) -> Result<(), Fail> {
     let tea = agenda.schedule(10, "tea").map_err(|refused| refused.1)?;
     assert_eq!(rt; agenda.get(tea), Some((10, &"tea")));
     Ok(())
@@ -63,7 +82,10 @@ fn get(rt: HostRuntime) -> Result<(), Fail> {
 
 #[test]
 fn peek(rt: HostRuntime) -> Result<(), Fail> {
-    let mut agenda: Agenda<&str> = Agenda::new(rt.alloc());
+    peek_in(&rt, &mut Agenda::new(rt.alloc()))
+}
+
+fn peek_in(rt: &impl Abort, agenda: &mut Agenda<&str>) -> Result<(), Fail> {
     agenda.schedule(30, "report").map_err(|refused| refused.1)?;
     let tea = agenda.schedule(10, "tea").map_err(|refused| refused.1)?;
     assert_eq!(rt; agenda.peek(), Some((tea, 10, &"tea")));
@@ -72,7 +94,10 @@ fn peek(rt: HostRuntime) -> Result<(), Fail> {
 
 #[test]
 fn reserve(rt: HostRuntime) -> Result<(), Fail> {
-    let mut agenda: Agenda<&str> = Agenda::new(rt.alloc());
+    reserve_in(&rt, &mut Agenda::new(rt.alloc()))
+}
+
+fn reserve_in(rt: &impl Abort, agenda: &mut Agenda<&str>) -> Result<(), Fail> {
     agenda.reserve(2)?;
     let room = agenda.capacity();
     agenda.schedule(30, "report").map_err(|refused| refused.1)?;
@@ -83,7 +108,10 @@ fn reserve(rt: HostRuntime) -> Result<(), Fail> {
 
 #[test]
 fn clear(rt: HostRuntime) -> Result<(), Fail> {
-    let mut agenda: Agenda<&str> = Agenda::new(rt.alloc());
+    clear_in(&rt, &mut Agenda::new(rt.alloc()))
+}
+
+fn clear_in(rt: &impl Abort, agenda: &mut Agenda<&str>) -> Result<(), Fail> {
     let tea = agenda.schedule(10, "tea").map_err(|refused| refused.1)?;
     agenda.clear();
     assert!(rt; agenda.is_empty());
@@ -93,7 +121,10 @@ fn clear(rt: HostRuntime) -> Result<(), Fail> {
 
 #[test]
 fn try_clone(rt: HostRuntime) -> Result<(), Fail> {
-    let mut agenda: Agenda<&str> = Agenda::new(rt.alloc());
+    try_clone_in(&rt, &mut Agenda::new(rt.alloc()))
+}
+
+fn try_clone_in(rt: &impl Abort, agenda: &mut Agenda<&str>) -> Result<(), Fail> {
     let tea = agenda.schedule(10, "tea").map_err(|refused| refused.1)?;
     let copy = agenda.try_clone()?;
     agenda.clear();

@@ -1,11 +1,15 @@
 //! The examples in the text of `OrderBook`'s calls.
 
 use order_book::{NewOrder, OrderBook, Side};
+use std::process::Abort;
 use std::test::Fail;
 
 #[test]
 fn place(rt: HostRuntime) -> Result<(), Fail> {
-    let mut book = OrderBook::new(rt.alloc());
+    place_in(&rt, &mut OrderBook::new(rt.alloc()))
+}
+
+fn place_in(rt: &(impl Abort + AllocGlobal), book: &mut OrderBook) -> Result<(), Fail> {
     let mut trades = Vec::new(rt.alloc());
     book.place(NewOrder::limit(Side::Sell, 101, 10), &mut trades)?;
     let rest = book.place(NewOrder::limit(Side::Buy, 102, 4), &mut trades)?;
@@ -17,7 +21,10 @@ fn place(rt: HostRuntime) -> Result<(), Fail> {
 
 #[test]
 fn replace(rt: HostRuntime) -> Result<(), Fail> {
-    let mut book = OrderBook::new(rt.alloc());
+    replace_in(&rt, &mut OrderBook::new(rt.alloc()))
+}
+
+fn replace_in(rt: &(impl Abort + AllocGlobal), book: &mut OrderBook) -> Result<(), Fail> {
     let mut trades = Vec::new(rt.alloc());
     let ask = book.place(NewOrder::limit(Side::Sell, 101, 10), &mut trades)?;
     if let Some(ask) = ask {
@@ -32,7 +39,10 @@ fn replace(rt: HostRuntime) -> Result<(), Fail> {
 
 #[test]
 fn cancel(rt: HostRuntime) -> Result<(), Fail> {
-    let mut book = OrderBook::new(rt.alloc());
+    cancel_in(&rt, &mut OrderBook::new(rt.alloc()))
+}
+
+fn cancel_in(rt: &(impl Abort + AllocGlobal), book: &mut OrderBook) -> Result<(), Fail> {
     let mut trades = Vec::new(rt.alloc());
     let ask = book.place(NewOrder::limit(Side::Sell, 101, 10), &mut trades)?;
     let cancelled = ask.and_then(|ask| book.cancel(ask));
@@ -43,7 +53,10 @@ fn cancel(rt: HostRuntime) -> Result<(), Fail> {
 
 #[test]
 fn reduce(rt: HostRuntime) -> Result<(), Fail> {
-    let mut book = OrderBook::new(rt.alloc());
+    reduce_in(&rt, &mut OrderBook::new(rt.alloc()))
+}
+
+fn reduce_in(rt: &(impl Abort + AllocGlobal), book: &mut OrderBook) -> Result<(), Fail> {
     let mut trades = Vec::new(rt.alloc());
     let ask = book.place(NewOrder::limit(Side::Sell, 101, 10), &mut trades)?;
     if let Some(ask) = ask {
@@ -55,7 +68,10 @@ fn reduce(rt: HostRuntime) -> Result<(), Fail> {
 
 #[test]
 fn best_ask(rt: HostRuntime) -> Result<(), Fail> {
-    let mut book = OrderBook::new(rt.alloc());
+    best_ask_in(&rt, &mut OrderBook::new(rt.alloc()))
+}
+
+fn best_ask_in(rt: &(impl Abort + AllocGlobal), book: &mut OrderBook) -> Result<(), Fail> {
     let mut trades = Vec::new(rt.alloc());
     book.place(NewOrder::limit(Side::Sell, 103, 20), &mut trades)?;
     book.place(NewOrder::limit(Side::Sell, 101, 10), &mut trades)?;
@@ -65,7 +81,10 @@ fn best_ask(rt: HostRuntime) -> Result<(), Fail> {
 
 #[test]
 fn offered(rt: HostRuntime) -> Result<(), Fail> {
-    let mut book = OrderBook::new(rt.alloc());
+    offered_in(&rt, &mut OrderBook::new(rt.alloc()))
+}
+
+fn offered_in(rt: &(impl Abort + AllocGlobal), book: &mut OrderBook) -> Result<(), Fail> {
     let mut trades = Vec::new(rt.alloc());
     book.place(NewOrder::limit(Side::Sell, 101, 10), &mut trades)?;
     book.place(NewOrder::limit(Side::Sell, 103, 20), &mut trades)?;
@@ -76,7 +95,10 @@ fn offered(rt: HostRuntime) -> Result<(), Fail> {
 
 #[test]
 fn volume_within(rt: HostRuntime) -> Result<(), Fail> {
-    let mut book = OrderBook::new(rt.alloc());
+    volume_within_in(&rt, &mut OrderBook::new(rt.alloc()))
+}
+
+fn volume_within_in(rt: &(impl Abort + AllocGlobal), book: &mut OrderBook) -> Result<(), Fail> {
     let mut trades = Vec::new(rt.alloc());
     book.place(NewOrder::limit(Side::Sell, 101, 10), &mut trades)?;
     book.place(NewOrder::limit(Side::Sell, 103, 20), &mut trades)?;
@@ -87,7 +109,10 @@ fn volume_within(rt: HostRuntime) -> Result<(), Fail> {
 
 #[test]
 fn depth(rt: HostRuntime) -> Result<(), Fail> {
-    let mut book = OrderBook::new(rt.alloc());
+    depth_in(&rt, &mut OrderBook::new(rt.alloc()))
+}
+
+fn depth_in(rt: &(impl Abort + AllocGlobal), book: &mut OrderBook) -> Result<(), Fail> {
     let mut trades = Vec::new(rt.alloc());
     book.place(NewOrder::limit(Side::Sell, 101, 10), &mut trades)?;
     book.place(NewOrder::limit(Side::Sell, 101, 5), &mut trades)?;
@@ -101,7 +126,10 @@ fn depth(rt: HostRuntime) -> Result<(), Fail> {
 
 #[test]
 fn iter(rt: HostRuntime) -> Result<(), Fail> {
-    let mut book = OrderBook::new(rt.alloc());
+    iter_in(&rt, &mut OrderBook::new(rt.alloc()))
+}
+
+fn iter_in(rt: &(impl Abort + AllocGlobal), book: &mut OrderBook) -> Result<(), Fail> {
     let mut trades = Vec::new(rt.alloc());
     book.place(NewOrder::limit(Side::Sell, 101, 10), &mut trades)?;
     book.place(NewOrder::limit(Side::Sell, 103, 20), &mut trades)?;
@@ -115,7 +143,10 @@ fn iter(rt: HostRuntime) -> Result<(), Fail> {
 
 #[test]
 fn reserve(rt: HostRuntime) -> Result<(), Fail> {
-    let mut book = OrderBook::new(rt.alloc());
+    reserve_in(&rt, &mut OrderBook::new(rt.alloc()))
+}
+
+fn reserve_in(rt: &(impl Abort + AllocGlobal), book: &mut OrderBook) -> Result<(), Fail> {
     let mut trades = Vec::new(rt.alloc());
     book.reserve(Side::Sell, 1)?;
     let room = book.capacity(Side::Sell);

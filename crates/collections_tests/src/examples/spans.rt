@@ -1,11 +1,15 @@
 //! The examples in the text of `Timeline`'s calls.
 
+use std::process::Abort;
 use std::test::Fail;
 use timeline::Timeline;
 
 #[test]
 fn set(rt: HostRuntime) -> Result<(), Fail> {
-    let mut day: Timeline<u8> = Timeline::new(rt.alloc());
+    set_in(&rt, &mut Timeline::new(rt.alloc()))
+}
+
+fn set_in(rt: &impl Abort, day: &mut Timeline<u8>) -> Result<(), Fail> {
     day.set(9, 17, 1)?;
     day.set(12, 13, 2)?;
     assert_eq!(rt; day.get(12), Some(&2));
@@ -16,7 +20,10 @@ fn set(rt: HostRuntime) -> Result<(), Fail> {
 
 #[test]
 fn clear(rt: HostRuntime) -> Result<(), Fail> {
-    let mut day: Timeline<u8> = Timeline::new(rt.alloc());
+    clear_in(&rt, &mut Timeline::new(rt.alloc()))
+}
+
+fn clear_in(rt: &impl Abort, day: &mut Timeline<u8>) -> Result<(), Fail> {
     day.set(9, 17, 1)?;
     day.clear(12, 13)?;
     assert_eq!(rt; day.get(12), None);
@@ -26,7 +33,10 @@ fn clear(rt: HostRuntime) -> Result<(), Fail> {
 
 #[test]
 fn set_from(rt: HostRuntime) -> Result<(), Fail> {
-    let mut day: Timeline<u8> = Timeline::new(rt.alloc());
+    set_from_in(&rt, &mut Timeline::new(rt.alloc()))
+}
+
+fn set_from_in(rt: &impl Abort, day: &mut Timeline<u8>) -> Result<(), Fail> {
     day.set_from(20, 3)?;
     assert_eq!(rt; day.get(19), None);
     assert_eq!(rt; day.get(u64::MAX), Some(&3));
@@ -35,7 +45,10 @@ fn set_from(rt: HostRuntime) -> Result<(), Fail> {
 
 #[test]
 fn clear_from(rt: HostRuntime) -> Result<(), Fail> {
-    let mut day: Timeline<u8> = Timeline::new(rt.alloc());
+    clear_from_in(&rt, &mut Timeline::new(rt.alloc()))
+}
+
+fn clear_from_in(rt: &impl Abort, day: &mut Timeline<u8>) -> Result<(), Fail> {
     day.set(9, 17, 1)?;
     day.clear_from(12)?;
     assert_eq!(rt; day.next_change(9), Some(12));
@@ -45,7 +58,10 @@ fn clear_from(rt: HostRuntime) -> Result<(), Fail> {
 
 #[test]
 fn span_at(rt: HostRuntime) -> Result<(), Fail> {
-    let mut day: Timeline<u8> = Timeline::new(rt.alloc());
+    span_at_in(&rt, &mut Timeline::new(rt.alloc()))
+}
+
+fn span_at_in(rt: &impl Abort, day: &mut Timeline<u8>) -> Result<(), Fail> {
     day.set(9, 17, 1)?;
     let span = day.span_at(12).map(|span| (span.from, span.until));
     assert_eq!(rt; span, Some((9, Some(17))));
@@ -54,7 +70,10 @@ fn span_at(rt: HostRuntime) -> Result<(), Fail> {
 
 #[test]
 fn next_change(rt: HostRuntime) -> Result<(), Fail> {
-    let mut day: Timeline<u8> = Timeline::new(rt.alloc());
+    next_change_in(&rt, &mut Timeline::new(rt.alloc()))
+}
+
+fn next_change_in(rt: &impl Abort, day: &mut Timeline<u8>) -> Result<(), Fail> {
     day.set(9, 17, 1)?;
     assert_eq!(rt; day.next_change(0), Some(9));
     assert_eq!(rt; day.next_change(9), Some(17));
@@ -75,7 +94,10 @@ fn next_span(rt: HostRuntime) -> Result<(), Fail> {
 
 #[test]
 fn spans(rt: HostRuntime) -> Result<(), Fail> {
-    let mut day: Timeline<u8> = Timeline::new(rt.alloc());
+    spans_in(&rt, &mut Timeline::new(rt.alloc()))
+}
+
+fn spans_in(rt: &impl Abort, day: &mut Timeline<u8>) -> Result<(), Fail> {
     day.set(9, 17, 1)?;
     day.set(12, 13, 2)?;
     let mut hours = 0;
@@ -90,7 +112,10 @@ fn spans(rt: HostRuntime) -> Result<(), Fail> {
 
 #[test]
 fn gaps(rt: HostRuntime) -> Result<(), Fail> {
-    let mut day: Timeline<u8> = Timeline::new(rt.alloc());
+    gaps_in(&rt, &mut Timeline::new(rt.alloc()))
+}
+
+fn gaps_in(rt: &impl Abort, day: &mut Timeline<u8>) -> Result<(), Fail> {
     day.set(9, 12, 1)?;
     day.set(13, 17, 1)?;
     let gap = day.gaps(9, 17).next().map(|gap| (gap.from, gap.until));
@@ -100,7 +125,10 @@ fn gaps(rt: HostRuntime) -> Result<(), Fail> {
 
 #[test]
 fn reserve(rt: HostRuntime) -> Result<(), Fail> {
-    let mut day: Timeline<u8> = Timeline::new(rt.alloc());
+    reserve_in(&rt, &mut Timeline::new(rt.alloc()))
+}
+
+fn reserve_in(rt: &impl Abort, day: &mut Timeline<u8>) -> Result<(), Fail> {
     day.reserve(1)?;
     let room = day.capacity();
     day.set(9, 17, 1)?;

@@ -41,7 +41,6 @@ impl<K: Ord, V, P: BasePtr, A: Allocator> SortedArena<K, V, P, A> {
     /// Returns the value of the entry at `p`, to be written, in O(1). `None` if `p` is stale.
     ///
     /// ```
-    /// let mut scores: SortedArena<&str, u32> = SortedArena::new(rt.alloc());
     /// let ada = scores.insert("Ada", 3).map_err(|refused| refused.1)?;
     /// if let Some(score) = scores.value_mut(ada) {
     ///     *score = 5;

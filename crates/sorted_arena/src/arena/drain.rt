@@ -49,7 +49,6 @@ impl<K: Ord + Drop, V: Drop, P: BasePtr, A: Allocator> SortedArena<K, V, P, A> {
     /// A range that runs backwards has no entries.
     ///
     /// ```
-    /// let mut users: SortedArena<u64, &str> = SortedArena::new(rt.alloc());
     /// users.insert(100, "Ada").map_err(|refused| refused.1)?;
     /// users.insert(110, "Alan").map_err(|refused| refused.1)?;
     /// users.insert(120, "Grace").map_err(|refused| refused.1)?;

@@ -53,7 +53,6 @@ impl<K: Ord + Drop, V: Drop, P: BasePtr + Drop, A: Allocator> SortedArena<K, V, 
     /// each.
     ///
     /// ```
-    /// let mut users: SortedArena<u64, &str> = SortedArena::new(rt.alloc());
     /// let ada = users.insert(100, "Ada").map_err(|refused| refused.1)?;
     /// users.insert(120, "Grace").map_err(|refused| refused.1)?;
     /// let mut ended = Vec::new(rt.alloc());

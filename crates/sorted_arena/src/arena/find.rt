@@ -15,7 +15,6 @@ impl<K: Ord, V, P: BasePtr, A: Allocator> SortedArena<K, V, P, A> {
     /// Returns the pointer of the first entry whose key equals `k`, in O(log n). `None` exactly if no entry has this key.
     ///
     /// ```
-    /// let mut users: SortedArena<u64, &str> = SortedArena::new(rt.alloc());
     /// let ada = users.insert(100, "Ada").map_err(|refused| refused.1)?;
     /// users.insert(100, "Alan").map_err(|refused| refused.1)?;
     /// assert_eq!(rt; users.find(&100), Some(ada));
@@ -39,7 +38,6 @@ impl<K: Ord, V, P: BasePtr, A: Allocator> SortedArena<K, V, P, A> {
     /// Returns the pointer of the first entry whose key is at least `k`, in O(log n). `None` if all keys are smaller.
     ///
     /// ```
-    /// let mut users: SortedArena<u64, &str> = SortedArena::new(rt.alloc());
     /// let ada = users.insert(100, "Ada").map_err(|refused| refused.1)?;
     /// let grace = users.insert(120, "Grace").map_err(|refused| refused.1)?;
     /// assert_eq!(rt; users.lower_bound(&100), Some(ada));
@@ -55,7 +53,6 @@ impl<K: Ord, V, P: BasePtr, A: Allocator> SortedArena<K, V, P, A> {
     /// Returns the pointer of the first entry whose key is greater than `k`, in O(log n). `None` if all keys are at most `k`.
     ///
     /// ```
-    /// let mut users: SortedArena<u64, &str> = SortedArena::new(rt.alloc());
     /// users.insert(100, "Ada").map_err(|refused| refused.1)?;
     /// let grace = users.insert(120, "Grace").map_err(|refused| refused.1)?;
     /// assert_eq!(rt; users.upper_bound(&100), Some(grace));
@@ -70,7 +67,6 @@ impl<K: Ord, V, P: BasePtr, A: Allocator> SortedArena<K, V, P, A> {
     /// Returns how many entries have a key equal to `k`, in O(log n + their number).
     ///
     /// ```
-    /// let mut users: SortedArena<u64, &str> = SortedArena::new(rt.alloc());
     /// users.insert(100, "Ada").map_err(|refused| refused.1)?;
     /// users.insert(100, "Alan").map_err(|refused| refused.1)?;
     /// assert_eq!(rt; users.count_of(&100), 2);

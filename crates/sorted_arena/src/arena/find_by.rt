@@ -21,7 +21,6 @@ impl<K: Ord, V, P: BasePtr, A: Allocator> SortedArena<K, V, P, A> {
     /// first `Less`, then `Equal`, and then `Greater`, an entry may be missed.
     ///
     /// ```
-    /// let mut ids: SortedArena<String, u32> = SortedArena::new(rt.alloc());
     /// let name = String::from_str(rt.alloc(), "Ada")?;
     /// let ada = ids.insert(name, 7).map_err(|refused| refused.1)?;
     /// assert_eq!(rt; ids.find_by(|name| name.as_str().cmp("Ada")), Some(ada));

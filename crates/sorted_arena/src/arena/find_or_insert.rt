@@ -14,7 +14,6 @@ impl<K: Ord + Drop, V: Drop, P: BasePtr, A: Allocator> SortedArena<K, V, P, A> {
     /// [`insert`](Self::insert) does, and returns its pointer and `None`. O(log n).
     ///
     /// ```
-    /// let mut stock: SortedArena<&str, u32> = SortedArena::new(rt.alloc());
     /// let (tea, back) = stock.find_or_insert("tea", 7).map_err(|refused| refused.1)?;
     /// assert_eq!(rt; back, None);
     /// assert_eq!(rt; stock.find_or_insert("tea", 8).map_err(|refused| refused.1)?, (tea, Some(8)));

@@ -14,7 +14,6 @@ impl<V, P: BasePtr, A: Allocator, S: Allocator> SortedArena<String<S>, V, P, A> 
     /// if there is none. Takes no memory.
     ///
     /// ```
-    /// let mut ids: SortedArena<String, u32> = SortedArena::new(rt.alloc());
     /// let name = String::from_str(rt.alloc(), "Ada")?;
     /// let ada = ids.insert(name, 7).map_err(|refused| refused.1)?;
     /// assert_eq!(rt; ids.find_str("Ada"), Some(ada));

@@ -15,7 +15,6 @@ impl<K: Ord + Drop, V: Drop, P: BasePtr, A: Allocator> SortedArena<K, V, P, A> {
     /// Inserts an entry after every entry with a key ≤ `k`, and returns its pointer. If it is full, the arena grows.
     ///
     /// ```
-    /// let mut users: SortedArena<u64, &str> = SortedArena::new(rt.alloc());
     /// let grace = users.insert(120, "Grace").map_err(|refused| refused.1)?;
     /// users.insert(100, "Ada").map_err(|refused| refused.1)?;
     /// users.insert(100, "Alan").map_err(|refused| refused.1)?;
@@ -56,7 +55,6 @@ impl<K: Ord + Drop, V: Drop, P: BasePtr, A: Allocator> SortedArena<K, V, P, A> {
     /// If no entry has this key, inserts one, as [`insert`](Self::insert) does, and returns its pointer and `None`. O(log n).
     ///
     /// ```
-    /// let mut stock: SortedArena<&str, u32> = SortedArena::new(rt.alloc());
     /// let (tea, before) = stock.replace("tea", 7).map_err(|refused| refused.1)?;
     /// assert_eq!(rt; before, None);
     /// assert_eq!(rt; stock.replace("tea", 8).map_err(|refused| refused.1)?, (tea, Some(7)));
@@ -93,7 +91,6 @@ impl<K: Ord + Drop, V: Drop, P: BasePtr, A: Allocator> SortedArena<K, V, P, A> {
     /// Inserts an entry, as [`insert`](Self::insert) does, unless one has an equal key. O(log n).
     ///
     /// ```
-    /// let mut names: SortedArena<u32, &str> = SortedArena::new(rt.alloc());
     /// names.insert_unique(7, "Ada").map_err(|refused| refused.1)?;
     /// assert_eq!(rt; names.insert_unique(7, "Alan"), Err(((7, "Alan"), UniqueInsertionError::EqualKey)));
     /// ```

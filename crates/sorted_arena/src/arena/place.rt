@@ -16,7 +16,6 @@ impl<K: Ord, V, P: BasePtr, A: Allocator> SortedArena<K, V, P, A> {
     /// key.
     ///
     /// ```
-    /// let mut users: SortedArena<u64, &str> = SortedArena::new(rt.alloc());
     /// let ada = users.insert(100, "Ada").map_err(|refused| refused.1)?;
     /// assert_eq!(rt; users.get_by_key(&100), Some((ada, &100, &"Ada")));
     /// ```
@@ -53,7 +52,6 @@ impl<K: Ord, V, P: BasePtr, A: Allocator> SortedArena<K, V, P, A> {
     /// Returns the pointer of the entry that has `i` entries before it, in O(i). `None` if there are no more than `i` entries.
     ///
     /// ```
-    /// let mut users: SortedArena<u64, &str> = SortedArena::new(rt.alloc());
     /// let grace = users.insert(120, "Grace").map_err(|refused| refused.1)?;
     /// users.insert(100, "Ada").map_err(|refused| refused.1)?;
     /// assert_eq!(rt; users.nth(1), Some(grace));

@@ -16,7 +16,6 @@ impl<K: Ord, V, P: BasePtr, A: Allocator> SortedArena<K, V, P, A> {
     /// The entry goes behind all others whose key is at most `k`, as a new one does. O(log n), and no memory.
     ///
     /// ```
-    /// let mut users: SortedArena<u64, &str> = SortedArena::new(rt.alloc());
     /// let ada = users.insert(100, "Ada").map_err(|refused| refused.1)?;
     /// users.insert(120, "Grace").map_err(|refused| refused.1)?;
     /// assert_eq!(rt; users.rekey(ada, 140), Ok(100));
@@ -47,7 +46,6 @@ impl<K: Ord, V, P: BasePtr, A: Allocator> SortedArena<K, V, P, A> {
     /// Gives the entry at `p` the key `k`, as [`rekey`](Self::rekey) does, unless an entry has an equal key. The entry's own key counts.
     ///
     /// ```
-    /// let mut names: SortedArena<u32, &str> = SortedArena::new(rt.alloc());
     /// let ada = names.insert(7, "Ada").map_err(|refused| refused.1)?;
     /// names.insert(8, "Alan").map_err(|refused| refused.1)?;
     /// assert_eq!(rt; names.rekey_unique(ada, 8), Err((8, RekeyUniqueError::EqualKey)));

@@ -21,7 +21,6 @@ impl<K: Ord, V, P: BasePtr, A: Allocator> SortedArena<K, V, P, A> {
     /// Removes the entry at `p` and returns its key and value, in O(log n). If `p` is stale, returns `None` and nothing changes.
     ///
     /// ```
-    /// let mut users: SortedArena<u64, &str> = SortedArena::new(rt.alloc());
     /// let ada = users.insert(100, "Ada").map_err(|refused| refused.1)?;
     /// assert_eq!(rt; users.remove(ada), Some((100, "Ada")));
     /// users.insert(100, "Alan").map_err(|refused| refused.1)?;
@@ -46,7 +45,6 @@ impl<K: Ord, V, P: BasePtr, A: Allocator> SortedArena<K, V, P, A> {
     /// key; nothing changes then.
     ///
     /// ```
-    /// let mut users: SortedArena<u64, &str> = SortedArena::new(rt.alloc());
     /// users.insert(100, "Ada").map_err(|refused| refused.1)?;
     /// users.insert(100, "Alan").map_err(|refused| refused.1)?;
     /// assert_eq!(rt; users.remove_key(&100), Some((100, "Ada")));
@@ -69,7 +67,6 @@ impl<K: Ord, V, P: BasePtr, A: Allocator> SortedArena<K, V, P, A> {
     /// Removes the first entry, which has the smallest key, and returns its key and value, in O(log n). `None` if there is none.
     ///
     /// ```
-    /// let mut users: SortedArena<u64, &str> = SortedArena::new(rt.alloc());
     /// users.insert(120, "Grace").map_err(|refused| refused.1)?;
     /// users.insert(100, "Ada").map_err(|refused| refused.1)?;
     /// assert_eq!(rt; users.pop_first(), Some((100, "Ada")));
@@ -98,7 +95,6 @@ impl<K: Ord, V, P: BasePtr, A: Allocator> SortedArena<K, V, P, A> {
     /// If all keys are greater, returns `None` and nothing changes.
     ///
     /// ```
-    /// let mut users: SortedArena<u64, &str> = SortedArena::new(rt.alloc());
     /// users.insert(100, "Ada").map_err(|refused| refused.1)?;
     /// users.insert(120, "Grace").map_err(|refused| refused.1)?;
     /// assert_eq!(rt; users.pop_first_until(&110), Some((100, "Ada")));
@@ -144,7 +140,6 @@ impl<K: Ord, V, P: BasePtr, A: Allocator> SortedArena<K, V, P, A> {
     /// Moves all entries whose key is at most `until` to the end of a vector, in order. O(log n) for each.
     ///
     /// ```
-    /// let mut users: SortedArena<u64, &str> = SortedArena::new(rt.alloc());
     /// users.insert(100, "Ada").map_err(|refused| refused.1)?;
     /// users.insert(110, "Alan").map_err(|refused| refused.1)?;
     /// users.insert(120, "Grace").map_err(|refused| refused.1)?;

@@ -18,7 +18,6 @@ impl<K: Ord, V, P: BasePtr, A: Allocator> SortedArena<K, V, P, A> {
     /// O(log n). `None` if there is none.
     ///
     /// ```
-    /// let mut users: SortedArena<u64, &str> = SortedArena::new(rt.alloc());
     /// let ada = users.insert(100, "Ada").map_err(|refused| refused.1)?;
     /// assert_eq!(rt; users.pop_first_entry(), Some((ada, 100, "Ada")));
     /// assert!(rt; !users.contains(ada));

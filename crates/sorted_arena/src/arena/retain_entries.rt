@@ -18,7 +18,6 @@ impl<K: Ord + Drop, V: Drop, P: BasePtr, A: Allocator> SortedArena<K, V, P, A> {
     /// O(n) calls, and O(log n) for each entry that is removed.
     ///
     /// ```
-    /// let mut scores: SortedArena<&str, u32> = SortedArena::new(rt.alloc());
     /// let ada = scores.insert("Ada", 3).map_err(|refused| refused.1)?;
     /// let alan = scores.insert("Alan", 0).map_err(|refused| refused.1)?;
     /// scores.retain_entries(|p, _, score| p == ada || *score > 0);

@@ -16,7 +16,6 @@ impl<K: Ord + Drop, V: Drop, P: BasePtr, A: Allocator> SortedArena<K, V, P, A> {
     /// Moves all entries whose key is at least `from` into a new arena, under new pointers, and returns it. O(log n) for each.
     ///
     /// ```
-    /// let mut users: SortedArena<u64, &str> = SortedArena::new(rt.alloc());
     /// users.insert(100, "Ada").map_err(|refused| refused.1)?;
     /// users.insert(120, "Grace").map_err(|refused| refused.1)?;
     /// let later = users.split_off(rt.alloc(), &110)?;

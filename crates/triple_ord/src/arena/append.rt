@@ -33,7 +33,6 @@ impl<P: BasePtr, K: Drop, V: Drop, A: Allocator> SimpleOrdArena<P, OrdPair<K, V>
     /// Appends keys with their values, as [`append_within_capacity`](Self::append_within_capacity) does.
     ///
     /// ```
-    /// let mut pairs: SimpleOrdArena<P0, OrdPair<u64, &str>> = SimpleOrdArena::new(rt.alloc());
     /// pairs.reserve(2)?;
     /// let sorted = Vec::from_array(rt.alloc(), [(1, "one"), (2, "two")])?;
     /// assert!(rt; pairs.append_pairs_within_capacity(sorted).is_ok());

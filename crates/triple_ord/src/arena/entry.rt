@@ -148,7 +148,6 @@ impl<P: BasePtr, T: SimpleOrdItem + Drop, A: Allocator> SimpleOrdArena<P, T, A> 
     /// ```
     ///
     /// ```
-    /// let mut pairs: SimpleOrdArena<P0, OrdPair<u64, &str>> = SimpleOrdArena::new(rt.alloc());
     /// for name in ["first", "second"] {
     ///     let entry = pairs.entry_insert(OrdInsertKind::Nonhereditary(&7))?;
     ///     let _ = entry.insert(OrdPair::new(7, name));

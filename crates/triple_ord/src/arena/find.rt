@@ -26,7 +26,6 @@ impl<P: BasePtr, T: SimpleOrdItem, A: Allocator> SimpleOrdArena<P, T, A> {
     /// greater one. If the keys are in order, no entry has an equal key then. O(log n).
     ///
     /// ```
-    /// let mut pairs: SimpleOrdArena<P0, OrdPair<u64, &str>> = SimpleOrdArena::new(rt.alloc());
     /// let (two, _) = pairs.insert(OrdPair::new(2, "two"))?;
     /// assert_eq!(rt; pairs.find_key(&2), Some(two));
     /// assert_eq!(rt; pairs.find_key(&3), None);
@@ -55,7 +54,6 @@ impl<P: BasePtr, T: SimpleOrdItem, A: Allocator> SimpleOrdArena<P, T, A> {
     /// A gap fits if the entry before it, if any, has a smaller key, and the one after it, if any, a greater one. O(log n).
     ///
     /// ```
-    /// let mut pairs: SimpleOrdArena<P0, OrdPair<u64, &str>> = SimpleOrdArena::new(rt.alloc());
     /// let (two, _) = pairs.insert(OrdPair::new(2, "two"))?;
     /// assert_eq!(rt; pairs.find_similar_key(&3), Some((two, Ordering::Greater)));
     /// assert_eq!(rt; pairs.find_similar_key(&1), Some((two, Ordering::Less)));

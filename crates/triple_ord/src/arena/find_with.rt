@@ -22,7 +22,6 @@ impl<P: BasePtr, T, A: Allocator> SimpleOrdArena<P, T, A> {
     /// time.
     ///
     /// ```
-    /// let mut pairs: SimpleOrdArena<P0, OrdPair<u64, &str>> = SimpleOrdArena::new(rt.alloc());
     /// let (two, _) = pairs.insert(OrdPair::new(2, "two"))?;
     /// pairs.insert(OrdPair::new(5, "five"))?;
     /// assert_eq!(rt; pairs.find_with(|_, pair| 2.cmp(pair.k())), Some(two));

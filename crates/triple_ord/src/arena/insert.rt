@@ -69,7 +69,6 @@ impl<P: BasePtr, T: SimpleOrdItem + Drop, A: Allocator> SimpleOrdArena<P, T, A> 
     /// index of [`last`](Self::last) and `num: 1`.
     ///
     /// ```
-    /// let mut pairs: SimpleOrdArena<P0, OrdPair<u64, &str>> = SimpleOrdArena::new(rt.alloc());
     /// let (two, _) = pairs.insert(OrdPair::new(2, "deux"))?;
     /// let (same, replaced) = pairs.insert(OrdPair::new(2, "two"))?;
     /// assert_eq!(rt; same, two);

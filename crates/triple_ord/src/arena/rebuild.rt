@@ -55,7 +55,6 @@ impl<P: BasePtr, T, A: Allocator> SimpleOrdArena<P, T, A> {
     /// The capacity stays, and the free list is ascending, as if no slot had been used. O(capacity). Takes no memory.
     ///
     /// ```
-    /// let mut pairs: SimpleOrdArena<P0, OrdPair<u64, &str>> = SimpleOrdArena::new(rt.alloc());
     /// let (two, _) = pairs.insert(OrdPair::new(2, "two"))?;
     /// pairs.insert(OrdPair::new(1, "one"))?;
     /// pairs.compress_canonical(false).allow();

@@ -115,7 +115,6 @@ impl<P: BasePtr, K: Ord, V, A: Allocator> SimpleOrdArena<P, OrdPair<K, V>, A> {
     /// This is `rekey` for a pair whose value can't be passed again. Cost and bounds are those of `rekey`.
     ///
     /// ```
-    /// let mut pairs: SimpleOrdArena<P0, OrdPair<u64, &str>> = SimpleOrdArena::new(rt.alloc());
     /// let (two, _) = pairs.insert(OrdPair::new(2, "tea"))?;
     /// let (five, _) = pairs.insert(OrdPair::new(5, "cake"))?;
     /// assert_eq!(rt; pairs.rekey_pair(two, 9), Ok(2));

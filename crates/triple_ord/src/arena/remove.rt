@@ -18,7 +18,6 @@ impl<P: BasePtr, T, A: Allocator> SimpleOrdArena<P, T, A> {
     /// if the pointer names no entry; the arena is unchanged then.
     ///
     /// ```
-    /// let mut pairs: SimpleOrdArena<P0, OrdPair<u64, &str>> = SimpleOrdArena::new(rt.alloc());
     /// let (two, _) = pairs.insert(OrdPair::new(2, "two"))?;
     /// assert_eq!(rt; pairs.remove(two).allow(), Some(OrdPair::new(2, "two")));
     /// assert_eq!(rt; pairs.remove(two).allow(), None);
