@@ -22,21 +22,32 @@ fn is_merged(arena: &Numbers, merged: &[Entry], held: &[Entry]) -> bool {
     place == merged.len()
 }
 
-/// Whether an arena of n keys in one order takes in an arena of m keys in another.
-fn merges(alloc: Global, n: usize, number: usize, m: usize, other: usize) -> Option<bool> {
-    let Beside { mut arena, entries } = beside_of(alloc, n, number)?;
-    let mut others = beside_of(alloc, m, other)?;
-    let mut merged = entries.clone().ok()?;
+/// Gives the entries of one arena values from ten on, which tell them from those of the other, and puts them among these. Returns whether there
+/// was memory.
+fn put_all(merged: &mut Vec<Entry>, others: &mut Beside) -> bool {
     for entry in others.entries.iter() {
-        // values from ten on tell these entries from the others
         let v = entry.v.saturating_add(10);
         let _ = others.arena.set_value(entry.p, v);
-        if !put(&mut merged, Entry { v, ..*entry }) {
-            return None;
+        if !put(merged, Entry { v, ..*entry }) {
+            return false;
         }
     }
-    arena.append(&mut others.arena).ok()?;
-    Some(others.arena.is_empty() && is_merged(&arena, &merged, &entries))
+    true
+}
+
+/// Whether an arena takes in another.
+fn takes_in(one: &mut Beside, others: &mut Beside) -> Option<bool> {
+    let mut merged = one.entries.clone().ok()?;
+    if !put_all(&mut merged, others) || one.arena.append(&mut others.arena).is_err() {
+        return None;
+    }
+    Some(others.arena.is_empty() && is_merged(&one.arena, &merged, &one.entries))
+}
+
+/// Whether an arena of n keys in one order takes in an arena of m keys in another.
+fn merges(alloc: Global, n: usize, number: usize, m: usize, other: usize) -> Option<bool> {
+    let mut one = beside_of(alloc, n, number)?;
+    takes_in(&mut one, &mut beside_of(alloc, m, other)?)
 }
 
 /// The first arena of up to three keys that isn't taken in by this one.
