@@ -9,7 +9,7 @@ fn insert(rt: HostRuntime) -> Result<(), Fail> {
     insert_in(&rt, &mut SortedArena::new(rt.alloc()))
 }
 
-fn insert_in(rt: &impl Abort, users: &mut SortedArena<u64, &str>) -> Result<(), Fail> {
+fn insert_in(rt: &impl Abort, users: &mut SortedArena<u64, &'static str>) -> Result<(), Fail> {
     let grace = users.insert(120, "Grace").map_err(|refused| refused.1)?;
     users.insert(100, "Ada").map_err(|refused| refused.1)?;
     users.insert(100, "Alan").map_err(|refused| refused.1)?;
@@ -23,7 +23,7 @@ fn replace(rt: HostRuntime) -> Result<(), Fail> {
     replace_in(&rt, &mut SortedArena::new(rt.alloc()))
 }
 
-fn replace_in(rt: &impl Abort, stock: &mut SortedArena<&str, u32>) -> Result<(), Fail> {
+fn replace_in(rt: &impl Abort, stock: &mut SortedArena<&'static str, u32>) -> Result<(), Fail> {
     let (tea, before) = stock.replace("tea", 7).map_err(|refused| refused.1)?;
     assert_eq!(rt; before, None);
     assert_eq!(rt;
@@ -38,7 +38,10 @@ fn insert_unique(rt: HostRuntime) -> Result<(), Fail> {
     insert_unique_in(&rt, &mut SortedArena::new(rt.alloc()))
 }
 
-fn insert_unique_in(rt: &impl Abort, names: &mut SortedArena<u32, &str>) -> Result<(), Fail> {
+fn insert_unique_in(
+    rt: &impl Abort,
+    names: &mut SortedArena<u32, &'static str>,
+) -> Result<(), Fail> {
     names.insert_unique(7, "Ada").map_err(|refused| refused.1)?;
     assert_eq!(rt;
         names.insert_unique(7, "Alan"),
@@ -52,7 +55,7 @@ fn find(rt: HostRuntime) -> Result<(), Fail> {
     find_in(&rt, &mut SortedArena::new(rt.alloc()))
 }
 
-fn find_in(rt: &impl Abort, users: &mut SortedArena<u64, &str>) -> Result<(), Fail> {
+fn find_in(rt: &impl Abort, users: &mut SortedArena<u64, &'static str>) -> Result<(), Fail> {
     let ada = users.insert(100, "Ada").map_err(|refused| refused.1)?;
     users.insert(100, "Alan").map_err(|refused| refused.1)?;
     assert_eq!(rt; users.find(&100), Some(ada));
@@ -65,7 +68,7 @@ fn lower_bound(rt: HostRuntime) -> Result<(), Fail> {
     lower_bound_in(&rt, &mut SortedArena::new(rt.alloc()))
 }
 
-fn lower_bound_in(rt: &impl Abort, users: &mut SortedArena<u64, &str>) -> Result<(), Fail> {
+fn lower_bound_in(rt: &impl Abort, users: &mut SortedArena<u64, &'static str>) -> Result<(), Fail> {
     let ada = users.insert(100, "Ada").map_err(|refused| refused.1)?;
     let grace = users.insert(120, "Grace").map_err(|refused| refused.1)?;
     assert_eq!(rt; users.lower_bound(&100), Some(ada));
@@ -79,7 +82,7 @@ fn upper_bound(rt: HostRuntime) -> Result<(), Fail> {
     upper_bound_in(&rt, &mut SortedArena::new(rt.alloc()))
 }
 
-fn upper_bound_in(rt: &impl Abort, users: &mut SortedArena<u64, &str>) -> Result<(), Fail> {
+fn upper_bound_in(rt: &impl Abort, users: &mut SortedArena<u64, &'static str>) -> Result<(), Fail> {
     users.insert(100, "Ada").map_err(|refused| refused.1)?;
     let grace = users.insert(120, "Grace").map_err(|refused| refused.1)?;
     assert_eq!(rt; users.upper_bound(&100), Some(grace));
@@ -92,7 +95,7 @@ fn count_of(rt: HostRuntime) -> Result<(), Fail> {
     count_of_in(&rt, &mut SortedArena::new(rt.alloc()))
 }
 
-fn count_of_in(rt: &impl Abort, users: &mut SortedArena<u64, &str>) -> Result<(), Fail> {
+fn count_of_in(rt: &impl Abort, users: &mut SortedArena<u64, &'static str>) -> Result<(), Fail> {
     users.insert(100, "Ada").map_err(|refused| refused.1)?;
     users.insert(100, "Alan").map_err(|refused| refused.1)?;
     assert_eq!(rt; users.count_of(&100), 2);
@@ -105,7 +108,7 @@ fn value_mut(rt: HostRuntime) -> Result<(), Fail> {
     value_mut_in(&rt, &mut SortedArena::new(rt.alloc()))
 }
 
-fn value_mut_in(rt: &impl Abort, scores: &mut SortedArena<&str, u32>) -> Result<(), Fail> {
+fn value_mut_in(rt: &impl Abort, scores: &mut SortedArena<&'static str, u32>) -> Result<(), Fail> {
     let ada = scores.insert("Ada", 3).map_err(|refused| refused.1)?;
     if let Some(score) = scores.value_mut(ada) {
         *score = 5;
@@ -119,7 +122,7 @@ fn remove(rt: HostRuntime) -> Result<(), Fail> {
     remove_in(&rt, &mut SortedArena::new(rt.alloc()))
 }
 
-fn remove_in(rt: &impl Abort, users: &mut SortedArena<u64, &str>) -> Result<(), Fail> {
+fn remove_in(rt: &impl Abort, users: &mut SortedArena<u64, &'static str>) -> Result<(), Fail> {
     let ada = users.insert(100, "Ada").map_err(|refused| refused.1)?;
     assert_eq!(rt; users.remove(ada), Some((100, "Ada")));
     users.insert(100, "Alan").map_err(|refused| refused.1)?;
@@ -132,7 +135,7 @@ fn remove_key(rt: HostRuntime) -> Result<(), Fail> {
     remove_key_in(&rt, &mut SortedArena::new(rt.alloc()))
 }
 
-fn remove_key_in(rt: &impl Abort, users: &mut SortedArena<u64, &str>) -> Result<(), Fail> {
+fn remove_key_in(rt: &impl Abort, users: &mut SortedArena<u64, &'static str>) -> Result<(), Fail> {
     users.insert(100, "Ada").map_err(|refused| refused.1)?;
     users.insert(100, "Alan").map_err(|refused| refused.1)?;
     assert_eq!(rt; users.remove_key(&100), Some((100, "Ada")));
@@ -145,7 +148,7 @@ fn rekey(rt: HostRuntime) -> Result<(), Fail> {
     rekey_in(&rt, &mut SortedArena::new(rt.alloc()))
 }
 
-fn rekey_in(rt: &impl Abort, users: &mut SortedArena<u64, &str>) -> Result<(), Fail> {
+fn rekey_in(rt: &impl Abort, users: &mut SortedArena<u64, &'static str>) -> Result<(), Fail> {
     let ada = users.insert(100, "Ada").map_err(|refused| refused.1)?;
     users.insert(120, "Grace").map_err(|refused| refused.1)?;
     assert_eq!(rt; users.rekey(ada, 140), Ok(100));
@@ -158,7 +161,10 @@ fn rekey_unique(rt: HostRuntime) -> Result<(), Fail> {
     rekey_unique_in(&rt, &mut SortedArena::new(rt.alloc()))
 }
 
-fn rekey_unique_in(rt: &impl Abort, names: &mut SortedArena<u32, &str>) -> Result<(), Fail> {
+fn rekey_unique_in(
+    rt: &impl Abort,
+    names: &mut SortedArena<u32, &'static str>,
+) -> Result<(), Fail> {
     let ada = names.insert(7, "Ada").map_err(|refused| refused.1)?;
     names.insert(8, "Alan").map_err(|refused| refused.1)?;
     assert_eq!(rt;
@@ -174,7 +180,7 @@ fn pop_first(rt: HostRuntime) -> Result<(), Fail> {
     pop_first_in(&rt, &mut SortedArena::new(rt.alloc()))
 }
 
-fn pop_first_in(rt: &impl Abort, users: &mut SortedArena<u64, &str>) -> Result<(), Fail> {
+fn pop_first_in(rt: &impl Abort, users: &mut SortedArena<u64, &'static str>) -> Result<(), Fail> {
     users.insert(120, "Grace").map_err(|refused| refused.1)?;
     users.insert(100, "Ada").map_err(|refused| refused.1)?;
     assert_eq!(rt; users.pop_first(), Some((100, "Ada")));
@@ -186,7 +192,10 @@ fn pop_first_until(rt: HostRuntime) -> Result<(), Fail> {
     pop_first_until_in(&rt, &mut SortedArena::new(rt.alloc()))
 }
 
-fn pop_first_until_in(rt: &impl Abort, users: &mut SortedArena<u64, &str>) -> Result<(), Fail> {
+fn pop_first_until_in(
+    rt: &impl Abort,
+    users: &mut SortedArena<u64, &'static str>,
+) -> Result<(), Fail> {
     users.insert(100, "Ada").map_err(|refused| refused.1)?;
     users.insert(120, "Grace").map_err(|refused| refused.1)?;
     assert_eq!(rt; users.pop_first_until(&110), Some((100, "Ada")));
@@ -201,7 +210,7 @@ fn pop_until(rt: HostRuntime) -> Result<(), Fail> {
 
 fn pop_until_in(
     rt: &(impl Abort + AllocGlobal),
-    users: &mut SortedArena<u64, &str>,
+    users: &mut SortedArena<u64, &'static str>,
 ) -> Result<(), Fail> {
     users.insert(100, "Ada").map_err(|refused| refused.1)?;
     users.insert(110, "Alan").map_err(|refused| refused.1)?;
@@ -217,7 +226,7 @@ fn range(rt: HostRuntime) -> Result<(), Fail> {
     range_in(&rt, &mut SortedArena::new(rt.alloc()))
 }
 
-fn range_in(rt: &impl Abort, users: &mut SortedArena<u64, &str>) -> Result<(), Fail> {
+fn range_in(rt: &impl Abort, users: &mut SortedArena<u64, &'static str>) -> Result<(), Fail> {
     users.insert(100, "Ada").map_err(|refused| refused.1)?;
     users.insert(110, "Alan").map_err(|refused| refused.1)?;
     users.insert(120, "Grace").map_err(|refused| refused.1)?;
@@ -231,7 +240,10 @@ fn remove_range(rt: HostRuntime) -> Result<(), Fail> {
     remove_range_in(&rt, &mut SortedArena::new(rt.alloc()))
 }
 
-fn remove_range_in(rt: &impl Abort, users: &mut SortedArena<u64, &str>) -> Result<(), Fail> {
+fn remove_range_in(
+    rt: &impl Abort,
+    users: &mut SortedArena<u64, &'static str>,
+) -> Result<(), Fail> {
     users.insert(100, "Ada").map_err(|refused| refused.1)?;
     users.insert(110, "Alan").map_err(|refused| refused.1)?;
     users.insert(120, "Grace").map_err(|refused| refused.1)?;
@@ -245,7 +257,7 @@ fn retain(rt: HostRuntime) -> Result<(), Fail> {
     retain_in(&rt, &mut SortedArena::new(rt.alloc()))
 }
 
-fn retain_in(rt: &impl Abort, scores: &mut SortedArena<&str, u32>) -> Result<(), Fail> {
+fn retain_in(rt: &impl Abort, scores: &mut SortedArena<&'static str, u32>) -> Result<(), Fail> {
     scores.insert("Ada", 3).map_err(|refused| refused.1)?;
     scores.insert("Alan", 0).map_err(|refused| refused.1)?;
     scores.retain(|_, score| *score > 0);
@@ -260,7 +272,7 @@ fn split_off(rt: HostRuntime) -> Result<(), Fail> {
 
 fn split_off_in(
     rt: &(impl Abort + AllocGlobal),
-    users: &mut SortedArena<u64, &str>,
+    users: &mut SortedArena<u64, &'static str>,
 ) -> Result<(), Fail> {
     users.insert(100, "Ada").map_err(|refused| refused.1)?;
     users.insert(120, "Grace").map_err(|refused| refused.1)?;
@@ -299,7 +311,7 @@ fn get_by_key(rt: HostRuntime) -> Result<(), Fail> {
     get_by_key_in(&rt, &mut SortedArena::new(rt.alloc()))
 }
 
-fn get_by_key_in(rt: &impl Abort, users: &mut SortedArena<u64, &str>) -> Result<(), Fail> {
+fn get_by_key_in(rt: &impl Abort, users: &mut SortedArena<u64, &'static str>) -> Result<(), Fail> {
     let ada = users.insert(100, "Ada").map_err(|refused| refused.1)?;
     assert_eq!(rt; users.get_by_key(&100), Some((ada, &100, &"Ada")));
     Ok(())
@@ -310,7 +322,10 @@ fn find_or_insert(rt: HostRuntime) -> Result<(), Fail> {
     find_or_insert_in(&rt, &mut SortedArena::new(rt.alloc()))
 }
 
-fn find_or_insert_in(rt: &impl Abort, stock: &mut SortedArena<&str, u32>) -> Result<(), Fail> {
+fn find_or_insert_in(
+    rt: &impl Abort,
+    stock: &mut SortedArena<&'static str, u32>,
+) -> Result<(), Fail> {
     let (tea, back) = stock.find_or_insert("tea", 7).map_err(|refused| refused.1)?;
     assert_eq!(rt; back, None);
     assert_eq!(rt;
@@ -326,7 +341,10 @@ fn pop_first_entry(rt: HostRuntime) -> Result<(), Fail> {
     pop_first_entry_in(&rt, &mut SortedArena::new(rt.alloc()))
 }
 
-fn pop_first_entry_in(rt: &impl Abort, users: &mut SortedArena<u64, &str>) -> Result<(), Fail> {
+fn pop_first_entry_in(
+    rt: &impl Abort,
+    users: &mut SortedArena<u64, &'static str>,
+) -> Result<(), Fail> {
     let ada = users.insert(100, "Ada").map_err(|refused| refused.1)?;
     assert_eq!(rt; users.pop_first_entry(), Some((ada, 100, "Ada")));
     assert!(rt; !users.contains(ada));
@@ -340,7 +358,7 @@ fn pop_entries_until(rt: HostRuntime) -> Result<(), Fail> {
 
 fn pop_entries_until_in(
     rt: &(impl Abort + AllocGlobal),
-    users: &mut SortedArena<u64, &str>,
+    users: &mut SortedArena<u64, &'static str>,
 ) -> Result<(), Fail> {
     let ada = users.insert(100, "Ada").map_err(|refused| refused.1)?;
     users.insert(120, "Grace").map_err(|refused| refused.1)?;
@@ -355,7 +373,7 @@ fn nth(rt: HostRuntime) -> Result<(), Fail> {
     nth_in(&rt, &mut SortedArena::new(rt.alloc()))
 }
 
-fn nth_in(rt: &impl Abort, users: &mut SortedArena<u64, &str>) -> Result<(), Fail> {
+fn nth_in(rt: &impl Abort, users: &mut SortedArena<u64, &'static str>) -> Result<(), Fail> {
     let grace = users.insert(120, "Grace").map_err(|refused| refused.1)?;
     users.insert(100, "Ada").map_err(|refused| refused.1)?;
     assert_eq!(rt; users.nth(1), Some(grace));
@@ -369,7 +387,10 @@ fn retain_entries(rt: HostRuntime) -> Result<(), Fail> {
     retain_entries_in(&rt, &mut SortedArena::new(rt.alloc()))
 }
 
-fn retain_entries_in(rt: &impl Abort, scores: &mut SortedArena<&str, u32>) -> Result<(), Fail> {
+fn retain_entries_in(
+    rt: &impl Abort,
+    scores: &mut SortedArena<&'static str, u32>,
+) -> Result<(), Fail> {
     let ada = scores.insert("Ada", 3).map_err(|refused| refused.1)?;
     let alan = scores.insert("Alan", 0).map_err(|refused| refused.1)?;
     scores.retain_entries(|p, _, score| p == ada || *score > 0);

@@ -9,7 +9,7 @@ fn schedule(rt: HostRuntime) -> Result<(), Fail> {
     schedule_in(&rt, &mut Agenda::new(rt.alloc()))
 }
 
-fn schedule_in(rt: &impl Abort, agenda: &mut Agenda<&str>) -> Result<(), Fail> {
+fn schedule_in(rt: &impl Abort, agenda: &mut Agenda<&'static str>) -> Result<(), Fail> {
     agenda.schedule(30, "report").map_err(|refused| refused.1)?;
     agenda.schedule(10, "tea").map_err(|refused| refused.1)?;
     assert_eq!(rt; agenda.next_deadline(), Some(10));
@@ -21,7 +21,7 @@ fn cancel(rt: HostRuntime) -> Result<(), Fail> {
     cancel_in(&rt, &mut Agenda::new(rt.alloc()))
 }
 
-fn cancel_in(rt: &impl Abort, agenda: &mut Agenda<&str>) -> Result<(), Fail> {
+fn cancel_in(rt: &impl Abort, agenda: &mut Agenda<&'static str>) -> Result<(), Fail> {
     let report = agenda.schedule(30, "report").map_err(|refused| refused.1)?;
     assert_eq!(rt; agenda.cancel(report), Some((30, "report")));
     assert_eq!(rt; agenda.cancel(report), None);
@@ -33,7 +33,7 @@ fn pop_due(rt: HostRuntime) -> Result<(), Fail> {
     pop_due_in(&rt, &mut Agenda::new(rt.alloc()))
 }
 
-fn pop_due_in(rt: &impl Abort, agenda: &mut Agenda<&str>) -> Result<(), Fail> {
+fn pop_due_in(rt: &impl Abort, agenda: &mut Agenda<&'static str>) -> Result<(), Fail> {
     agenda.schedule(30, "report").map_err(|refused| refused.1)?;
     agenda.schedule(10, "tea").map_err(|refused| refused.1)?;
     assert_eq!(rt; agenda.pop_due(20), Some((10, "tea")));
@@ -46,7 +46,7 @@ fn reschedule(rt: HostRuntime) -> Result<(), Fail> {
     reschedule_in(&rt, &mut Agenda::new(rt.alloc()))
 }
 
-fn reschedule_in(rt: &impl Abort, agenda: &mut Agenda<&str>) -> Result<(), Fail> {
+fn reschedule_in(rt: &impl Abort, agenda: &mut Agenda<&'static str>) -> Result<(), Fail> {
     let tea = agenda.schedule(10, "tea").map_err(|refused| refused.1)?;
     agenda.schedule(30, "report").map_err(|refused| refused.1)?;
     assert!(rt; agenda.reschedule(tea, 40));
@@ -60,7 +60,7 @@ fn move_to(rt: HostRuntime) -> Result<(), Fail> {
     move_to_in(&rt, &mut Agenda::new(rt.alloc()))
 }
 
-fn move_to_in(rt: &impl Abort, agenda: &mut Agenda<&str>) -> Result<(), Fail> {
+fn move_to_in(rt: &impl Abort, agenda: &mut Agenda<&'static str>) -> Result<(), Fail> {
     let tea = agenda.schedule(10, "tea").map_err(|refused| refused.1)?;
     let later = agenda.move_to(tea, 40);
     assert!(rt; later.is_some());
@@ -74,7 +74,7 @@ fn get(rt: HostRuntime) -> Result<(), Fail> {
     get_in(&rt, &mut Agenda::new(rt.alloc()))
 }
 
-fn get_in(rt: &impl Abort, agenda: &mut Agenda<&str>) -> Result<(), Fail> {
+fn get_in(rt: &impl Abort, agenda: &mut Agenda<&'static str>) -> Result<(), Fail> {
     let tea = agenda.schedule(10, "tea").map_err(|refused| refused.1)?;
     assert_eq!(rt; agenda.get(tea), Some((10, &"tea")));
     Ok(())
@@ -85,7 +85,7 @@ fn peek(rt: HostRuntime) -> Result<(), Fail> {
     peek_in(&rt, &mut Agenda::new(rt.alloc()))
 }
 
-fn peek_in(rt: &impl Abort, agenda: &mut Agenda<&str>) -> Result<(), Fail> {
+fn peek_in(rt: &impl Abort, agenda: &mut Agenda<&'static str>) -> Result<(), Fail> {
     agenda.schedule(30, "report").map_err(|refused| refused.1)?;
     let tea = agenda.schedule(10, "tea").map_err(|refused| refused.1)?;
     assert_eq!(rt; agenda.peek(), Some((tea, 10, &"tea")));
@@ -97,7 +97,7 @@ fn reserve(rt: HostRuntime) -> Result<(), Fail> {
     reserve_in(&rt, &mut Agenda::new(rt.alloc()))
 }
 
-fn reserve_in(rt: &impl Abort, agenda: &mut Agenda<&str>) -> Result<(), Fail> {
+fn reserve_in(rt: &impl Abort, agenda: &mut Agenda<&'static str>) -> Result<(), Fail> {
     agenda.reserve(2)?;
     let room = agenda.capacity();
     agenda.schedule(30, "report").map_err(|refused| refused.1)?;
@@ -111,7 +111,7 @@ fn clear(rt: HostRuntime) -> Result<(), Fail> {
     clear_in(&rt, &mut Agenda::new(rt.alloc()))
 }
 
-fn clear_in(rt: &impl Abort, agenda: &mut Agenda<&str>) -> Result<(), Fail> {
+fn clear_in(rt: &impl Abort, agenda: &mut Agenda<&'static str>) -> Result<(), Fail> {
     let tea = agenda.schedule(10, "tea").map_err(|refused| refused.1)?;
     agenda.clear();
     assert!(rt; agenda.is_empty());
@@ -124,7 +124,7 @@ fn try_clone(rt: HostRuntime) -> Result<(), Fail> {
     try_clone_in(&rt, &mut Agenda::new(rt.alloc()))
 }
 
-fn try_clone_in(rt: &impl Abort, agenda: &mut Agenda<&str>) -> Result<(), Fail> {
+fn try_clone_in(rt: &impl Abort, agenda: &mut Agenda<&'static str>) -> Result<(), Fail> {
     let tea = agenda.schedule(10, "tea").map_err(|refused| refused.1)?;
     let copy = agenda.try_clone()?;
     agenda.clear();
