@@ -205,13 +205,7 @@ fn pop_first_until_in(
 
 #[test]
 fn pop_until(rt: HostRuntime) -> Result<(), Fail> {
-    pop_until_in(&rt, &mut SortedArena::new(rt.alloc()))
-}
-
-fn pop_until_in(
-    rt: &(impl Abort + AllocGlobal),
-    users: &mut SortedArena<u64, &'static str>,
-) -> Result<(), Fail> {
+    let mut users: SortedArena<u64, &str> = SortedArena::new(rt.alloc());
     users.insert(100, "Ada").map_err(|refused| refused.1)?;
     users.insert(110, "Alan").map_err(|refused| refused.1)?;
     users.insert(120, "Grace").map_err(|refused| refused.1)?;
@@ -308,10 +302,7 @@ fn find_by_in(
 
 #[test]
 fn get_by_key(rt: HostRuntime) -> Result<(), Fail> {
-    get_by_key_in(&rt, &mut SortedArena::new(rt.alloc()))
-}
-
-fn get_by_key_in(rt: &impl Abort, users: &mut SortedArena<u64, &'static str>) -> Result<(), Fail> {
+    let mut users: SortedArena<u64, &str> = SortedArena::new(rt.alloc());
     let ada = users.insert(100, "Ada").map_err(|refused| refused.1)?;
     assert_eq!(rt; users.get_by_key(&100), Some((ada, &100, &"Ada")));
     Ok(())

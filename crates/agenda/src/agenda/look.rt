@@ -34,6 +34,7 @@ impl<J, A: Allocator> Agenda<J, A> {
     /// Returns the ticket, the deadline and the job of the first job, in O(1). `None` if there are no jobs.
     ///
     /// ```
+    /// let mut agenda: Agenda<&str> = Agenda::new(rt.alloc());
     /// agenda.schedule(30, "report").map_err(|refused| refused.1)?;
     /// let tea = agenda.schedule(10, "tea").map_err(|refused| refused.1)?;
     /// assert_eq!(rt; agenda.peek(), Some((tea, 10, &"tea")));

@@ -82,10 +82,7 @@ fn get_in(rt: &impl Abort, agenda: &mut Agenda<&'static str>) -> Result<(), Fail
 
 #[test]
 fn peek(rt: HostRuntime) -> Result<(), Fail> {
-    peek_in(&rt, &mut Agenda::new(rt.alloc()))
-}
-
-fn peek_in(rt: &impl Abort, agenda: &mut Agenda<&'static str>) -> Result<(), Fail> {
+    let mut agenda: Agenda<&str> = Agenda::new(rt.alloc());
     agenda.schedule(30, "report").map_err(|refused| refused.1)?;
     let tea = agenda.schedule(10, "tea").map_err(|refused| refused.1)?;
     assert_eq!(rt; agenda.peek(), Some((tea, 10, &"tea")));

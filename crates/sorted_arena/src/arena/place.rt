@@ -16,6 +16,7 @@ impl<K: Ord, V, P: BasePtr, A: Allocator> SortedArena<K, V, P, A> {
     /// key.
     ///
     /// ```
+    /// let mut users: SortedArena<u64, &str> = SortedArena::new(rt.alloc());
     /// let ada = users.insert(100, "Ada").map_err(|refused| refused.1)?;
     /// assert_eq!(rt; users.get_by_key(&100), Some((ada, &100, &"Ada")));
     /// ```

@@ -140,6 +140,7 @@ impl<K: Ord, V, P: BasePtr, A: Allocator> SortedArena<K, V, P, A> {
     /// Moves all entries whose key is at most `until` to the end of a vector, in order. O(log n) for each.
     ///
     /// ```
+    /// let mut users: SortedArena<u64, &str> = SortedArena::new(rt.alloc());
     /// users.insert(100, "Ada").map_err(|refused| refused.1)?;
     /// users.insert(110, "Alan").map_err(|refused| refused.1)?;
     /// users.insert(120, "Grace").map_err(|refused| refused.1)?;
