@@ -1,7 +1,7 @@
 //! The command line.
 use anyhow::{Context, Result};
 use clap::{Arg, ArgAction, ArgMatches, Command, value_parser};
-use line_service::VERSION;
+use line_service::{VERSION, flag};
 use std::alloc::{AllocError, Global};
 
 /// What `--help` says behind the options.
@@ -32,14 +32,6 @@ pub enum Task {
     List(Vec<usize>),
     /// To draw such values as curves, with a mark for a cache of each of these sizes in bytes.
     Draw(Vec<usize>),
-}
-
-// An option without a value.
-fn flag<'a>(alloc: Global, name: &'a str, help: &'a str) -> Arg<'a> {
-    Arg::new(alloc, name)
-        .long(name)
-        .action(ArgAction::SetTrue)
-        .help(help)
 }
 
 /// Returns the command line of the program.

@@ -1,6 +1,6 @@
 //! The command line.
-use clap::{Arg, ArgAction, ArgMatches, Command};
-use line_service::VERSION;
+use clap::{Arg, ArgMatches, Command};
+use line_service::{VERSION, flag};
 use std::alloc::{AllocError, Global};
 use tree_picture::Links;
 
@@ -45,14 +45,6 @@ pub struct Options<'a> {
     pub form: Form,
     /// The file of the script; `None` for standard input.
     pub file: Option<&'a str>,
-}
-
-// An option without a value.
-fn flag<'a>(alloc: Global, name: &'a str, help: &'a str) -> Arg<'a> {
-    Arg::new(alloc, name)
-        .long(name)
-        .action(ArgAction::SetTrue)
-        .help(help)
 }
 
 /// Returns the command line of the program.

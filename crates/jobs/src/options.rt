@@ -1,7 +1,7 @@
 //! The arguments.
 
-use clap::{Arg, ArgAction, ArgMatches, Command};
-use line_service::{Style, VERSION};
+use clap::{Arg, ArgMatches, Command};
+use line_service::{Style, VERSION, flag};
 use std::alloc::{AllocError, Global};
 
 /// What the line `help` is answered.
@@ -55,14 +55,6 @@ pub enum Task {
     Import(String, String),
     /// What can be read of a damaged file is to be put into a new one: the path of the damaged file and that of the new one.
     Salvage(String, String),
-}
-
-// Returns an option without a value.
-fn flag<'a>(alloc: Global, name: &'static str, help: &'static str) -> Arg<'a> {
-    Arg::new(alloc, name)
-        .long(name)
-        .action(ArgAction::SetTrue)
-        .help(help)
 }
 
 // Returns the option that names the file of the jobs.

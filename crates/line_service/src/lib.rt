@@ -14,7 +14,7 @@ mod times;
 pub use failure::{Failure, ended};
 pub use json::{blank_value, complaint, done_value, json_line, write_json};
 pub use numbers::{NumberError, number};
-pub use parsing::{Request, VERSION, arguments, parse_arguments};
+pub use parsing::{Request, VERSION, arguments, flag, parse_arguments};
 pub use program::Program;
 pub use session::{Session, serve};
 pub use status::{BAD_DATA, IO_FAILED, NO_INPUT, NO_MEMORY, NOT_CREATED, WRONG_USAGE};

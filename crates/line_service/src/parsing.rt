@@ -1,13 +1,14 @@
 //! Command lines, which `clap` parses.
 
-ghost use Rattle.std.specs.Prelude.{◌≡◌, ◌⊎◌, IfOk, IfErr};
+ghost use Rattle.std.specs.Prelude.{◌≡◌, ◌⊎◌, Some, IfOk, IfErr};
+ghost use Rattle.clap.specs.declared.builder.action.ArgAction.TheVariants.{SetTrue};
 ghost use Rattle.std.specs.Process.{exit_status};
 ghost use Rattle.line_service.specs.Ending.{IsOfArguments, IsOfStreams, Ends};
 
 use crate::failure::Failure;
 use crate::status::WRONG_USAGE;
 use clap::error::ErrorKind;
-use clap::{ArgMatches, Command};
+use clap::{Arg, ArgAction, ArgMatches, Command};
 use std::alloc::{AllocError, Global};
 use std::env::Env;
 use std::process::ExitCode;
@@ -15,6 +16,19 @@ use std::{env, io};
 
 /// The version of the programs.
 pub const VERSION: &str = "0.1.0";
+
+/// Returns an option without a value: `--NAME`, by which it is also asked for.
+pub fn flag<'a>(alloc: Global, name: &'a str, help: &'a str) -> Arg<'a>
+    ensures id { result.id ≡ name.entry }
+    ensures long { result.long ≡ Some name.entry }
+    ensures action { result.action ≡ Some SetTrue }
+    ensures help { result.help ≡ Some help.entry }
+{
+    Arg::new(alloc, name)
+        .long(name)
+        .action(ArgAction::SetTrue)
+        .help(help)
+}
 
 /// What a program is to do by its command line.
 #[derive(Drop)]

@@ -5,10 +5,10 @@ ghost use Rattle.std.specs.Process.{exit_status};
 ghost use Rattle.line_service.specs.Ending.{IsEnding};
 
 use crate::failure::{Failure, ended};
-use crate::parsing::{Request, VERSION, arguments, parse_arguments};
+use crate::parsing::{Request, VERSION, arguments, flag, parse_arguments};
 use crate::session::{Session, serve};
 use crate::style::Style;
-use clap::{Arg, ArgAction, ArgMatches, Command};
+use clap::{ArgMatches, Command};
 use std::alloc::{AllocError, Global};
 use std::env::Env;
 use std::process::ExitCode;
@@ -122,12 +122,4 @@ impl Program {
         let outcome = self.serve_by_arguments(rt, session);
         ended(rt, self.name, outcome)
     }
-}
-
-// An option without a value.
-fn flag<'a>(alloc: Global, name: &'static str, help: &'static str) -> Arg<'a> {
-    Arg::new(alloc, name)
-        .long(name)
-        .action(ArgAction::SetTrue)
-        .help(help)
 }
