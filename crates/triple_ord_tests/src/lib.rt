@@ -1,5 +1,5 @@
-//! Tests of `triple_ord` from the outside: worked examples, every call, failing memory, what no clause can say, and the examples in the
-//! text of calls.
+//! Tests of `triple_ord` from the outside: worked examples, those in the text of calls, every call, failing memory, and what no clause can
+//! say.
 #![tactic(auto)]
 
 #[cfg(test)]
