@@ -55,15 +55,22 @@ pub becomes : (change : Arena → Arena → Type 0) (a b : Arena) (old new : Opt
 becomes change a b old new taken put fact = subst (λ (n : Option Arena). Becomes change old n) (sym put) (subst (λ (o : Option Arena). Becomes change o (Some b)) taken fact)
 
 -- a status that tells whether an entry of an open arena has an equal key
-pub equal-told : (held : Option Arena) (a inside : Arena) (key same_key : ℤ) (Told Refused : Type 0) → Some a ≡ held → inside ≡ a → same_key ≡ key
-    → (Refused ↔ (is_some (first_where (λ e. is_eq (int_cmp same_key (key_of e))) inside.entries) ≡ true)) → (Told ↔ Refused)
+pub equal-told : {P X : Type 0} (numbers : P → ℕ × ℕ) (result : Result P (X × UniqueInsertionError P)) (held : Option Arena) (a inside : Arena) (key same_key : ℤ) (Told : Type 0) → Some a ≡ held → inside ≡ a
+    → same_key ≡ key → option_map numbers (pointer_in_way result) ≡ first_where (λ e. is_eq (int_cmp same_key (key_of e))) inside.entries → (Told ↔ (is_some (pointer_in_way result) ≡ true))
     → (Told ↔ IsSomeAnd held (λ b. is_some (first_where (λ e. is_eq (int_cmp key (key_of e))) b.entries) ≡ true))
-equal-told held a inside key same_key Told Refused taken same_inside same_k fact told =
+equal-told numbers result held a inside key same_key Told taken same_inside same_k fact told =
     subst (λ (h : Option Arena). Told ↔ IsSomeAnd h (λ b. is_some (first_where (λ e. is_eq (int_cmp key (key_of e))) b.entries) ≡ true)) taken
-    ((λ h. subst (λ o. is_some o ≡ true) same (fact.0 (told.0 h))), (λ p. told.1 (fact.1 (subst (λ o. is_some o ≡ true) (sym same) p))))
+    ((λ h. sym there ∙ told.0 h), (λ p. told.1 (there ∙ p)))
   where
     same : first_where (λ e. is_eq (int_cmp same_key (key_of e))) inside.entries ≡ first_where (λ e. is_eq (int_cmp key (key_of e))) a.entries
     same = ap (λ (k : ℤ). first_where (λ e. is_eq (int_cmp k (key_of e))) inside.entries) same_k ∙ ap (λ (i : Arena). first_where (λ e. is_eq (int_cmp key (key_of e))) i.entries) same_inside
+
+    mapped : (o : Option P) → is_some (option_map numbers o) ≡ is_some o
+    mapped None = refl
+    mapped (Some p) = refl
+
+    there : is_some (pointer_in_way result) ≡ is_some (first_where (λ e. is_eq (int_cmp key (key_of e))) a.entries)
+    there = sym (mapped (pointer_in_way result)) ∙ ap is_some (fact ∙ same)
 
 -- the last entry is there exactly if there is a last item
 module _ (a : Arena) (distinct : IsDistinct a.entries) where
@@ -121,23 +128,6 @@ pub found-rekeyed : (r : Result ℤ ℤ) (named : Option (ℤ × ℕ)) → IfOk 
     → result_ok r ≡ option_map (λ (x : ℤ × ℕ). x.0) named
 found-rekeyed (Ok x) named before stale = sym before
 found-rekeyed (Err e) named before stale = sym (ap (option_map (λ (x : ℤ × ℕ). x.0)) stale)
-
--- two refusals of one insertion have one reason
-abbrev reason_or : {T A B : Type 0} → B → Result T (A × B) → B
-reason_or other (Ok t) = other
-reason_or other (Err e) = e.1
-
-same-reason : {T A B : Type 0} (result : Result T (A × B)) (p q : A) (x y : B) → result ≡ Err (p, x) → result ≡ Err (q, y) → x ≡ y
-same-reason result p q x y one other = ap (reason_or x) (sym one ∙ other)
-
-pub not-equal : {T A : Type 0} (result : Result T (A × UniqueInsertionError)) (p q : A) (x : UniqueInsertionError) → result ≡ Err (p, x) → (x ≡ EqualKey → ⊥) → result ≡ Err (q, EqualKey) → ⊥
-not-equal result p q x one other is = other (same-reason result p q x EqualKey one is)
-
-pub full-not-equal : BeyondMaxCapacity ≡ EqualKey → ⊥
-full-not-equal clash = cc clash
-
-pub memory-not-equal : AllocError ≡ EqualKey → ⊥
-memory-not-equal clash = cc clash
 
 -- a reservation has one of these statuses
 pub known-reservation : (r : Result (Unit {0}) ReallocationError) → Contains (ok ∷ full ∷ no_memory ∷ closed ∷ out_of_order ∷ []) (status_of_reservation r)

@@ -109,9 +109,9 @@ fell o (f ∷ front) back pair i great none =
     fell (Some f) front back pair (i + 1) great (fall-step (option_map (λ (x : ℤ × ℕ). x.0) o) f.0 (map (λ (x : ℤ × ℕ). x.0) (front ++ pair ∷ back)) i none).1
 
 -- An insertion of pairs behind all entries, after a reservation for them.
-module _ (old mid new : Arena) (ks : List ℤ) (pairs : List (ℤ × ℕ)) (r : Result (Unit {0}) SortedError) (done : ExtendsSorted int_cmp most_entries mid pairs r new)
+module _ (old mid new : Arena) (ks : List ℤ) (pairs : List (ℤ × ℕ)) {B : Type 0} (r : Result (Unit {0}) (Vec (ℤ × ℕ) B × SortedError)) (done : ExtendsSorted int_cmp most_entries mid pairs r new)
     (room : count mid + length pairs ≤ mid.capacity) (entries : mid.entries ≡ old.entries) where
-  pub not-refused : (e : SortedError) → r ≡ Err e → map (λ (p : ℤ × ℕ). p.0) pairs ≡ ks → fall_behind old ks ≡ None → (most_entries < count mid + length pairs → ⊥) → ⊥
+  pub not-refused : (e : SortedError) → refusal_of r ≡ Some e → map (λ (p : ℤ × ℕ). p.0) pairs ≡ ks → fall_behind old ks ≡ None → (most_entries < count mid + length pairs → ⊥) → ⊥
   not-refused (OutOfOrder at) is keys order fits =
       let out = done.unsorted at is in
       fell (last_item mid.entries) out.front out.back out.pair 0
@@ -121,7 +121,7 @@ module _ (old mid new : Arena) (ks : List ℤ) (pairs : List (ℤ × ℕ)) (r : 
   not-refused BeyondMaxCapacity is keys order fits = fits (done.full is).1
   not-refused AllocError is keys order fits = let short = (done.memory is).1 in omega (arith, room, short)
 
-  fact : {P : Type 0} (q : Result (Unit {0}) SortedError) (u : Unit {0}) → q ≡ Ok u → OnOk q P → P
+  fact : {P : Type 0} (q : Result (Unit {0}) (Vec (ℤ × ℕ) B × SortedError)) (u : Unit {0}) → q ≡ Ok u → OnOk q P → P
   fact (Ok v) u is p = p
   fact (Err e) u is p = absurd (cc)
 

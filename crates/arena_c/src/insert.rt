@@ -71,7 +71,7 @@ pub extern "C" fn topscedar_arena_insert_unique(
             *pointer = Pointer::of(p);
             OK
         }
-        Err((_, UniqueInsertionError::EqualKey)) => EQUAL_KEY,
+        Err((_, UniqueInsertionError::EqualKey(_))) => EQUAL_KEY,
         Err((_, UniqueInsertionError::BeyondMaxCapacity)) => FULL,
         Err((_, UniqueInsertionError::AllocError)) => NO_MEMORY,
     }

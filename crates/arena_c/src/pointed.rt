@@ -2,8 +2,9 @@
 
 ghost use Rattle.std.specs.Prelude.{◌≡◌, ◌≢◌, [], ◌∷◌, Some, None, IsSomeAnd, is_some, true};
 ghost use Rattle.std.specs.Option.{option_map};
-ghost use Rattle.std.specs.Ordering.{int_cmp, is_eq};
-ghost use Rattle.sorted_arena.specs.Sorted.{first_where, get, key_of, with_key, with_value, without_entry, IsAbsent};
+ghost use Rattle.std.specs.Ordering.{int_cmp};
+ghost use Rattle.sorted_arena.specs.Sorted.{get, with_key, with_value, without_entry};
+ghost use Rattle.sorted_arena.specs.Unique.{first_other};
 ghost use Rattle.arena_c.specs.Answer.{Changes, ChangesOrFails, Looks};
 ghost use Rattle.arena_c.specs.Shown.{entry_at, greatest_generation, numbers_of};
 ghost use Rattle.arena_c.specs.Status.{ok, not_found, closed, equal_key};
@@ -94,7 +95,7 @@ pub extern "C" fn topscedar_arena_remove(
     arena.answer(content, found, entry)
 }
 
-/// Gives the entry at `pointer` the key `key`, as `topscedar_arena_rekey` does, unless an entry has an equal key: then `EQUAL_KEY`.
+/// Gives the entry at `pointer` the key `key`, as `topscedar_arena_rekey` does, unless another entry has an equal key: then `EQUAL_KEY`.
 /// `OK`, `CLOSED`, or `NOT_FOUND` if the pointer is stale; on all but `OK` nothing changes.
 #[unsafe(no_mangle)]
 pub extern "C" fn topscedar_arena_rekey_unique(
@@ -105,13 +106,14 @@ pub extern "C" fn topscedar_arena_rekey_unique(
     before: &mut i64,
 ) -> u8
     ensures moved { ChangesOrFails (ok ∷ not_found ∷ closed ∷ equal_key ∷ [])
-        (λ a b. (b ≡ with_key int_cmp a (numbers_of pointer) key) × IsAbsent int_cmp a key
+        (λ a b. (b ≡ with_key int_cmp a (numbers_of pointer) key)
+        × (first_other int_cmp (numbers_of pointer) key a.entries ≡ None)
         × (option_map (λ pair. pair.0) (get a (numbers_of pointer)) ≡ Some before.new))
         arena.old.slot.held arena.new.slot.held result }
     ensures kept { result ≢ ok → before.new ≡ before.old }
     ensures stale { result ≡ not_found → IsSomeAnd arena.old.slot.held (λ a. get a (numbers_of pointer) ≡ None) }
     ensures equal { result ≡ equal_key → IsSomeAnd arena.old.slot.held (λ a.
-        is_some (first_where (λ e. is_eq (int_cmp key (key_of e))) a.entries) ≡ true) }
+        is_some (first_other int_cmp (numbers_of pointer) key a.entries) ≡ true) }
 {
     let Some(mut content) = arena.take(alloc) else {
         return CLOSED;
@@ -123,7 +125,7 @@ pub extern "C" fn topscedar_arena_rekey_unique(
             *before = old;
             OK
         }
-        Err((_, RekeyUniqueError::EqualKey)) => EQUAL_KEY,
+        Err((_, RekeyUniqueError::EqualKey(_))) => EQUAL_KEY,
         Err((_, RekeyUniqueError::Stale)) => NOT_FOUND,
     }
 }

@@ -120,7 +120,7 @@ module _ {K V : Type 0} (greatest : Option ℕ) (old : Sorted K V) (distinct : I
   pub cut-found : get old p ≡ Some at.entry.item
   cut-found = ap (get old) named ∙ found-here old.entries distinct at.front at.entry at.back at.cut
 
-  cut-next_of : (after : Option (ℕ × ℕ)) → after ≡ next_of old.entries p → after ≡ option_map pointer_of (first_of at.back)
+  pub cut-next_of : (after : Option (ℕ × ℕ)) → after ≡ next_of old.entries p → after ≡ option_map pointer_of (first_of at.back)
   cut-next_of after after_is = after_is ∙ ap (next_of old.entries) named ∙ next-here old.entries distinct at.front at.entry at.back at.cut
 
   -- it is removed

@@ -30,6 +30,8 @@ mod remove_entry;
 mod retain;
 mod retain_entries;
 mod split;
+mod unsorted;
+mod write;
 
 use crate::pairs::Pairs;
 use std::alloc::{Allocator, Global};

@@ -3,10 +3,10 @@ use thiserror::Error;
 
 /// Why [`insert_unique`](crate::SortedArena::insert_unique) inserted nothing.
 #[derive(Debug, Clone, Copy, PartialEq, Eq, Drop, Error)]
-pub enum UniqueInsertionError {
-    /// An entry has an equal key.
+pub enum UniqueInsertionError<P> {
+    /// An entry has an equal key: the first that has one is at this pointer.
     #[error("an entry has an equal key")]
-    EqualKey,
+    EqualKey(P),
     /// The arena is full, and its capacity is at the limit.
     #[error("no room within the maximum capacity")]
     BeyondMaxCapacity,
@@ -17,13 +17,13 @@ pub enum UniqueInsertionError {
 
 /// Why [`rekey_unique`](crate::SortedArena::rekey_unique) changed nothing.
 #[derive(Debug, Clone, Copy, PartialEq, Eq, Drop, Error)]
-pub enum RekeyUniqueError {
+pub enum RekeyUniqueError<P> {
     /// The pointer is stale.
     #[error("the pointer names no entry")]
     Stale,
-    /// An entry has an equal key.
-    #[error("an entry has an equal key")]
-    EqualKey,
+    /// Another entry has an equal key: the first that has one is at this pointer.
+    #[error("another entry has an equal key")]
+    EqualKey(P),
 }
 
 /// Why pairs that were to be in order were not all inserted.

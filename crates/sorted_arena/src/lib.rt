@@ -15,7 +15,7 @@ mod whole;
 
 pub use arena::SortedArena;
 pub use error::{RekeyUniqueError, SortedError, UniqueInsertionError};
-pub use into::IntoEntries;
+pub use into::{IntoEntries, IntoKeys, IntoValues};
 pub use listing::laws;
 pub use parts::{Items, Keys, Values, ValuesDescending};
 pub use range::Range;

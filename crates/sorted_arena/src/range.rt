@@ -131,8 +131,8 @@ fn position<P: BasePtr>(p: Option<P>, count: usize) -> usize
     }
 }
 
-// Whether two indexes are equal, or neither is there.
-fn are_same<P: BasePtr>(first: Option<P::Inx>, end: Option<P::Inx>) -> bool
+/// Whether two indexes are equal, or neither is there.
+pub(crate) fn are_same<P: BasePtr>(first: Option<P::Inx>, end: Option<P::Inx>) -> bool
     ensures same { result ≡ true
         → option_map P.Inx.number first ≡ option_map P.Inx.number end }
     ensures apart { result ≡ false

@@ -42,10 +42,10 @@ fn insert_unique_in(
     rt: &impl Abort,
     names: &mut SortedArena<u32, &'static str>,
 ) -> Result<(), Fail> {
-    names.insert_unique(7, "Ada").map_err(|refused| refused.1)?;
+    let ada = names.insert_unique(7, "Ada").map_err(|refused| refused.1)?;
     assert_eq!(rt;
         names.insert_unique(7, "Alan"),
-        Err(((7, "Alan"), UniqueInsertionError::EqualKey))
+        Err(((7, "Alan"), UniqueInsertionError::EqualKey(ada)))
     );
     Ok(())
 }
@@ -166,10 +166,10 @@ fn rekey_unique_in(
     names: &mut SortedArena<u32, &'static str>,
 ) -> Result<(), Fail> {
     let ada = names.insert(7, "Ada").map_err(|refused| refused.1)?;
-    names.insert(8, "Alan").map_err(|refused| refused.1)?;
+    let alan = names.insert(8, "Alan").map_err(|refused| refused.1)?;
     assert_eq!(rt;
         names.rekey_unique(ada, 8),
-        Err((8, RekeyUniqueError::EqualKey))
+        Err((8, RekeyUniqueError::EqualKey(alan)))
     );
     assert_eq!(rt; names.rekey_unique(ada, 9), Ok(7));
     Ok(())
@@ -279,8 +279,65 @@ fn split_off_in(
 #[test]
 fn from_sorted(rt: HostRuntime) -> Result<(), Fail> {
     let pairs = Vec::from_array(rt.alloc(), [(100, "Ada"), (120, "Grace")])?;
-    let users: SortedArena<u64, &str> = SortedArena::from_sorted(rt.alloc(), pairs)?;
+    let users: SortedArena<u64, &str> = SortedArena::from_sorted(rt.alloc(), pairs).map_err(
+        |refused| refused.1,
+    )?;
     assert!(rt; users.values().eq(&["Ada", "Grace"]));
+    Ok(())
+}
+
+#[test]
+fn from_unsorted(rt: HostRuntime) -> Result<(), Fail> {
+    let pairs = Vec::from_array(rt.alloc(), [(120, "Grace"), (100, "Ada")])?;
+    let users: SortedArena<u64, &str> = SortedArena::from_unsorted(rt.alloc(), pairs).map_err(
+        |refused| refused.1,
+    )?;
+    assert!(rt; users.values().eq(&["Ada", "Grace"]));
+    Ok(())
+}
+
+#[test]
+fn into_keys(rt: HostRuntime) -> Result<(), Fail> {
+    let pairs = Vec::from_array(rt.alloc(), [(100, "Ada"), (120, "Grace")])?;
+    let users: SortedArena<u64, &str> = SortedArena::from_sorted(rt.alloc(), pairs).map_err(
+        |refused| refused.1,
+    )?;
+    assert!(rt; users.into_keys().eq([100, 120]));
+    Ok(())
+}
+
+#[test]
+fn for_each_mut(rt: HostRuntime) -> Result<(), Fail> {
+    for_each_mut_in(&rt, &mut SortedArena::new(rt.alloc()))
+}
+
+fn for_each_mut_in(
+    rt: &impl Abort,
+    scores: &mut SortedArena<&'static str, u32>,
+) -> Result<(), Fail> {
+    scores.insert("Ada", 3).map_err(|refused| refused.1)?;
+    scores.insert("Alan", 4).map_err(|refused| refused.1)?;
+    scores.for_each_mut(.., |_, score| *score = score.saturating_mul(2));
+    assert!(rt; scores.values().eq(&[6, 8]));
+    scores.for_each_mut("Alan".., |_, score| *score = 0);
+    assert!(rt; scores.values().eq(&[6, 0]));
+    Ok(())
+}
+
+#[test]
+fn remove_str(rt: HostRuntime) -> Result<(), Fail> {
+    remove_str_in(&rt, &mut SortedArena::new(rt.alloc()))
+}
+
+fn remove_str_in(
+    rt: &(impl Abort + AllocGlobal),
+    ids: &mut SortedArena<String, u32>,
+) -> Result<(), Fail> {
+    let name = String::from_str(rt.alloc(), "Ada")?;
+    ids.insert(name, 7).map_err(|refused| refused.1)?;
+    assert_eq!(rt; ids.count_of_str("Ada"), 1);
+    assert_eq!(rt; ids.remove_str("Ada").map(|(_, id)| id), Some(7));
+    assert_eq!(rt; ids.count_of_str("Ada"), 0);
     Ok(())
 }
 

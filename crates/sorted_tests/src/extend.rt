@@ -61,11 +61,19 @@ fn has_pairs(arena: &Numbers, entries: &[Entry], pairs: &[Pair], count: usize) -
     place == entries.len().saturating_add(count)
 }
 
-/// The answer that names a pair.
-fn answer(at: Option<usize>) -> Result<(), SortedError> {
-    match at {
-        Some(at) => Err(SortedError::OutOfOrder(at)),
-        None => Ok(()),
+/// Whether a call names the pair at a place, and gives the pairs from another place on back; or does all, if there is no such pair.
+fn is_answer(
+    outcome: Result<(), (Vec<Pair>, SortedError)>,
+    pairs: &[Pair],
+    at: Option<usize>,
+    back: usize,
+) -> bool {
+    match (outcome, at) {
+        (Ok(()), None) => true,
+        (Err((rest, refusal)), Some(at)) => {
+            refusal == SortedError::OutOfOrder(at) && pairs.get(back..) == Some(rest.as_slice())
+        }
+        _ => false,
     }
 }
 
@@ -74,8 +82,9 @@ fn extends(alloc: Global, beside: Beside, n: usize, number: usize) -> Option<boo
     let Beside { mut arena, entries } = beside;
     let pairs = pairs_of(alloc, n, number)?;
     let at = first_out_of_order(greatest(&entries), &pairs);
-    let is_named = arena.extend_sorted(pairs_of(alloc, n, number)?) == answer(at);
-    Some(is_named && has_pairs(&arena, &entries, &pairs, at.unwrap_or(n)))
+    let outcome = arena.extend_sorted(pairs_of(alloc, n, number)?);
+    let inserted = at.unwrap_or(n);
+    Some(is_answer(outcome, &pairs, at, inserted) && has_pairs(&arena, &entries, &pairs, inserted))
 }
 
 /// Whether an arena is made of pairs that are in order, and of no others.
@@ -84,8 +93,18 @@ fn is_made(alloc: Global, n: usize, number: usize) -> Option<bool> {
     let at = first_out_of_order(0, &pairs);
     match Numbers::from_sorted(alloc, pairs_of(alloc, n, number)?) {
         Ok(arena) => Some(at == None && has_pairs(&arena, &[], &pairs, n)),
-        Err(refusal) => Some(Err(refusal) == answer(at)),
+        Err(refused) => Some(is_answer(Err(refused), &pairs, at, 0)),
     }
+}
+
+/// Whether an arena of pairs in any order is as if they were inserted one after another.
+fn is_sorted(alloc: Global, n: usize, number: usize) -> Option<bool> {
+    let sorted = Numbers::from_unsorted(alloc, pairs_of(alloc, n, number)?).ok()?;
+    let mut inserted = Numbers::new(alloc);
+    for (k, v) in pairs_of(alloc, n, number)? {
+        let _ = inserted.insert(k, v).ok()?;
+    }
+    Some(sorted.items().eq(inserted.items()) && sorted.capacity() == n)
 }
 
 /// The first pairs of up to four that aren't inserted as they should behind this arena.
@@ -96,7 +115,8 @@ fn wrong_pairs(alloc: Global, held: usize, order: usize) -> Option<(usize, usize
                 Some(beside) => extends(alloc, beside, *n, number),
                 None => None,
             };
-            if extends != Some(true) || is_made(alloc, *n, number) != Some(true) {
+            let are_made = (is_made(alloc, *n, number), is_sorted(alloc, *n, number));
+            if extends != Some(true) || are_made != (Some(true), Some(true)) {
                 return Some((*n, number));
             }
         }

@@ -89,7 +89,9 @@ fn extend(alloc: Global, arena: &mut OnHeap, k: u64, v: usize) -> Outcome {
     };
     match (arena.extend_sorted(pairs), arena.find(&k)) {
         (Ok(()), Some(p)) => Outcome::Done(p),
-        (Err(refusal), None) => refused(refusal == SortedError::AllocError),
+        (Err((rest, refusal)), None) => {
+            refused(rest.as_slice() == [(k, v)].as_slice() && refusal == SortedError::AllocError)
+        }
         _ => Outcome::Wrong,
     }
 }

@@ -1,11 +1,11 @@
 //! A leaderboard: players by their scores.
 
-ghost use Rattle.std.specs.Prelude.{◌≡◌, ◌≢◌, ◌==◌, ◌&&◌, [], Some, Err, IfOk, IsOk, OnOk, IfSome, IsSomeAnd, OnErr, map, ◌++◌, ◌≤◌, take, reverse, length, fold, min, ◌+◌, ◌-◌, ◌^◌};
+ghost use Rattle.std.specs.Prelude.{◌≡◌, ◌≢◌, ◌==◌, ◌&&◌, ℕ, List, [], Some, IfOk, IsOk, OnOk, IfSome, IsSomeAnd, IfErr, OnErr, map, ◌++◌, ◌≤◌, take, reverse, length, fold, min, ◌+◌, ◌-◌, ◌^◌};
 ghost use Rattle.std.specs.Option.{option_map};
 ghost use Rattle.std.specs.{Ordering.nat_cmp, Cmp.Lexicographic.pointwise};
 ghost use Rattle.std.specs.declared.ops.Bound.TheVariants.{Included, Excluded, Unbounded};
 ghost use Rattle.std.specs.declared.cmp.Ordering.TheVariants.{Greater};
-ghost use Rattle.sorted_arena.specs.{Range.entries_between, Merge.merged};
+ghost use Rattle.sorted_arena.specs.{Range.entries_between, Merge.merged, Change.refusal_of};
 ghost use Rattle.sorted_arena.specs.Sorted.{get, count, key_of, value_of, pair_of, Keeps, Updates};
 
 use sorted_arena::{P0, ReallocationError, SortedArena, SortedError};
@@ -27,22 +27,33 @@ pub fn enter(board: &mut Leaderboard, score: u64, player: u64) -> Result<P0, Rea
     }
 }
 
-/// Enters players by rising scores behind all others, where there is room for them, as after a `reserve`. Memory can't be refused then.
-pub fn enter_all(board: &mut Leaderboard, players: Vec<(u64, u64)>) -> Result<(), SortedError>
+/// Enters players by rising scores behind all others, where there is room for them, as after a `reserve`. Memory can't be refused then. On
+/// `Err` those from the first player out of order on come back.
+pub fn enter_all(
+    board: &mut Leaderboard,
+    players: Vec<(u64, u64)>,
+) -> Result<(), (Vec<(u64, u64)>, SortedError)>
     requires { count board.old + length players.items ≤ board.old.capacity }
     ensures entered { OnOk result
         (map pair_of board.new.entries ≡ map pair_of board.old.entries ++ players.items) }
     ensures room { board.new.capacity ≡ board.old.capacity }
-    ensures memory { result ≢ Err SortedError.AllocError }
+    ensures memory { refusal_of result ≢ Some SortedError.AllocError }
+    ensures back { IfErr result (λ e. (front : List (ℕ × ℕ))
+        × (players.items ≡ front ++ e.0.items)
+        × (map pair_of board.new.entries ≡ map pair_of board.old.entries ++ front)) }
     ensures kept { Keeps board.old board.new }
 {
     board.extend_sorted(players)
 }
 
 /// Makes a leaderboard of players by rising scores, with room for them and no others.
-pub fn of_players(alloc: Global, players: Vec<(u64, u64)>) -> Result<Leaderboard, SortedError>
+pub fn of_players(
+    alloc: Global,
+    players: Vec<(u64, u64)>,
+) -> Result<Leaderboard, (Vec<(u64, u64)>, SortedError)>
     ensures entered { IfOk result (λ board. map pair_of board.entries ≡ players.items) }
     ensures room { IfOk result (λ board. board.capacity ≡ length players.items) }
+    ensures back { IfErr result (λ e. e.0.items ≡ players.items) }
     ensures none { players.items ≡ [] → IsOk result }
 {
     SortedArena::from_sorted(alloc, players)

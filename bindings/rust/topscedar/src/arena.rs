@@ -310,7 +310,7 @@ impl<K: Key, V> SortedArena<K, V> {
         Ok(K::from_i64(before))
     }
 
-    /// Gives the entry at a pointer another key, as [`rekey`](Self::rekey) does, unless an entry has it.
+    /// Gives the entry at a pointer another key, as [`rekey`](Self::rekey) does, unless another entry has it.
     ///
     /// # Errors
     ///

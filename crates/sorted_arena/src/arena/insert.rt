@@ -1,8 +1,10 @@
 //! Insertions.
 
-ghost use Rattle.std.specs.Prelude.{◌≡◌, ◌↔◌, ◌+◌, Some, None, Err, IfOk, OnOk, IfErr, OnErr, is_some, true};
+ghost use Rattle.std.specs.Prelude.{◌≡◌, ◌↔◌, ◌+◌, Some, None, Err, IfOk, OnOk, IfErr, OnErr};
+ghost use Rattle.std.specs.Option.{option_map};
 ghost use Rattle.std.specs.Ordering.{is_eq};
 ghost use Rattle.sorted_arena.specs.Sorted.{count, first_where, key_of, with_entry, IsAbsent, IsFree, IsSound, Updates, InsertsOrReplaces};
+ghost use Rattle.sorted_arena.specs.Unique.{pointer_in_way};
 
 use super::SortedArena;
 use crate::error::UniqueInsertionError;
@@ -91,16 +93,16 @@ impl<K: Ord + Drop, V: Drop, P: BasePtr, A: Allocator> SortedArena<K, V, P, A> {
     /// Inserts an entry, as [`insert`](Self::insert) does, unless one has an equal key. O(log n).
     ///
     /// ```
-    /// names.insert_unique(7, "Ada").map_err(|refused| refused.1)?;
-    /// assert_eq!(rt; names.insert_unique(7, "Alan"), Err(((7, "Alan"), UniqueInsertionError::EqualKey)));
+    /// let ada = names.insert_unique(7, "Ada").map_err(|refused| refused.1)?;
+    /// assert_eq!(rt; names.insert_unique(7, "Alan"), Err(((7, "Alan"), UniqueInsertionError::EqualKey(ada))));
     /// ```
     ///
     /// # Errors
     ///
     /// The pair comes back, and the arena is unchanged.
-    /// - `EqualKey`: an entry has an equal key.
+    /// - `EqualKey(p)`: an entry has an equal key, the first of them at `p`.
     /// - `BeyondMaxCapacity`, `AllocError`: as `insert`.
-    pub fn insert_unique(&mut self, k: K, v: V) -> Result<P, ((K, V), UniqueInsertionError)>
+    pub fn insert_unique(&mut self, k: K, v: V) -> Result<P, ((K, V), UniqueInsertionError<P>)>
         ensures ok { IfOk result
             (λ p. self.new ≡ with_entry K.cmp P.Inx.most self.old (P.numbers p) (k, v)) }
         ensures free { IfOk result (λ p. IsFree self.old (P.numbers p)) }
@@ -111,8 +113,8 @@ impl<K: Ord + Drop, V: Drop, P: BasePtr, A: Allocator> SortedArena<K, V, P, A> {
         ensures err { OnErr result (self.new ≡ self.old) }
         ensures sound { IsSound K.cmp P.Inx.most self.new }
         ensures absent { OnOk result (IsAbsent K.cmp self.old k) }
-        ensures equal { (result ≡ Err ((k, v), UniqueInsertionError.EqualKey))
-            ↔ (is_some (first_where (λ e. is_eq (K.cmp k (key_of e))) self.old.entries) ≡ true) }
+        ensures equal { option_map P.numbers (pointer_in_way result)
+            ≡ first_where (λ e. is_eq (K.cmp k (key_of e))) self.old.entries }
         ensures full { (result ≡ Err ((k, v), UniqueInsertionError.BeyondMaxCapacity))
             ↔ ((first_where (λ e. is_eq (K.cmp k (key_of e))) self.old.entries ≡ None)
             × (count self.old ≡ P.Inx.most)) }
@@ -121,7 +123,7 @@ impl<K: Ord + Drop, V: Drop, P: BasePtr, A: Allocator> SortedArena<K, V, P, A> {
     {
         let at = self.find(&k);
         match at {
-            Some(_) => Err(((k, v), UniqueInsertionError::EqualKey)),
+            Some(p) => Err(((k, v), UniqueInsertionError::EqualKey(p))),
             None => match self.insert(k, v) {
                 Ok(p) => Ok(p),
                 Err((pair, ReallocationError::BeyondMaxCapacity)) => {

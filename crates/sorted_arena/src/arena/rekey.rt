@@ -1,12 +1,13 @@
 //! Entries that get another key. They keep their pointers.
 
-ghost use Rattle.std.specs.Prelude.{◌≡◌, Err, Some, None, IfOk, OnOk, IfErr, OnErr, is_some, true};
-ghost use Rattle.std.specs.Ordering.{is_eq};
+ghost use Rattle.std.specs.Prelude.{◌≡◌, ◌↔◌, Err, Some, None, IfOk, OnOk, IfErr, OnErr, IsSome};
 ghost use Rattle.std.specs.Option.{option_map};
-ghost use Rattle.sorted_arena.specs.Sorted.{get, first_where, key_of, count, with_key, IsAbsent, IsSound, Updates};
+ghost use Rattle.sorted_arena.specs.Sorted.{get, count, with_key, IsSound, Updates};
+ghost use Rattle.sorted_arena.specs.Unique.{first_other, other_in_way};
 
 use super::SortedArena;
 use crate::error::RekeyUniqueError;
+use crate::range::are_same;
 use std::alloc::Allocator;
 use triple_ord::BasePtr;
 
@@ -43,12 +44,12 @@ impl<K: Ord, V, P: BasePtr, A: Allocator> SortedArena<K, V, P, A> {
         rekeyed
     }
 
-    /// Gives the entry at `p` the key `k`, as [`rekey`](Self::rekey) does, unless an entry has an equal key. The entry's own key counts.
+    /// Gives the entry at `p` the key `k`, as [`rekey`](Self::rekey) does, unless another entry has an equal key. O(log n).
     ///
     /// ```
     /// let ada = names.insert(7, "Ada").map_err(|refused| refused.1)?;
-    /// names.insert(8, "Alan").map_err(|refused| refused.1)?;
-    /// assert_eq!(rt; names.rekey_unique(ada, 8), Err((8, RekeyUniqueError::EqualKey)));
+    /// let alan = names.insert(8, "Alan").map_err(|refused| refused.1)?;
+    /// assert_eq!(rt; names.rekey_unique(ada, 8), Err((8, RekeyUniqueError::EqualKey(alan))));
     /// assert_eq!(rt; names.rekey_unique(ada, 9), Ok(7));
     /// ```
     ///
@@ -56,28 +57,50 @@ impl<K: Ord, V, P: BasePtr, A: Allocator> SortedArena<K, V, P, A> {
     ///
     /// `k` comes back, and nothing changes.
     /// - `Stale`: `p` names no entry.
-    /// - `EqualKey`: an entry has an equal key.
+    /// - `EqualKey(q)`: another entry has an equal key, the first of them at `q`.
     #[tactic(auto, using(listing::proofs::CallerLemmas::words))]
-    pub fn rekey_unique(&mut self, p: P, k: K) -> Result<K, (K, RekeyUniqueError)>
+    pub fn rekey_unique(&mut self, p: P, k: K) -> Result<K, (K, RekeyUniqueError<P>)>
         ensures ok { OnOk result (self.new ≡ with_key K.cmp self.old (P.numbers p) k) }
         ensures before { IfOk result (λ before.
             option_map (λ e. e.0) (get self.old (P.numbers p)) ≡ Some before) }
         ensures err { OnErr result (self.new ≡ self.old) }
         ensures sound { IsSound K.cmp P.Inx.most self.old }
-        ensures absent { OnOk result (IsAbsent K.cmp self.old k) }
-        ensures equal { result ≡ Err (k, RekeyUniqueError.EqualKey)
-            → is_some (first_where (λ e. is_eq (K.cmp k (key_of e))) self.old.entries) ≡ true }
-        ensures stale { result ≡ Err (k, RekeyUniqueError.Stale)
-            → get self.old (P.numbers p) ≡ None }
+        ensures equal { IsSome (get self.old (P.numbers p))
+            → option_map P.numbers (other_in_way result)
+            ≡ first_other K.cmp (P.numbers p) k self.old.entries }
+        ensures stale { (result ≡ Err (k, RekeyUniqueError.Stale))
+            ↔ (get self.old (P.numbers p) ≡ None) }
         ensures back { IfErr result (λ e. e.0 ≡ k) }
     {
-        let at = self.find(&k);
-        match at {
-            Some(_) => Err((k, RekeyUniqueError::EqualKey)),
-            None => match self.rekey(p, k) {
-                Ok(before) => Ok(before),
-                Err(k) => Err((k, RekeyUniqueError::Stale)),
-            },
+        // For the prover: the arena is sound.
+        let _ = self.len();
+        if !self.contains(p) {
+            return Err((k, RekeyUniqueError::Stale));
+        }
+        if let Some(other) = self.other_equal(p, &k) {
+            return Err((k, RekeyUniqueError::EqualKey(other)));
+        }
+        match self.rekey(p, k) {
+            Ok(before) => Ok(before),
+            Err(k) => Err((k, RekeyUniqueError::Stale)),
+        }
+    }
+
+    // The pointer of the first entry whose key equals `k`, but for the entry at `p`.
+    fn other_equal(&self, p: P, k: &K) -> Option<P>
+        requires { IsSome (get self.now (P.numbers p)) }
+        ensures { option_map P.numbers result
+            ≡ first_other K.cmp (P.numbers p) k.now self.now.entries }
+    {
+        let first = self.find(k)?;
+        if !are_same::<P>(Some(first.inx()), Some(p.inx())) {
+            return Some(first);
+        }
+        let next = self.next(p)?;
+        if k.cmp(self.key(next)?).is_eq() {
+            Some(next)
+        } else {
+            None
         }
     }
 }

@@ -78,7 +78,10 @@ fn insert_unique(beside: &mut Beside, k: u64) -> bool {
     let place = place_of(&beside.entries, k);
     match (beside.arena.insert_unique(k, WRITTEN), place) {
         (Ok(p), None) => put(&mut beside.entries, Entry { p, k, v: WRITTEN }),
-        (Err(refused), Some(_)) => refused == ((k, WRITTEN), UniqueInsertionError::EqualKey),
+        (Err(refused), Some(place)) => match beside.entries.get(place) {
+            Some(Entry { p, .. }) => refused == ((k, WRITTEN), UniqueInsertionError::EqualKey(*p)),
+            None => false,
+        },
         _ => false,
     }
 }
@@ -183,14 +186,24 @@ fn rekey(beside: &mut Beside, place: usize, k: u64) -> bool {
     before == Ok(entry.k) && move_to(&mut beside.entries, place, k)
 }
 
+/// The pointer of the first entry with this key, but for the entry at a place.
+fn other_with(entries: &[Entry], place: usize, k: u64) -> Option<P0> {
+    for other in 0..entries.len() {
+        if other != place && entries[other].k == k {
+            return Some(entries[other].p);
+        }
+    }
+    None
+}
+
 fn rekey_unique(beside: &mut Beside, place: usize, k: u64) -> bool {
     let Some(entry) = beside.entries.get(place).copied() else {
         return false;
     };
-    let equal = place_of(&beside.entries, k);
-    match (beside.arena.rekey_unique(entry.p, k), equal) {
+    let other = other_with(&beside.entries, place, k);
+    match (beside.arena.rekey_unique(entry.p, k), other) {
         (Ok(before), None) => before == entry.k && move_to(&mut beside.entries, place, k),
-        (Err(refused), Some(_)) => refused == (k, RekeyUniqueError::EqualKey),
+        (Err(refused), Some(q)) => refused == (k, RekeyUniqueError::EqualKey(q)),
         _ => false,
     }
 }

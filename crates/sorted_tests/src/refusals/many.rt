@@ -2,7 +2,7 @@
 use super::{OnHeap, leave, new_heap};
 use crate::support::Numbers;
 use linked_list_allocator::LocalHeap;
-use sorted_arena::SortedError;
+use sorted_arena::{ReallocationError, SortedError};
 use std::alloc::Global;
 
 /// Pairs with the keys from one number until before another, each with the value 7.
@@ -40,34 +40,45 @@ fn count(arena: &OnHeap) -> Option<u64> {
     Some(next)
 }
 
-/// The answer of an extension that inserts so many of nine pairs.
-fn answer(count: u64) -> Result<(), SortedError> {
-    if count == 9 {
-        Ok(())
-    } else {
-        Err(SortedError::AllocError)
-    }
-}
-
-/// Whether an arena of nine pairs can be made; `None` if the refusal is another one than a lack of memory.
+/// Whether an arena of nine pairs can be made; `None` if the refusal is another one than a lack of memory, or the pairs don't come back.
 fn is_made(alloc: Global, heap: &LocalHeap) -> Option<bool> {
     match OnHeap::from_sorted(heap, rising(alloc, 0)?) {
         Ok(arena) => Some(count(&arena) == Some(9)),
-        Err(refusal) => (refusal == SortedError::AllocError).then_some(false),
+        Err((pairs, refusal)) => {
+            let is_back = pairs.as_slice() == rising(alloc, 0)?.as_slice();
+            (is_back && refusal == SortedError::AllocError).then_some(false)
+        }
     }
 }
 
-/// Extends an arena by nine pairs where so much of a heap is left, and by the rest of them once all is given back. Answers how many pairs
-/// were inserted before one was refused, or `None` if anything goes wrong.
+/// The same of pairs in another order.
+fn is_sorted(alloc: Global, heap: &LocalHeap) -> Option<bool> {
+    let mut falling = rising(alloc, 0)?;
+    falling.reverse();
+    match OnHeap::from_unsorted(heap, falling) {
+        Ok(arena) => Some(count(&arena) == Some(9)),
+        Err((pairs, refusal)) => {
+            let is_back = pairs.iter().rev().eq(&rising(alloc, 0)?);
+            (is_back && refusal == ReallocationError::AllocError).then_some(false)
+        }
+    }
+}
+
+/// Extends an arena by nine pairs where so much of a heap is left, and by those that come back once all is given back. Answers how many
+/// pairs were inserted before one was refused, or `None` if anything goes wrong.
 fn inserted_before(alloc: Global, heap: &LocalHeap, units: usize) -> Option<u64> {
     let rest = leave(heap, units)?;
-    let is_made = is_made(alloc, heap)?;
+    let (is_made, is_sorted) = (is_made(alloc, heap)?, is_sorted(alloc, heap)?);
     let mut arena = OnHeap::new(heap);
-    let outcome = arena.extend_sorted(rising(alloc, 0)?);
+    let refused = match arena.extend_sorted(rising(alloc, 0)?) {
+        Ok(()) => Vec::new(alloc),
+        Err((refused, SortedError::AllocError)) => refused,
+        Err(_) => return None,
+    };
     let held = count(&arena)?;
     drop(rest);
-    let is_right = outcome == answer(held) && is_made == (held == 9);
-    let is_done = arena.extend_sorted(rising(alloc, held)?) == Ok(());
+    let is_right = (is_made, is_sorted, refused.is_empty()) == (held == 9, held == 9, held == 9);
+    let is_done = arena.extend_sorted(refused).is_ok();
     (is_right && is_done && count(&arena) == Some(9)).then_some(held)
 }
 

@@ -1,6 +1,6 @@
 use Rattle.std.proofs.Common.{◌≡◌, ◌+◌, ◌-◌, ◌<◌, ◌∙◌, ap, sym, subst, length, drop, map, ℤ, ℕ, List, arith}
 use Rattle.std.specs.List.{zip}
-use Rattle.sorted_arena.specs.Sorted.{count}
+use Rattle.sorted_arena.specs.{Sorted.count, Change.refusal_of}
 use Rattle.sorted_arena.specs.PlainArena.{capacity_for}
 use Rattle.arena_c.specs.Batch.{fall_behind, with_pointers, ExtendsAtOnce}
 use Rattle.arena_c.specs.Shown.{Arena, most_entries}
@@ -13,7 +13,7 @@ unreachable-requires c =
     let long : length c.in-Ok.pairs.items ≡ length ks = ap length c.in-Ok.ensures.pairs ∙ length-zip ks vs c.requires.lengths in
     let same = ap length c.in_ok-reserve.ensures.kept.entries in
     not-refused inside mid c.extend_sorted.new.self ks c.in-Ok.pairs.items c.extend_sorted.result c.extend_sorted.ensures (omega (arith, long, same, c.in_ok-reserve.ensures.room)) c.in_ok-reserve.ensures.kept.entries
-    c.in-Err.field-0 c.in-Err.is (ap (map (λ (p : ℤ × ℕ). p.0)) c.in-Ok.ensures.pairs ∙ zip-keys ks vs c.requires.lengths) (ap (λ (a : Arena). fall_behind a ks) c.self.view_is ∙ c.requires.order)
+    c.in-Err.field-0.1 (ap refusal_of c.in-Err.is) (ap (map (λ (p : ℤ × ℕ). p.0)) c.in-Ok.ensures.pairs ∙ zip-keys ks vs c.requires.lengths) (ap (λ (a : Arena). fall_behind a ks) c.self.view_is ∙ c.requires.order)
     (λ over. let full : most_entries < count inside + length ks = omega (arith, long, same, over) in let refused = c.reserve.ensures.full.1 full in let passed = c.in_ok-reserve.was in cc)
 
 pub write_last-requires : goal.write_last-requires

@@ -1,4 +1,4 @@
-use Rattle.std.proofs.Common.{◌∙◌, arith, [], ◌++◌, List, map, length, sym, ap, rules, append-nil}
+use Rattle.std.proofs.Common.{◌∙◌, arith, ◌++◌, List, map, length, ap, rules}
 use Rattle.listing.specs.Chain.{Entry}
 use Rattle.sorted_arena.specs.Sorted.{pair_of}
 use Rattle.sorted_arena.proofs.arena.SortedArena.extend_sorted.Goals as goal
@@ -10,7 +10,7 @@ returns-then-is_made_ready g c =
       ok = all;
       unsorted = search rules;
       before = search rules;
-      part = (c.args.pairs.items, [], sym (append-nil c.args.pairs.items), all);
+      back = tt;
       refused = search rules;
       kept = search rules;
       generation = search rules;

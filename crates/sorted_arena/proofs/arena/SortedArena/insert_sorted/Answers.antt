@@ -1,101 +1,53 @@
-use Rattle.std.proofs.Common.{◌≡◌, ◌∙◌, refl, ◌-◌, ◌++◌, ◌∷◌, [], None, Err, sym, ap, subst, map, length, arith, rules, append_assoc, List, IsSomeAnd, append-nil}
-use Rattle.std.specs.{declared.cmp.Ordering.TheVariants.Greater, Vec.Iter.into_iter_items}
-use Rattle.listing.specs.Gap.{last_of}
-use Rattle.sorted_arena.specs.{Sorted.Sorted, Sorted.pair_of, Change.ExtendsSorted}
-use Rattle.sorted_arena.specs.declared.error.SortedError.TheVariants.{BeyondMaxCapacity, AllocError}
-use Rattle.listing.proofs.CallerLemmas.{generation-with_entry, capacity-with_entry}
-use Rattle.sorted_arena.proofs.Merging.{keeps-all, keeps-more, steps-none, steps-more}
-use Rattle.std.proofs.lemmas.Grind.{common_steps}
-use Rattle.sorted_arena.proofs.Extending.{last-greater, appended, counted, cut_more, cut_all, taken-front, stopped, fewer-held, grown-more}
+use Rattle.std.proofs.Common.{◌≡◌, ◌<◌, ◌+◌, ◌-◌, ◌∙◌, List, ◌∷◌, Err, reverse, length, slice_get, arith, sym, ap, subst}
+use Rattle.sorted_arena.specs.{Change.ExtendsSorted, Sorted.Sorted, Sorted.count}
+use Rattle.sorted_arena.specs.declared.error.SortedError.{SortedError}
+use Rattle.sorted_arena.proofs.Extending.{Inserting, inserting-reserved, inserting-more, stopped-order, stopped-room, last-reversed, popped-reversed}
 use Rattle.sorted_arena.proofs.arena.SortedArena.insert_sorted.Goals as goal
+use Rattle.sorted_arena.proofs.arena.SortedArena.insert_sorted.Goals.{In-Some}
 
-pub overflow_sub-result : goal.overflow_sub-result
-overflow_sub-result g c = omega (arith, counted c.len.result c.len-before.result c.loop-k.self.entries c.args.self.now.entries c.loop-k.yielded c.len.ensures.value c.len-before.ensures.value c.loop-k.invariant.held)
+-- the pairs that are left, from the next one on
+next-first : (g : _) (c : In-Some g) → (rest : List (g.row.K.Denot × g.row.V.Denot)) × (reverse c.loop-next.pairs.items ≡ c.in-Some.next.now ∷ rest)
+next-first g c = last-reversed c.loop-next.pairs.items c.in-Some.next.now (c.in-Some.ensures.value ∙ ap (λ (xs : List (g.row.K.Denot × g.row.V.Denot)). slice_get xs (length xs - 1)) c.deref.ensures.value)
+
+inserting : (g : _) (c : In-Some g) (rest : List (g.row.K.Denot × g.row.V.Denot)) → reverse c.loop-next.pairs.items ≡ c.in-Some.next.now ∷ rest
+    → Inserting g.K.Ord.cmp g.P.Inx.BasePtrInx.most c.args.self.now c.args.pairs.items c.loop-next.self (c.in-Some.next.now ∷ rest)
+inserting g c rest is = subst (λ (xs : List (g.row.K.Denot × g.row.V.Denot)). Inserting g.K.Ord.cmp g.P.Inx.BasePtrInx.most c.args.self.now c.args.pairs.items c.loop-next.self xs) is c.loop-next.invariant.inserting
 
 pub returns-then-is_last_greater : goal.returns-then-is_last_greater
-returns-then-is_last_greater g c = record {
-  ok = search rules;
-  unsorted = λ at is.
-      let place : c.len.result - c.len-before.result ≡ at = cc in
-      let last = last-greater g.K.Ord.cmp c.in-Some.k c.loop-k.self.entries (sym c.is_last_greater.ensures.value ∙ c.if-is_last_greater.true) in
-      record {
-        front = c.loop-k.yielded;
-        pair = (c.in-Some.k, c.in-Some.v);
-        back = into_iter_items c.next.new.self;
-        cut = c.loop-k.invariant.cut ∙ ap (λ xs. c.loop-k.yielded ++ xs) c.in-Some.ensures.steps.0;
-        place = omega (arith, place, counted c.len.result c.len-before.result c.loop-k.self.entries c.args.self.now.entries c.loop-k.yielded c.len.ensures.value c.len-before.ensures.value c.loop-k.invariant.held);
-        in_order = (c.loop-k.self.entries, c.loop-k.invariant.held, c.len.ensures.sound.sorted);
-        smaller = subst (λ (xs : List (g.row.K.Denot × g.row.V.Denot)). IsSomeAnd (last_of None xs) (λ x. g.K.Ord.cmp x.0 c.in-Some.k ≡ Greater)) c.loop-k.invariant.held last;
-      };
-  before = λ at is.
-      let place : c.len.result - c.len-before.result ≡ at = cc in
-      let many = counted c.len.result c.len-before.result c.loop-k.self.entries c.args.self.now.entries c.loop-k.yielded c.len.ensures.value c.len-before.ensures.value c.loop-k.invariant.held in
-      c.loop-k.invariant.held ∙ ap (λ xs. map pair_of c.args.self.now.entries ++ xs) (taken-front c.args.pairs.items c.loop-k.yielded _ at c.loop-k.invariant.cut (omega (arith, place, many)));
-  part = (c.loop-k.yielded, into_iter_items c.loop-k.k-iterator, c.loop-k.invariant.cut, c.loop-k.invariant.held);
-  refused = fewer-held c.args.self.now c.loop-k.self c.args.pairs.items c.loop-k.yielded (into_iter_items c.loop-k.k-iterator) c.loop-k.invariant.cut c.loop-k.invariant.held
-      (omega (arith, ap length c.in-Some.ensures.steps.0));
-  kept = search rules;
-  generation = search rules;
-  step = c.loop-k.invariant.steps;
-  grown = search rules;
-  room = search rules;
-  full = search rules;
-  memory = search rules;
-}
+returns-then-is_last_greater g c =
+    let at = (goal.at.returns-then-is_last_greater g c).In-Some in
+    let first = next-first g at in
+    stopped-order g.K.Ord.cmp g.P.Inx.BasePtrInx.most c.args.self.now c.args.pairs.items c.loop-next.self c.in-Some.next.now first.0 (inserting g at first.0 first.1) c.reverse-then-is_last_greater.new.self
+    (c.reverse-then-is_last_greater.ensures.items ∙ first.1) c.is_last_greater.ensures.sound.sorted (sym c.is_last_greater.ensures.value ∙ c.if-is_last_greater.true) (c.len.result - c.len-before.result)
+    (omega (arith, c.len.ensures.value, c.len-before.ensures.value))
 
-pub returns-in-Err-default-BeyondMaxCapacity : goal.returns-in-Err-default-BeyondMaxCapacity
-returns-in-Err-default-BeyondMaxCapacity g c =
-    let now = c.loop-k.invariant in
-    subst (ExtendsSorted g.K.Ord.cmp g.P.Inx.BasePtrInx.most c.args.self.now c.args.pairs.items (Err BeyondMaxCapacity)) (sym c.in-Err-default-BeyondMaxCapacity.ensures.err)
-    (stopped g.K.Ord.cmp g.P.Inx.BasePtrInx.most c.args.self.now c.loop-k.self c.args.pairs.items c.loop-k.yielded (into_iter_items c.loop-k.k-iterator) now.cut now.held now.keeps now.steps now.generation
-    now.grown now.room (omega (arith, ap length c.in-Some.ensures.steps.0)) BeyondMaxCapacity (λ at is. absurd (cc)) (λ at is. absurd (cc)) (search rules) (λ is. absurd (cc)))
+pub returns-in-Err : goal.returns-in-Err
+returns-in-Err g c =
+    let at = (goal.at.returns-in-Err g c).In-Some in
+    let first = next-first g at in
+    let sound = c.is_last_greater.ensures.sound in
+    let stopped =
+    stopped-room g.K.Ord.cmp g.P.Inx.BasePtrInx.most c.args.self.now c.args.pairs.items c.loop-next.self c.in-Some.next.now first.0 (inserting g at first.0 first.1) c.reverse-in-Err.new.self
+    (c.reverse-in-Err.ensures.items ∙ first.1) c.in-Err.refusal
+    (λ is. let over : g.P.Inx.BasePtrInx.most < count c.loop-next.self + 1 = c.reserve.ensures.full.0 (c.in-Err.is ∙ ap (λ r. Err r) is) in omega (arith, over, sound.within, sound.limited))
+    (λ is. let short = c.reserve.ensures.memory (c.in-Err.is ∙ ap (λ r. Err r) is) in omega (arith, short, sound.within)) in
+    subst (λ (a : Sorted g.row.K.Denot g.row.V.Denot). ExtendsSorted g.K.Ord.cmp g.P.Inx.BasePtrInx.most c.args.self.now c.args.pairs.items (Err (c.reverse-in-Err.new.self, c.sorted_error.result)) a) (sym c.in-Err.ensures.err)
+    (subst (λ (e : SortedError). ExtendsSorted g.K.Ord.cmp g.P.Inx.BasePtrInx.most c.args.self.now c.args.pairs.items (Err (c.reverse-in-Err.new.self, e)) c.loop-next.self) (sym c.sorted_error.ensures) stopped)
 
-pub returns-in-Err-default-AllocError : goal.returns-in-Err-default-AllocError
-returns-in-Err-default-AllocError g c =
-    let now = c.loop-k.invariant in
-    subst (ExtendsSorted g.K.Ord.cmp g.P.Inx.BasePtrInx.most c.args.self.now c.args.pairs.items (Err AllocError)) (sym c.in-Err-default-AllocError.ensures.err)
-    (stopped g.K.Ord.cmp g.P.Inx.BasePtrInx.most c.args.self.now c.loop-k.self c.args.pairs.items c.loop-k.yielded (into_iter_items c.loop-k.k-iterator) now.cut now.held now.keeps now.steps now.generation
-    now.grown now.room (omega (arith, ap length c.in-Some.ensures.steps.0)) AllocError (λ at is. absurd (cc)) (λ at is. absurd (cc)) (λ is. absurd (cc)) (search rules))
-
-pub returns : goal.returns
-returns g c =
-    let all = cut_all c.args.pairs.items c.loop-k.yielded _ c.loop-k.invariant.cut (sym c.loop-k.invariant.left ∙ c.in-None.ensures.steps.0) in
+pub loop-next-preserved-in-Some-pop : goal.loop-next-preserved-in-Some-pop
+loop-next-preserved-in-Some-pop g c =
+    let at = (goal.at.loop-next-preserved-in-Some-pop g c).In-Some in
+    let first = next-first g at in
+    let x = c.in-Some.next.now in
+    let popped = popped-reversed c.loop-next.pairs.items c.pop.new.self.items (c.in-Some-pop.k, c.in-Some-pop.v) c.in-Some-pop.ensures.items in
+    let both : x ∷ first.0 ≡ (c.in-Some-pop.k, c.in-Some-pop.v) ∷ reverse c.pop.new.self.items = sym first.1 ∙ popped in
+    let same : x ≡ (c.in-Some-pop.k, c.in-Some-pop.v) = cc in
+    let left : first.0 ≡ reverse c.pop.new.self.items = cc in
+    let put = c.insert_in_room.ensures in
+    let reserved = inserting-reserved g.K.Ord.cmp g.P.Inx.BasePtrInx.most c.args.self.now c.args.pairs.items c.loop-next.self x first.0 (inserting g at first.0 first.1) c.reserve.new.self c.reserve.ensures.kept c.in_default-reserve.ensures.capacity in
     record {
-      ok = c.loop-k.invariant.held ∙ ap (λ xs. map pair_of c.args.self.now.entries ++ xs) all;
-      unsorted = search rules;
-      before = search rules;
-      part = (c.loop-k.yielded, into_iter_items c.loop-k.k-iterator, c.loop-k.invariant.cut, c.loop-k.invariant.held);
-      refused = search rules;
-      kept = search rules;
-      generation = search rules;
-      step = c.loop-k.invariant.steps;
-      grown = search rules;
-      room = search rules;
-      full = search rules;
-      memory = search rules;
-    }
-
-pub loop-k-init : goal.loop-k-init
-loop-k-init g c = record { cut = grind (arith, common_steps); left = grind (arith, common_steps); held = sym (append-nil (map pair_of c.args.self.now.entries)); keeps = keeps-all c.args.self.now; steps = steps-none c.args.self.now; generation = refl; grown = omega arith; room = λ _. refl }
-
-pub loop-k-preserved : goal.loop-k-preserved
-loop-k-preserved g c =
-    let p = g.P.BasePtr.numbers c.in-Ok.field-0 in
-    let now = c.loop-k.invariant in
-    let put = appended g.K.Ord.cmp c.in-Some.k g.met.K.Ord.total g.P.Inx.BasePtrInx.most c.loop-k.self c.insert.new.self p c.in-Some.v c.in-Ok.ensures.ok c.is_last_greater.ensures.sound.sorted
-    (sym c.is_last_greater.ensures.value ∙ c.if-is_last_greater.false) in
-    record {
-      cut = cut_more _ _ _ _ _ now.cut c.in-Some.ensures.steps.0;
-      left = grind (arith, common_steps);
-      held = put ∙ ap (λ xs. xs ++ (c.in-Some.k, c.in-Some.v) ∷ []) now.held ∙ append_assoc (map pair_of c.args.self.now.entries) c.loop-k.yielded ((c.in-Some.k, c.in-Some.v) ∷ []);
-      keeps = keeps-more _ _ c.args.self.now c.loop-k.self _ _ _ c.in-Ok.ensures.free c.in-Ok.ensures.ok now.keeps;
-      steps = steps-more _ _ c.args.self.now c.loop-k.self _ _ _ c.in-Ok.ensures.free c.in-Ok.ensures.ok now.generation now.steps;
-      generation = ap (λ (a : Sorted g.row.K.Denot g.row.V.Denot). a.generation) c.in-Ok.ensures.ok ∙ generation-with_entry g.K.Ord.cmp g.P.Inx.BasePtrInx.most c.loop-k.self p (c.in-Some.k, c.in-Some.v) ∙ now.generation;
-      grown =
-          let more = grown-more g.K.Ord.cmp g.P.Inx.BasePtrInx.most c.loop-k.self c.insert.new.self p (c.in-Some.k, c.in-Some.v) c.in-Ok.ensures.ok c.is_last_greater.ensures.sound.limited in
-          omega (arith, now.grown, more);
-      room = λ fits.
-          let fewer = fewer-held c.args.self.now c.loop-k.self c.args.pairs.items c.loop-k.yielded (into_iter_items c.loop-k.k-iterator) now.cut now.held (omega (arith, ap length c.in-Some.ensures.steps.0)) in
-          let same = now.room fits in
-          ap (λ (a : Sorted g.row.K.Denot g.row.V.Denot). a.capacity) c.in-Ok.ensures.ok ∙ capacity-with_entry g.K.Ord.cmp g.P.Inx.BasePtrInx.most c.loop-k.self p (c.in-Some.k, c.in-Some.v) (omega (arith, fits, same, fewer)) ∙ same;
+      inserting = subst (λ (xs : List (g.row.K.Denot × g.row.V.Denot)). Inserting g.K.Ord.cmp g.P.Inx.BasePtrInx.most c.args.self.now c.args.pairs.items c.insert_in_room.new.self xs) left
+          (inserting-more g.K.Ord.cmp g.P.Inx.BasePtrInx.most c.args.self.now c.args.pairs.items c.reserve.new.self x first.0 reserved g.met.K.Ord.total c.insert_in_room.new.self (g.P.BasePtr.numbers c.insert_in_room.result)
+          (rw (c.reserve.ensures.kept.entries) c.is_last_greater.ensures.sound.sorted) put.free (rw same put.ok) put.capacity
+          (rw (c.reserve.ensures.kept.entries) (sym c.is_last_greater.ensures.value ∙ c.if-is_last_greater.false)));
     }
