@@ -1,6 +1,6 @@
 //! Entries that get another key. They keep their pointers.
 
-ghost use Rattle.std.specs.Prelude.{◌≡◌, ◌↔◌, Err, Some, None, IfOk, OnOk, IfErr, OnErr, IsSome};
+ghost use Rattle.std.specs.Prelude.{◌≡◌, ◌↔◌, Err, Some, None, IfOk, OnOk, IfErr, OnErr, IfSome, IsSome};
 ghost use Rattle.std.specs.Option.{option_map};
 ghost use Rattle.sorted_arena.specs.Sorted.{get, count, with_key, IsSound, Updates};
 ghost use Rattle.sorted_arena.specs.Unique.{first_other, other_in_way};
@@ -65,9 +65,10 @@ impl<K: Ord, V, P: BasePtr, A: Allocator> SortedArena<K, V, P, A> {
             option_map (λ e. e.0) (get self.old (P.numbers p)) ≡ Some before) }
         ensures err { OnErr result (self.new ≡ self.old) }
         ensures sound { IsSound K.cmp P.Inx.most self.old }
-        ensures equal { IsSome (get self.old (P.numbers p))
-            → option_map P.numbers (other_in_way result)
-            ≡ first_other K.cmp (P.numbers p) k self.old.entries }
+        ensures alone { OnOk result
+            (first_other K.cmp (P.numbers p) k self.old.entries ≡ None) }
+        ensures equal { IfSome (other_in_way result) (λ q.
+            Some (P.numbers q) ≡ first_other K.cmp (P.numbers p) k self.old.entries) }
         ensures stale { (result ≡ Err (k, RekeyUniqueError.Stale))
             ↔ (get self.old (P.numbers p) ≡ None) }
         ensures back { IfErr result (λ e. e.0 ≡ k) }
