@@ -22,29 +22,25 @@ fn are_items(items: &[(u64, usize)], entries: &[Entry]) -> bool {
     true
 }
 
+/// Pairs that are drained.
+type Drained = Vec<(u64, usize)>;
+
 /// Whether a range is drained behind what a vector has.
-fn is_drained(alloc: Global, parts: Parts, from: Bound<u64>, until: Bound<u64>) -> Option<bool> {
-    let Parts {
-        mut arena,
-        within,
-        others,
-    } = parts;
-    let mut drained = Vec::new(alloc);
-    drained.push(HELD).ok()?;
-    arena.drain_range((from, until), &mut drained).ok()?;
-    let (first, rest) = drained.as_slice().split_first()?;
-    Some(*first == HELD && are_items(rest, &within) && is_left(&arena, &others, &within))
+fn is_drained(parts: &mut Parts, bounds: (Bound<u64>, Bound<u64>), drained: &mut Drained) -> bool {
+    if drained.push(HELD).is_err() || parts.arena.drain_range(bounds, drained).is_err() {
+        return false;
+    }
+    let Some((first, rest)) = drained.as_slice().split_first() else {
+        return false;
+    };
+    let is_right = *first == HELD && are_items(rest, &parts.within);
+    is_right && is_left(&parts.arena, &parts.others, &parts.within)
 }
 
 /// Whether a range is removed.
-fn is_removed(parts: Parts, from: Bound<u64>, until: Bound<u64>) -> bool {
-    let Parts {
-        mut arena,
-        within,
-        others,
-    } = parts;
-    let count = arena.remove_range((from, until));
-    count == within.len() && is_left(&arena, &others, &within)
+fn is_removed(parts: &mut Parts, bounds: (Bound<u64>, Bound<u64>)) -> bool {
+    let count = parts.arena.remove_range(bounds);
+    count == parts.within.len() && is_left(&parts.arena, &parts.others, &parts.within)
 }
 
 /// The first bounds between which an arena of n keys in this order isn't emptied as the vector is.
@@ -52,15 +48,16 @@ fn wrong_bounds(alloc: Global, n: usize, number: usize) -> Option<(u64, u64)> {
     for from in 0..BOUNDS {
         for until in 0..BOUNDS {
             let bounds = (bound(from), bound(until));
+            let mut drained = Vec::new(alloc);
             let is_drained = match parted(alloc, n, number, bounds.0, bounds.1) {
-                Some(parts) => is_drained(alloc, parts, bounds.0, bounds.1),
-                None => None,
-            };
-            let is_removed = match parted(alloc, n, number, bounds.0, bounds.1) {
-                Some(parts) => is_removed(parts, bounds.0, bounds.1),
+                Some(mut parts) => is_drained(&mut parts, bounds, &mut drained),
                 None => false,
             };
-            if is_drained != Some(true) || !is_removed {
+            let is_removed = match parted(alloc, n, number, bounds.0, bounds.1) {
+                Some(mut parts) => is_removed(&mut parts, bounds),
+                None => false,
+            };
+            if !is_drained || !is_removed {
                 return Some((from, until));
             }
         }

@@ -1,5 +1,5 @@
 //! Searches by a closure, places, and removals that return pointers, over the orders of up to three keys, beside the vector.
-use crate::support::{Beside, Entry, ORDERS, are_alike, beside_of};
+use crate::support::{Beside, Entry, Numbers, ORDERS, are_alike, beside_of};
 use sorted_arena::{BasePtr, P0};
 use std::alloc::Global;
 
@@ -57,53 +57,66 @@ fn are_placed(beside: &Beside) -> bool {
 }
 
 /// Whether the first or the last entries come out one after another, up to a key, and the others stay.
-fn are_popped(beside: Beside, until: u64) -> bool {
-    let Beside { mut arena, entries } = beside;
-    let due = rank(&entries, until.saturating_add(1));
+fn are_popped(beside: &mut Beside, until: u64) -> bool {
+    let Beside { arena, entries } = beside;
+    let due = rank(entries, until.saturating_add(1));
     if due > entries.len() {
         return false;
     }
     for place in 0..due {
-        if arena.pop_first_entry_until(&until) != parts(&entries, place) {
+        if arena.pop_first_entry_until(&until) != parts(entries, place) {
             return false;
         }
     }
-    if arena.pop_first_entry_until(&until) != None || !are_alike(&arena, &entries[due..]) {
+    if arena.pop_first_entry_until(&until) != None || !are_alike(arena, &entries[due..]) {
         return false;
     }
-    if due < entries.len() && arena.pop_last_entry() != parts(&entries, entries.len() - 1) {
+    if due < entries.len() && arena.pop_last_entry() != parts(entries, entries.len() - 1) {
         return false;
     }
-    due + 1 >= entries.len() || arena.pop_first_entry() == parts(&entries, due)
+    due + 1 >= entries.len() || arena.pop_first_entry() == parts(entries, due)
+}
+
+/// Pointers with their keys and values.
+type Drained = Vec<(P0, u64, usize)>;
+
+/// Whether the entries up to a key are drained by a range, or popped, without a lack of memory.
+fn is_drained(arena: &mut Numbers, until: u64, by_range: bool, drained: &mut Drained) -> bool {
+    if by_range {
+        arena.drain_entries(..=until, drained).is_ok()
+    } else {
+        arena.pop_entries_until(&until, drained).is_ok()
+    }
+}
+
+/// Whether these are the first entries, in order.
+fn are_first(entries: &[Entry], given: &[(P0, u64, usize)]) -> bool {
+    for place in 0..given.len() {
+        if given.get(place).copied() != parts(entries, place) {
+            return false;
+        }
+    }
+    true
 }
 
 /// Whether the entries up to a key come out behind what a vector has.
-fn are_drained(alloc: Global, beside: Beside, until: u64, by_range: bool) -> Option<bool> {
-    let Beside { mut arena, entries } = beside;
-    let due = rank(&entries, until.saturating_add(1));
-    if due > entries.len() {
-        return Some(false);
-    }
+fn are_drained(beside: &mut Beside, until: u64, by_range: bool, drained: &mut Drained) -> bool {
+    let Beside { arena, entries } = beside;
+    let due = rank(entries, until.saturating_add(1));
     let held = (P0::_from_raw(9, 9), 9, 9);
-    let mut drained = Vec::new(alloc);
-    drained.push(held).ok()?;
-    if by_range {
-        arena.drain_entries(..=until, &mut drained).ok()?;
-    } else {
-        arena.pop_entries_until(&until, &mut drained).ok()?;
+    if drained.push(held).is_err() || !is_drained(arena, until, by_range, drained) {
+        return false;
     }
-    let (first, rest) = drained.as_slice().split_first()?;
-    for place in 0..due {
-        if rest.get(place).copied() != parts(&entries, place) {
-            return Some(false);
-        }
-    }
-    Some(*first == held && rest.len() == due && are_alike(&arena, &entries[due..]))
+    let Some((first, rest)) = drained.as_slice().split_first() else {
+        return false;
+    };
+    let is_right = *first == held && rest.len() == due && are_first(entries, rest);
+    is_right && due <= entries.len() && are_alike(arena, &entries[due..])
 }
 
 /// Whether a key is found, or inserted, and its entry is removed by it.
-fn is_found_or_inserted(beside: Beside, k: u64) -> Option<bool> {
-    let Beside { mut arena, entries } = beside;
+fn is_found_or_inserted(beside: &mut Beside, k: u64) -> Option<bool> {
+    let Beside { arena, entries } = beside;
     let before = arena.find(&k);
     let (p, back) = arena.find_or_insert(k, 77).ok()?;
     let is_right = match before {
@@ -114,19 +127,32 @@ fn is_found_or_inserted(beside: Beside, k: u64) -> Option<bool> {
     Some(is_right && (q, key) == (p, k) && !arena.contains(p))
 }
 
+/// Whether an arena of n keys in this order is searched and popped as the vector.
+fn is_searched(alloc: Global, n: usize, number: usize, k: u64) -> Option<bool> {
+    let mut beside = beside_of(alloc, n, number)?;
+    Some(is_found(&beside, k) && are_placed(&beside) && are_popped(&mut beside, k))
+}
+
+/// Whether such an arena is drained as the vector.
+fn is_emptied(alloc: Global, n: usize, number: usize, k: u64) -> Option<bool> {
+    let mut beside = beside_of(alloc, n, number)?;
+    let mut drained = Vec::new(alloc);
+    Some(are_drained(&mut beside, k, number % 2 == 0, &mut drained))
+}
+
+/// Whether such an arena finds or inserts a key, and removes its entry.
+fn is_changed(alloc: Global, n: usize, number: usize, k: u64) -> Option<bool> {
+    is_found_or_inserted(&mut beside_of(alloc, n, number)?, k)
+}
+
 #[test]
 fn entries_are_found_placed_and_removed_as_in_a_vector(rt: HostRuntime) {
     for (n, orders) in &ORDERS[..4] {
         for number in 0..*orders {
             for k in 0..ASKED {
-                let alloc = rt.alloc();
-                let beside = beside_of(alloc, *n, number).expect(&rt, "memory");
-                assert!(rt; is_found(&beside, k) && are_placed(&beside));
-                assert!(rt; are_popped(beside, k));
-                let beside = beside_of(alloc, *n, number).expect(&rt, "memory");
-                assert_eq!(rt; are_drained(alloc, beside, k, number % 2 == 0), Some(true));
-                let beside = beside_of(alloc, *n, number).expect(&rt, "memory");
-                assert_eq!(rt; is_found_or_inserted(beside, k), Some(true));
+                assert_eq!(rt; is_searched(rt.alloc(), *n, number, k), Some(true));
+                assert_eq!(rt; is_emptied(rt.alloc(), *n, number, k), Some(true));
+                assert_eq!(rt; is_changed(rt.alloc(), *n, number, k), Some(true));
             }
         }
     }

@@ -3,6 +3,7 @@ use crate::support::{BOUNDS, Entry, Numbers, ORDERS, bound, gives, is_from, is_u
 use sorted_arena::{P0, Range};
 use std::alloc::Global;
 use std::ops::Bound;
+use std::process::Abort;
 
 /// The entries whose keys are between these bounds, as a stretch of the vector. There are none if the range runs backwards.
 fn stretch<'e>(entries: &'e [Entry], from: Bound<u64>, until: Bound<u64>) -> &'e [Entry] {
@@ -82,14 +83,22 @@ fn has_values(alloc: Global, range: Range<'_, u64, usize, P0>, wanted: &[usize])
 #[test]
 fn range_expressions_select_entries_by_key(rt: HostRuntime) {
     let arena = tens(rt.alloc()).expect(&rt, "memory");
-    assert!(rt; has_values(rt.alloc(), arena.range(..), &[0, 1, 2, 3, 4]));
-    assert!(rt; has_values(rt.alloc(), arena.range(20..40), &[1, 2, 3]));
-    assert!(rt; has_values(rt.alloc(), arena.range(20..=40), &[1, 2, 3, 4]));
-    assert!(rt; has_values(rt.alloc(), arena.range(21..), &[3, 4]));
-    assert!(rt; has_values(rt.alloc(), arena.range(..20), &[0]));
-    assert!(rt; has_values(rt.alloc(), arena.range(..=20), &[0, 1, 2]));
-    // no panic where std's maps have one
-    assert!(rt; has_values(rt.alloc(), arena.range(40..20), &[]));
+    check_expressions(&rt, rt.alloc(), &arena);
+    check_empty(&rt, rt.alloc(), &arena);
+}
+
+fn check_expressions(rt: &impl Abort, alloc: Global, arena: &Numbers) {
+    assert!(rt; has_values(alloc, arena.range(..), &[0, 1, 2, 3, 4]));
+    assert!(rt; has_values(alloc, arena.range(20..40), &[1, 2, 3]));
+    assert!(rt; has_values(alloc, arena.range(20..=40), &[1, 2, 3, 4]));
+    assert!(rt; has_values(alloc, arena.range(21..), &[3, 4]));
+    assert!(rt; has_values(alloc, arena.range(..20), &[0]));
+    assert!(rt; has_values(alloc, arena.range(..=20), &[0, 1, 2]));
+}
+
+/// Ranges at which std's maps panic.
+fn check_empty(rt: &impl Abort, alloc: Global, arena: &Numbers) {
+    assert!(rt; has_values(alloc, arena.range(40..20), &[]));
     let nothing = (Bound::Excluded(20), Bound::Excluded(20));
-    assert!(rt; has_values(rt.alloc(), arena.range(nothing), &[]));
+    assert!(rt; has_values(alloc, arena.range(nothing), &[]));
 }

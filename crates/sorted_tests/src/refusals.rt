@@ -14,8 +14,11 @@ fn new_heap(alloc: Global) -> Option<LocalHeap> {
     LocalHeap::new(alloc, 1 << 13).ok()
 }
 
+/// A block of a heap.
+type Block<'h> = Vec<u8, &'h LocalHeap>;
+
 /// A block that takes the room of a heap but for so many units of 16 bytes.
-fn leave<'h>(heap: &'h LocalHeap, units: usize) -> Option<Vec<u8, &'h LocalHeap>> {
+fn leave<'h>(heap: &'h LocalHeap, units: usize) -> Option<Block<'h>> {
     let room = heap.free().saturating_sub(units.saturating_mul(16));
     Vec::with_capacity(heap, room).ok()
 }
@@ -146,22 +149,33 @@ fn is_done(
     }
 }
 
-/// Makes nine calls where so much of a heap is left. All is given back once one is refused, and it is made again. Answers how many were
-/// done before that, or `None` if one goes wrong.
-fn done_before(alloc: Global, heap: &LocalHeap, call: Call, units: usize) -> Option<usize> {
-    let mut rest = Some(leave(heap, units)?);
-    let mut arena = OnHeap::new(heap);
-    let mut entries = Vec::new(alloc);
+/// Makes nine calls. The block is given back once one is refused, which is then made again. Answers how many were done before that, or
+/// `None` if one goes wrong.
+fn calls_done<'h>(
+    alloc: Global,
+    arena: &mut OnHeap<'h>,
+    entries: &mut Vec<Entry>,
+    call: Call,
+    block: &mut Option<Block<'h>>,
+) -> Option<usize> {
     let mut held = 9;
     for turn in 0u64..9 {
-        if !is_done(alloc, &mut arena, &mut entries, call, turn)? {
-            held = rest.take().and(Some(entries.len()))?;
-            if !is_done(alloc, &mut arena, &mut entries, call, turn)? {
+        if !is_done(alloc, arena, entries, call, turn)? {
+            held = block.take().and(Some(entries.len()))?;
+            if !is_done(alloc, arena, entries, call, turn)? {
                 return None;
             }
         }
     }
-    are_alike(&arena, &entries).then_some(held)
+    are_alike(arena, entries).then_some(held)
+}
+
+/// Does so with a new arena, where so much of a heap is left at first.
+fn done_before(alloc: Global, heap: &LocalHeap, call: Call, units: usize) -> Option<usize> {
+    let mut block = Some(leave(heap, units)?);
+    let mut arena = OnHeap::new(heap);
+    let mut entries = Vec::new(alloc);
+    calls_done(alloc, &mut arena, &mut entries, call, &mut block)
 }
 
 /// How many calls were done before one was refused, for each room from nothing until none is refused; `None` if one goes wrong, or the

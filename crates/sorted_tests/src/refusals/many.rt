@@ -118,54 +118,105 @@ enum Move {
     Clone,
 }
 
-/// Pops five of nine entries into a vector, or drains them, where so much of a heap is left, and once more when all is given back. If the
-/// first call is refused, nothing changes. Answers whether it was refused, or `None` if anything goes wrong.
-fn takes(alloc: Global, heap: &LocalHeap, call: Move, units: usize) -> Option<bool> {
-    let mut arena = Numbers::from_sorted(alloc, rising(alloc, 0)?).ok()?;
-    let mut taken = Vec::new(heap);
-    let rest = leave(heap, units)?;
-    let was_refused = match call {
-        Move::Pop => arena.pop_until(&4, &mut taken).is_err(),
-        _ => arena.drain_range(..5, &mut taken).is_err(),
+/// Pairs on a heap.
+type Taken<'h> = Vec<(u64, usize), &'h LocalHeap>;
+
+/// Pops five of nine entries into a vector, or drains them, where so much of a heap is left. Answers whether that is refused, or `None` if
+/// anything has changed all the same.
+fn refuses_to_take<'h>(
+    heap: &'h LocalHeap,
+    arena: &mut Numbers,
+    taken: &mut Taken<'h>,
+    call: Move,
+    units: usize,
+) -> Option<bool> {
+    let _block = leave(heap, units)?;
+    let is_refused = match call {
+        Move::Pop => arena.pop_until(&4, taken).is_err(),
+        _ => arena.drain_range(..5, taken).is_err(),
     };
-    if was_refused && (arena.len(), taken.len()) != (9, 0) {
-        return None;
-    }
-    drop(rest);
+    let is_kept = (arena.len(), taken.len()) == (9, 0);
+    (is_kept || !is_refused).then_some(is_refused)
+}
+
+/// An arena of the pairs with the keys from one number until before nine.
+fn rising_arena(alloc: Global, from: u64) -> Option<Numbers> {
+    Numbers::from_sorted(alloc, rising(alloc, from)?).ok()
+}
+
+/// Does so, and once more when all is given back. Answers whether the first call was refused, or `None` if anything goes wrong.
+fn takes(alloc: Global, heap: &LocalHeap, call: Move, units: usize) -> Option<bool> {
+    let mut arena = rising_arena(alloc, 0)?;
+    let mut taken = Vec::new(heap);
+    let was_refused = refuses_to_take(heap, &mut arena, &mut taken, call, units);
     let is_done = arena.drain_range(..5, &mut taken).is_ok();
-    (is_done && (arena.len(), taken.len()) == (4, 5)).then_some(was_refused)
+    if is_done && (arena.len(), taken.len()) == (4, 5) {
+        was_refused
+    } else {
+        None
+    }
+}
+
+/// Splits nine entries at the fifth, as [`refuses_to_take`].
+fn refuses_to_split<'h>(heap: &'h LocalHeap, arena: &mut OnHeap<'h>, units: usize) -> Option<bool> {
+    let _block = leave(heap, units)?;
+    let is_refused = arena.split_off(heap, &4).is_err();
+    (count(arena) == Some(9) || !is_refused).then_some(is_refused)
+}
+
+/// Whether five entries are split off at the fifth.
+fn is_split<'h>(heap: &'h LocalHeap, arena: &mut OnHeap<'h>) -> bool {
+    match arena.split_off(heap, &4) {
+        Ok(moved) => moved.len() == 5,
+        Err(_) => false,
+    }
 }
 
 /// Splits nine entries at the fifth, as [`takes`].
 fn splits(alloc: Global, heap: &LocalHeap, units: usize) -> Option<bool> {
     let mut arena = filled(alloc, heap, 9)?;
-    let rest = leave(heap, units)?;
-    let was_refused = arena.split_off(heap, &4).is_err();
-    if was_refused && count(&arena) != Some(9) {
-        return None;
+    let was_refused = refuses_to_split(heap, &mut arena, units);
+    let is_done = was_refused == Some(false) || is_split(heap, &mut arena);
+    if is_done && count(&arena) == Some(4) {
+        was_refused
+    } else {
+        None
     }
-    drop(rest);
-    if was_refused {
-        let moved = arena.split_off(heap, &4).ok()?;
-        if moved.len() != 5 {
-            return None;
-        }
+}
+
+/// Takes five entries in behind four, as [`refuses_to_take`].
+fn refuses_to_append<'h>(
+    heap: &'h LocalHeap,
+    arena: &mut OnHeap<'h>,
+    other: &mut Numbers,
+    units: usize,
+) -> Option<bool> {
+    let _block = leave(heap, units)?;
+    let is_refused = arena.append(other).is_err();
+    let is_kept = (count(arena), other.len()) == (Some(4), 5);
+    (is_kept || !is_refused).then_some(is_refused)
+}
+
+/// Takes these five entries in behind four, as [`takes`].
+fn appends_to_four(
+    alloc: Global,
+    heap: &LocalHeap,
+    other: &mut Numbers,
+    units: usize,
+) -> Option<bool> {
+    let mut arena = filled(alloc, heap, 4)?;
+    let was_refused = refuses_to_append(heap, &mut arena, other, units);
+    let is_done = arena.append(other).is_ok();
+    if is_done && (count(&arena), other.len()) == (Some(9), 0) {
+        was_refused
+    } else {
+        None
     }
-    (count(&arena) == Some(4)).then_some(was_refused)
 }
 
 /// Takes five entries in behind four, as [`takes`].
 fn appends(alloc: Global, heap: &LocalHeap, units: usize) -> Option<bool> {
-    let mut other = Numbers::from_sorted(alloc, rising(alloc, 4)?).ok()?;
-    let mut arena = filled(alloc, heap, 4)?;
-    let rest = leave(heap, units)?;
-    let was_refused = arena.append(&mut other).is_err();
-    if was_refused && (count(&arena), other.len()) != (Some(4), 5) {
-        return None;
-    }
-    drop(rest);
-    let is_done = arena.append(&mut other).is_ok();
-    (is_done && (count(&arena), other.len()) == (Some(9), 0)).then_some(was_refused)
+    appends_to_four(alloc, heap, &mut rising_arena(alloc, 4)?, units)
 }
 
 /// Clones nine entries, as [`takes`].
