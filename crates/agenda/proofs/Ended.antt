@@ -1,5 +1,5 @@
 -- Tickets that ended stay so.
-use Rattle.std.proofs.Common.{◌≡◌, ℕ, ◌≤◌, List, [], ◌∷◌, sym, subst}
+use Rattle.std.proofs.Common.{◌≤◌, List, [], ◌∷◌, sym, subst}
 use Rattle.listing.specs.Steps.{KeepsEnded}
 use Rattle.listing.proofs.CallerLemmas.{ended_pointer, goes_on, nowhere, then}
 use Rattle.agenda.specs.Agenda.{Agenda}

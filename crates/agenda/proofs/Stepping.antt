@@ -1,13 +1,14 @@
 -- That each call is a step of an agenda.
-use Rattle.std.proofs.Common.{◌≡◌, ◌≢◌, ℕ, List, [], Bool, true, false, Option, Some, None, IfNone, OnSome, IsSome, is_some, refl, sym, ap, subst, ◌∙◌, inl, inr, ◌⊎◌, arith, if◌then◌else◌, ◌+◌}
+use Rattle.std.proofs.Common.{◌≡◌, ◌≢◌, ℕ, List, [], true, Option, Some, None, IsSome, is_some, refl, sym, ap, subst, ◌∙◌, inl, inr, ◌⊎◌, arith, if◌then◌else◌, ◌+◌, ◌-◌, length}
 use Rattle.std.specs.Ordering.{nat_cmp}
-use Rattle.std.proofs.lemmas.Bool.Decides.{eqb_tells}
+use Rattle.std.proofs.lemmas.{Bool.cases_eq, Bool.Decides.eqb_tells}
 use Rattle.listing.specs.{Chain.Entry, Chain.item_of, Chain.IsDistinct, Chain.without, Generation.next_generation}
 use Rattle.listing.specs.Steps.{Raises}
 use Rattle.listing.proofs.CallerLemmas.{generation-with_entry}
 use Rattle.listing.proofs.CallerLemmas.{step-stays, step-without_entry, step-with_entry, none-with_entry, step-with_key, none-with_key, step-emptied}
-use Rattle.agenda.specs.Agenda.{Agenda, get, greatest_generation, most_entries, with_entry, with_key, with_left, without_entry, IsFree, Reschedules}
+use Rattle.agenda.specs.Agenda.{Agenda, get, count, greatest_generation, most_entries, with_entry, with_key, with_left, with_rest, without_entry, IsFree, IsSound, Reschedules}
 use Rattle.agenda.specs.Tickets.{IsStep}
+use Rattle.agenda.proofs.Parts.{IsPartOf, part-shorter, part-whole, found-part, generation-apart}
 
 next-other : (g : ℕ) → next_generation greatest_generation g ≢ g
 next-other g same = elim (eqb_tells g 18446744073709551615) [
@@ -76,3 +77,17 @@ module _ {J : Type 0} (old : Agenda J) where
         comes = record { comes = λ q none there. absurd (let lost : is_some (get new q) ≡ is_some {T = ℕ × J} None = ap is_some (found q ∙ none) in cc) };
         raises = inl (λ q there. subst (λ (o : Option (ℕ × J)). IsSome o) (sym (found q)) there);
       }
+
+  -- some jobs leave
+  pub thins : (new : Agenda J) → IsSound nat_cmp most_entries old → IsPartOf new.entries old.entries → new ≡ with_rest greatest_generation old new.entries → IsStep old new
+  unfolding IsStep Raises
+  thins new sound part is = record { comes = record { comes = λ q none there. absurd (gone q none there) }; raises = go (cases_eq (length new.entries) (length old.entries)) }
+    where
+      gone : (q : ℕ × ℕ) → get old q ≡ None → IsSome (get new q) → ⊥
+      gone q none there = let lost : is_some (get old q) ≡ is_some {T = ℕ × J} None = ap is_some none in
+          let found : is_some (get old q) ≡ true = found-part new.entries old.entries q part sound.distinct there in cc
+
+      go : (length new.entries ≡ length old.entries) ⊎ (length new.entries ≢ length old.entries) → ((q : ℕ × ℕ) → IsSome (get old q) → IsSome (get new q)) ⊎ (new.generation ≢ old.generation)
+      go (inl all) = inl (λ q there. subst (λ (es : List (Entry (ℕ × J))). IsSome (item_of es q)) (sym (part-whole new.entries old.entries part all)) there)
+      go (inr fewer) = inr (λ same. generation-apart old.generation (count old - length new.entries) (omega (arith, fewer, part-shorter new.entries old.entries part)) (omega (arith, sound.within, sound.limited))
+          (sym (ap (λ (a : Agenda J). a.generation) is) ∙ same))

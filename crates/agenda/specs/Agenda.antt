@@ -9,8 +9,8 @@ pub use Rattle.listing.specs.Chain.{greatest_index}
 pub use Rattle.listing.specs.Chain.{item_of, without}
 -- the words for what an agenda is, and for what a call makes of it
 pub use Rattle.listing.specs.Listing.{Listing, Entry, IsDistinct, get, count, key_of, value_of, entry_of, pointer_of, first_item, first_item_until, put_behind}
-pub use Rattle.listing.specs.Listing.{with_left, Updates, IsFree, IsSound, AreSorted}
-unfoldable pub use Rattle.listing.specs.Listing.{with_entry, with_key, without_entry, without_first}
+pub use Rattle.listing.specs.Listing.{with_left, with_rest, entries_until, entries_above, Updates, Keeps, IsFree, IsSound, AreSorted}
+unfoldable pub use Rattle.listing.specs.Listing.{with_entry, with_key, with_passing, without_entry, without_first}
 
 -- an agenda: an entry's key is the deadline of its job, and its value is the job
 abbrev pub Agenda : Type 0 → Type 0
@@ -24,6 +24,10 @@ module _ {J : Type 0} where
   -- a job as it is shown: its ticket, its deadline, and a reference to it
   abbrev pub shown_job : (ℕ × ℕ) × ℕ × Bor J → Entry (ℕ × J)
   shown_job x = entry_of x.0 (x.1, x.2.now)
+
+  -- a job as a call gives it: its ticket, its deadline and itself
+  abbrev pub given_job : (ℕ × ℕ) × ℕ × J → Entry (ℕ × J)
+  given_job x = entry_of x.0 (x.1, x.2)
 
   -- the deadline of the first job
   abbrev pub first_deadline : List (Entry (ℕ × J)) → Option ℕ

@@ -8,10 +8,13 @@ ghost use Rattle.agenda.specs.Agenda.{with_entry, with_key, without_entry, witho
 ghost use Rattle.agenda.specs.Tickets.{HasNoLaterTicket, IsStep};
 
 mod debug;
+mod from;
 mod look;
 mod room;
+mod take;
 
 use crate::ticket::Ticket;
+pub use from::IterFrom;
 use listing::{insert_behind, insert_behind_within};
 use std::alloc::{Allocator, Global};
 use std::marker::Model;

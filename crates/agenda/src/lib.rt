@@ -3,11 +3,13 @@
 #![tactic(auto)]
 
 mod agenda;
+mod due;
 mod iter;
 pub mod laws;
 mod ticket;
 
-pub use agenda::Agenda;
+pub use agenda::{Agenda, IterFrom};
+pub use due::Due;
 pub use iter::Iter;
 pub use ticket::Ticket;
 pub use triple_ord::ReallocationError;

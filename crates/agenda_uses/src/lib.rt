@@ -3,3 +3,4 @@
 
 pub mod periodic;
 pub mod reminders;
+pub mod sessions;

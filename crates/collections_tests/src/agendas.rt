@@ -1,4 +1,5 @@
 //! Agendas of letters, from a program's view.
+mod due;
 mod room;
 mod sequences;
 

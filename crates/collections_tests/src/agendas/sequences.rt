@@ -5,18 +5,18 @@ use std::alloc::Global;
 
 /// A job in the plain list.
 #[derive(Clone, Copy, PartialEq, Eq)]
-struct Job {
-    ticket: Ticket,
-    deadline: u64,
-    letter: char,
+pub(super) struct Job {
+    pub(super) ticket: Ticket,
+    pub(super) deadline: u64,
+    pub(super) letter: char,
 }
 
 /// An agenda beside the plain list of its jobs, in the order in which they leave, and all tickets in the order of their issue.
 #[derive(Drop)]
-struct Beside {
-    letters: Letters,
-    jobs: Vec<Job>,
-    tickets: Vec<Ticket>,
+pub(super) struct Beside {
+    pub(super) letters: Letters,
+    pub(super) jobs: Vec<Job>,
+    pub(super) tickets: Vec<Ticket>,
 }
 
 /// Puts a job into the list, behind all whose deadline is at most its own.
@@ -52,7 +52,7 @@ fn without_ticket(job: Option<Job>) -> Option<(u64, char)> {
 const LETTERS: [char; 8] = ['a', 'b', 'c', 'd', 'e', 'f', 'g', 'h'];
 
 /// Schedules the next letter.
-fn schedule(beside: &mut Beside, deadline: u64) -> bool {
+pub(super) fn schedule(beside: &mut Beside, deadline: u64) -> bool {
     let letter = LETTERS[beside.tickets.len() % 8];
     let Ok(ticket) = beside.letters.schedule(deadline, letter) else {
         return false;
@@ -162,7 +162,7 @@ fn is_made(beside: &mut Beside, call: Call) -> bool {
 }
 
 /// Returns whether the agenda shows exactly the jobs of the list, in its order, and by their tickets.
-fn show_alike(beside: &Beside) -> bool {
+pub(super) fn show_alike(beside: &Beside) -> bool {
     let mut place = 0usize;
     for (ticket, deadline, letter) in beside.letters.iter() {
         let Some(job) = beside.jobs.get(place) else {

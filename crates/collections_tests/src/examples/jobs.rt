@@ -128,3 +128,74 @@ fn try_clone_in(rt: &impl Abort, agenda: &mut Agenda<&'static str>) -> Result<()
     assert_eq!(rt; copy.get(tea), Some((10, &"tea")));
     Ok(())
 }
+
+#[test]
+fn pop_due_entry(rt: HostRuntime) -> Result<(), Fail> {
+    pop_due_entry_in(&rt, &mut Agenda::new(rt.alloc()))
+}
+
+fn pop_due_entry_in(rt: &impl Abort, agenda: &mut Agenda<&'static str>) -> Result<(), Fail> {
+    let tea = agenda.schedule(10, "tea").map_err(|refused| refused.1)?;
+    assert_eq!(rt; agenda.pop_due_entry(9), None);
+    assert_eq!(rt; agenda.pop_due_entry(10), Some((tea, 10, "tea")));
+    assert!(rt; !agenda.contains(tea));
+    Ok(())
+}
+
+#[test]
+fn iter_from(rt: HostRuntime) -> Result<(), Fail> {
+    let mut agenda: Agenda<&str> = Agenda::new(rt.alloc());
+    let tea = agenda.schedule(10, "tea").map_err(|refused| refused.1)?;
+    agenda.schedule(5, "milk").map_err(|refused| refused.1)?;
+    let report = agenda.schedule(30, "report").map_err(|refused| refused.1)?;
+    let mut jobs = agenda.iter_from(tea).expect(&rt, "a job");
+    assert_eq!(rt; jobs.next(), Some((tea, 10, &"tea")));
+    assert_eq!(rt; jobs.next(), Some((report, 30, &"report")));
+    assert_eq!(rt; jobs.next(), None);
+    Ok(())
+}
+
+#[test]
+fn due(rt: HostRuntime) -> Result<(), Fail> {
+    due_in(&rt, &mut Agenda::new(rt.alloc()))
+}
+
+fn due_in(rt: &impl Abort, agenda: &mut Agenda<&'static str>) -> Result<(), Fail> {
+    agenda.schedule(30, "report").map_err(|refused| refused.1)?;
+    let tea = agenda.schedule(10, "tea").map_err(|refused| refused.1)?;
+    let mut due = agenda.due(20);
+    assert_eq!(rt; due.next(), Some((tea, 10, &"tea")));
+    assert_eq!(rt; due.next(), None);
+    Ok(())
+}
+
+#[test]
+fn count_due(rt: HostRuntime) -> Result<(), Fail> {
+    count_due_in(&rt, &mut Agenda::new(rt.alloc()))
+}
+
+fn count_due_in(rt: &impl Abort, agenda: &mut Agenda<&'static str>) -> Result<(), Fail> {
+    agenda.schedule(30, "report").map_err(|refused| refused.1)?;
+    agenda.schedule(10, "tea").map_err(|refused| refused.1)?;
+    assert_eq!(rt; agenda.count_due(20), 1);
+    assert_eq!(rt; agenda.count_due(30), 2);
+    Ok(())
+}
+
+#[test]
+fn pop_all_due(rt: HostRuntime) -> Result<(), Fail> {
+    pop_all_due_in(&rt, &mut Agenda::new(rt.alloc()))
+}
+
+fn pop_all_due_in(
+    rt: &(impl Abort + AllocGlobal),
+    agenda: &mut Agenda<&'static str>,
+) -> Result<(), Fail> {
+    agenda.schedule(30, "report").map_err(|refused| refused.1)?;
+    let tea = agenda.schedule(10, "tea").map_err(|refused| refused.1)?;
+    let mut popped = Vec::new(rt.alloc());
+    agenda.pop_all_due(20, &mut popped)?;
+    assert!(rt; popped.iter().eq(&[(tea, 10, "tea")]));
+    assert_eq!(rt; agenda.next_deadline(), Some(30));
+    Ok(())
+}

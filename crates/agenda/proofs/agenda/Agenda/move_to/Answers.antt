@@ -1,4 +1,4 @@
-use Rattle.std.proofs.Common.{◌≡◌, ◌∙◌, sym, ap, subst, ℕ, rules}
+use Rattle.std.proofs.Common.{◌∙◌, sym, ap, subst, rules}
 use Rattle.std.specs.Ordering.{nat_cmp}
 use Rattle.listing.specs.Held.{Puts}
 use Rattle.listing.proofs.CallerLemmas.{removed-held, removed-listing}

@@ -1,4 +1,4 @@
-use Rattle.std.proofs.Common.{ap, ◌∙◌, arith}
+use Rattle.std.proofs.Common.{ap, arith}
 use Rattle.agenda.proofs.agenda.Agenda.try_clone.Goals as goal
 
 pub returns-clause-capacity : goal.returns-clause-capacity

@@ -1,0 +1,54 @@
+//! Sessions: users by the time at which their session ends. A map from user to ticket is kept in step by the tickets that come back.
+
+ghost use Rattle.std.specs.Prelude.{◌≡◌, ◌≢◌, ◌+◌, ◌<◌, ℕ, nat_lt, length, Some, None, IfSome, IfNone, OnSome, OnOk, OnErr};
+ghost use Rattle.std.specs.List.{All};
+ghost use Rattle.std.specs.Option.{option_map};
+ghost use Rattle.std.specs.Ordering.{nat_cmp};
+ghost use Rattle.agenda.specs.Gap.{first_of};
+ghost use Rattle.agenda.specs.Agenda.{get, count, key_of, entries_until, shown_job};
+
+use agenda::{Agenda, Ticket};
+use std::alloc::AllocError;
+
+/// Users by the time at which their session ends.
+pub type Sessions = Agenda<u64>;
+
+/// Ends the first session whose time has come, and returns its ticket, by which its user is found elsewhere. It names nothing any more.
+pub fn end_first(sessions: &mut Sessions, now: u64) -> Option<(Ticket, u64)>
+    ensures named { IfSome result (λ ended. option_map (λ session. session.1) (get sessions.old ended.0)
+        ≡ Some ended.1) }
+    ensures ended { IfSome result (λ ended. get sessions.new ended.0 ≡ None) }
+    ensures others { IfSome result (λ ended. (t : ℕ × ℕ) → t ≢ ended.0
+        → get sessions.new t ≡ get sessions.old t) }
+    ensures count { OnSome result (count sessions.old ≡ count sessions.new + 1) }
+    ensures none { IfNone result (sessions.new ≡ sessions.old) }
+{
+    let (ticket, _, user) = sessions.pop_due_entry(now)?;
+    Some((ticket, user))
+}
+
+/// Ends all sessions whose time has come, and appends them to a vector. On `Err` none has ended.
+pub fn end_all(
+    sessions: &mut Sessions,
+    now: u64,
+    ended: &mut Vec<(Ticket, u64, u64)>,
+) -> Result<(), AllocError>
+    ensures left { OnOk result (All (λ session. now < key_of session) sessions.new.entries) }
+    ensures refused { OnErr result (sessions.new ≡ sessions.old) }
+{
+    sessions.pop_all_due(now, ended)
+}
+
+/// Whether more sessions than this wait to be ended.
+pub fn is_behind(sessions: &Sessions, now: u64, most: usize) -> bool
+    ensures { result ≡ nat_lt most (length (entries_until nat_cmp now sessions.now.entries)) }
+{
+    sessions.count_due(now) > most
+}
+
+/// The session that is the first to be ended now, with its ticket.
+pub fn first_due(sessions: &Sessions, now: u64) -> Option<(Ticket, u64, &u64)>
+    ensures { option_map shown_job result ≡ first_of (entries_until nat_cmp now sessions.now.entries) }
+{
+    sessions.due(now).next()
+}
