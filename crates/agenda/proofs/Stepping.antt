@@ -7,7 +7,7 @@ use Rattle.listing.specs.Steps.{Raises}
 use Rattle.listing.proofs.CallerLemmas.{generation-with_entry}
 use Rattle.listing.proofs.CallerLemmas.{step-stays, step-without_entry, step-with_entry, none-with_entry, step-with_key, none-with_key, step-emptied}
 use Rattle.agenda.specs.Agenda.{Agenda, get, count, greatest_generation, most_entries, with_entry, with_key, with_left, with_rest, without_entry, IsFree, IsSound, Reschedules}
-use Rattle.agenda.specs.Tickets.{IsStep}
+use Rattle.agenda.specs.{Bulk.SchedulesEach, Tickets.IsStep}
 use Rattle.agenda.proofs.Parts.{IsPartOf, part-shorter, part-whole, found-part, generation-apart}
 
 next-other : (g : ℕ) → next_generation greatest_generation g ≢ g
@@ -91,3 +91,13 @@ module _ {J : Type 0} (old : Agenda J) where
       go (inl all) = inl (λ q there. subst (λ (es : List (Entry (ℕ × J))). IsSome (item_of es q)) (sym (part-whole new.entries old.entries part all)) there)
       go (inr fewer) = inr (λ same. generation-apart old.generation (count old - length new.entries) (omega (arith, fewer, part-shorter new.entries old.entries part)) (omega (arith, sound.within, sound.limited))
           (sym (ap (λ (a : Agenda J). a.generation) is) ∙ same))
+
+  -- many jobs come, where at most the capacity changed before
+  pub fills : (mid new : Agenda J) (jobs : List (ℕ × J)) (given filled : List (ℕ × ℕ)) → mid.entries ≡ old.entries → mid.generation ≡ old.generation → SchedulesEach mid jobs given filled new → IsStep old new
+  unfolding IsStep Raises
+  fills mid new jobs given filled same generation s =
+      let found : (q : ℕ × ℕ) → get mid q ≡ get old q = λ q. ap (λ (es : List (Entry (ℕ × J))). item_of es q) same in
+      record {
+        comes = record { comes = λ q none there. inl (s.comes q (found q ∙ none) there ∙ generation) };
+        raises = inl (λ q there. let here : IsSome (get mid q) = subst (λ (o : Option (ℕ × J)). IsSome o) (sym (found q)) there in subst (λ (o : Option (ℕ × J)). IsSome o) (sym (s.keeps q here)) here);
+      }

@@ -5,8 +5,8 @@ use Rattle.std.specs.{Borrow.Bor, Option.option_map, Ordering.nat_cmp}
 pub use Rattle.listing.specs.PlainPointer.{most_entries, greatest_generation, generation_after}
 -- the greatest index among jobs, or 0 if there are none
 pub use Rattle.listing.specs.Chain.{greatest_index}
--- the item at a pointer among entries, and the entries without the one of an index
-pub use Rattle.listing.specs.Chain.{item_of, without}
+-- the item at a pointer among entries, the entries without the one of an index, and those from it on
+pub use Rattle.listing.specs.Chain.{item_of, without, from_index}
 -- the words for what an agenda is, and for what a call makes of it
 pub use Rattle.listing.specs.Listing.{Listing, Entry, IsDistinct, get, count, key_of, value_of, entry_of, pointer_of, first_item, first_item_until, put_behind}
 pub use Rattle.listing.specs.Listing.{with_left, with_rest, entries_until, entries_above, Updates, Keeps, IsFree, IsSound, AreSorted}

@@ -10,7 +10,9 @@ ghost use Rattle.agenda.specs.Tickets.{HasNoLaterTicket, IsStep};
 mod debug;
 mod from;
 mod look;
+mod retain;
 mod room;
+mod schedule_all;
 mod take;
 
 use crate::ticket::Ticket;

@@ -1,11 +1,11 @@
 //! Sessions: users by the time at which their session ends. A map from user to ticket is kept in step by the tickets that come back.
 
-ghost use Rattle.std.specs.Prelude.{◌≡◌, ◌≢◌, ◌+◌, ◌<◌, ℕ, nat_lt, length, Some, None, IfSome, IfNone, OnSome, OnOk, OnErr};
+ghost use Rattle.std.specs.Prelude.{◌≡◌, ◌≢◌, ◌==◌, ◌+◌, ◌<◌, ℕ, nat_lt, not, filter, length, vec_len, Some, None, IfSome, IfNone, IfErr, OnSome, OnOk, OnErr, IsSome};
 ghost use Rattle.std.specs.List.{All};
 ghost use Rattle.std.specs.Option.{option_map};
 ghost use Rattle.std.specs.Ordering.{nat_cmp};
 ghost use Rattle.agenda.specs.Gap.{first_of};
-ghost use Rattle.agenda.specs.Agenda.{get, count, key_of, entries_until, shown_job};
+ghost use Rattle.agenda.specs.Agenda.{get, count, key_of, value_of, from_index, entries_until, shown_job};
 
 use agenda::{Agenda, Ticket};
 use std::alloc::AllocError;
@@ -51,4 +51,43 @@ pub fn first_due(sessions: &Sessions, now: u64) -> Option<(Ticket, u64, &u64)>
     ensures { option_map shown_job result ≡ first_of (entries_until nat_cmp now sessions.now.entries) }
 {
     sessions.due(now).next()
+}
+
+/// The user of the session of a ticket, by an iterator that goes on to the sessions that end after it.
+pub fn user_of(sessions: &Sessions, ticket: Ticket) -> Option<u64>
+    ensures open { IfSome result (λ user. IsSome (get sessions.now ticket)) }
+    ensures first { IfSome result (λ user. option_map (λ session. value_of session)
+        (first_of (from_index sessions.now.entries ticket.0)) ≡ Some user) }
+{
+    let mut from = sessions.iter_from(ticket)?;
+    match from.next() {
+        Some((_, _, user)) => Some(*user),
+        None => None,
+    }
+}
+
+/// Ends all sessions of a user.
+pub fn end_user(sessions: &mut Sessions, user: u64)
+    ensures left { sessions.new.entries
+        ≡ filter (λ session. not (value_of session == user)) sessions.old.entries }
+{
+    sessions.retain(|_, _, of| *of != user);
+}
+
+/// Opens many sessions, or none if one is refused: all come back then.
+pub fn open_all(
+    sessions: &mut Sessions,
+    opened: Vec<(u64, u64)>,
+    tickets: &mut Vec<Ticket>,
+) -> Result<(), Vec<(u64, u64)>>
+    ensures count { OnOk result (count sessions.new ≡ count sessions.old + vec_len opened) }
+    ensures others { OnOk result ((t : ℕ × ℕ) → IsSome (get sessions.old t)
+        → get sessions.new t ≡ get sessions.old t) }
+    ensures back { IfErr result (λ refused. refused ≡ opened) }
+    ensures refused { OnErr result (sessions.new ≡ sessions.old) }
+{
+    match sessions.schedule_all(opened, tickets) {
+        Ok(()) => Ok(()),
+        Err((refused, _)) => Err(refused),
+    }
 }
