@@ -1,4 +1,5 @@
 //! Agendas of letters, from a program's view.
+mod bulk;
 mod due;
 mod room;
 mod sequences;

@@ -120,3 +120,46 @@ fn jobs_from_each_on_are_those_of_a_plain_list(rt: HostRuntime) {
         assert!(rt; beside.letters.contains(ended) || beside.letters.iter_from(ended).is_none());
     }
 }
+
+/// Whether the bit at a place is set.
+fn is_chosen(bits: usize, place: usize) -> bool {
+    let mut rest = bits;
+    for _ in 0..place {
+        rest /= 2;
+    }
+    rest % 2 == 1
+}
+
+/// Returns whether the test is asked once for each job, in order, and those are kept whose bits are set.
+fn is_retained(alloc: Global, beside: &mut Beside, bits: usize) -> Option<bool> {
+    let jobs = &beside.jobs;
+    let mut kept = Vec::new(alloc);
+    for place in 0..jobs.len() {
+        if is_chosen(bits, place) {
+            kept.push(jobs[place]).ok()?;
+        }
+    }
+    let mut asked = 0usize;
+    let mut right = 0usize;
+    beside.letters.retain(|ticket, deadline, letter| {
+        let place = asked;
+        asked = asked.wrapping_add(1);
+        if parts(jobs, place) == Some((ticket, deadline, *letter)) {
+            right = right.wrapping_add(1);
+        }
+        is_chosen(bits, place)
+    });
+    let is_asked = (asked, right) == (jobs.len(), jobs.len());
+    beside.jobs = kept;
+    Some(is_asked && show_alike(beside))
+}
+
+#[test]
+fn retain_asks_for_each_job_once_and_keeps_the_chosen_ones(rt: HostRuntime) {
+    for number in 0..CHOICES {
+        for bits in 0..16usize {
+            let mut beside = beside_of(rt.alloc(), number).expect(&rt, "memory");
+            assert_eq!(rt; is_retained(rt.alloc(), &mut beside, bits), Some(true));
+        }
+    }
+}

@@ -199,3 +199,37 @@ fn pop_all_due_in(
     assert_eq!(rt; agenda.next_deadline(), Some(30));
     Ok(())
 }
+
+#[test]
+fn retain(rt: HostRuntime) -> Result<(), Fail> {
+    retain_in(&rt, &mut Agenda::new(rt.alloc()))
+}
+
+fn retain_in(rt: &impl Abort, agenda: &mut Agenda<&'static str>) -> Result<(), Fail> {
+    let tea = agenda.schedule(10, "tea").map_err(|refused| refused.1)?;
+    agenda.schedule(20, "tea").map_err(|refused| refused.1)?;
+    let report = agenda.schedule(30, "report").map_err(|refused| refused.1)?;
+    agenda.retain(|ticket, _, job| ticket == tea || *job != "tea");
+    assert_eq!(rt; agenda.len(), 2);
+    assert!(rt; agenda.contains(tea) && agenda.contains(report));
+    Ok(())
+}
+
+#[test]
+fn schedule_all(rt: HostRuntime) -> Result<(), Fail> {
+    schedule_all_in(&rt, &mut Agenda::new(rt.alloc()))
+}
+
+fn schedule_all_in(
+    rt: &(impl Abort + AllocGlobal),
+    agenda: &mut Agenda<&'static str>,
+) -> Result<(), Fail> {
+    let jobs = Vec::from_array(rt.alloc(), [(30, "report"), (10, "tea")])?;
+    let mut tickets = Vec::new(rt.alloc());
+    agenda
+        .schedule_all(jobs, &mut tickets)
+        .map_err(|refused| refused.1)?;
+    assert_eq!(rt; agenda.get(tickets[0]), Some((30, &"report")));
+    assert_eq!(rt; agenda.next_deadline(), Some(10));
+    Ok(())
+}
