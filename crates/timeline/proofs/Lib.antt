@@ -7,3 +7,4 @@ pub mod Around
 pub mod Taking
 pub mod Painting
 pub mod Walking
+pub mod LastChange

@@ -1,5 +1,5 @@
 -- How a timeline lies in its arena, and what its private calls leave (layout).
-use Rattle.std.specs.Prelude.{◌≡◌, ◌≢◌, ℕ, ◌≤◌, ◌<◌, leb, not, filter, if◌then◌else◌, List, [], ◌∷◌, ◌++◌, length, map, Option, Some, None, ◌⊎◌, IfSome}
+use Rattle.std.specs.Prelude.{◌≡◌, ◌≢◌, ℕ, ◌+◌, ◌≤◌, ◌<◌, leb, not, filter, if◌then◌else◌, List, [], ◌∷◌, ◌++◌, length, map, Option, Some, None, ◌⊎◌, IfSome}
 use Rattle.std.specs.{List.AllByRecursion, Option.option_map, Ordering.nat_cmp, Borrow.Bor}
 use Rattle.sorted_arena.specs.{Chain.Entry, Chain.IsDistinct, Chain.from_index, Gap.first_of, Gap.last_of, Sorted.Sorted, Sorted.pointer_of, Sorted.IsSound}
 use Rattle.timeline.specs.{Timeline.most_entries, Timeline.Change, Timeline.Timeline, Timeline.value_at, Timeline.IsRising, Timeline.IsSet, Timeline.IsSetFrom, Timeline.HoldsRefusable, Timeline.roomy_capacity, Timeline.capacity_set, declared.walk.Piece.Piece, declared.span.Span.Span}
@@ -73,6 +73,11 @@ module _ {V : Type 0} where
     pub after : AllByRecursion (λ (c : Change V). t < c.time) (map change back)
     pub before_is : beside.0 ≡ option_map pointer_of (last_of None front)
     pub after_is : beside.1 ≡ option_map pointer_of (first_of back)
+
+  -- The time from which on the value stays as it is; None if there are no changes. Before that time another value or none holds.
+  abbrev pub IsLastChange : List (Change V) → Option ℕ → Type 0
+  IsLastChange cs None = cs ≡ []
+  IsLastChange cs (Some n) = ((u : ℕ) → n ≤ u → value_at cs u ≡ value_at cs n) × ((u : ℕ) → u + 1 ≡ n → value_at cs u ≢ value_at cs n) × (n ≡ 0 → value_at cs n ≢ None)
 
   -- the entries are cut at the one that a pointer names
   pub record IsAt (es : List (Entry (ℕ × Option V))) (p : ℕ × ℕ) : Type 0 where

@@ -108,6 +108,20 @@ module _ {V : Type 0} where
     pub another_before : (u : ℕ) → u + 1 ≡ span.from → value_at cs u ≢ Some span.value
     pub another_after : IfSome span.until (λ until. value_at cs until ≢ Some span.value)
 
+  -- The first stretch of a value, whole: before it none holds.
+  pub record IsFirstSpan (cs : List (Change V)) (span : WholeSpan V) : Type 0 where
+    pub whole : IsWholeSpan cs span.from span
+    pub none_before : (t : ℕ) → t < span.from → value_at cs t ≡ None
+
+  -- The last stretch of a value, whole: after it none holds.
+  pub record IsLastSpan (cs : List (Change V)) (span : WholeSpan V) : Type 0 where
+    pub whole : IsWholeSpan cs span.from span
+    pub none_after : IfSome span.until (λ until. (t : ℕ) → until ≤ t → value_at cs t ≡ None)
+
+  -- no value holds at any time
+  abbrev pub IsBlank : List (Change V) → Type 0
+  IsBlank cs = (t : ℕ) → value_at cs t ≡ None
+
   -- the first time after a time at which the value is another one; None if it holds for ever
   abbrev pub IsNextChange : List (Change V) → ℕ → Option ℕ → Type 0
   IsNextChange cs t None = (u : ℕ) → t ≤ u → value_at cs u ≡ value_at cs t

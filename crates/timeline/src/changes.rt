@@ -4,7 +4,7 @@ ghost use Rattle.std.specs.Prelude.{◌≡◌};
 ghost use Rattle.std.specs.Option.{option_copied, option_map, option_and_then};
 ghost use Rattle.sorted_arena.specs.Sorted.{get};
 ghost use Rattle.timeline.specs.Timeline.{value_at, AreChanges, IsNextChange};
-ghost use Rattle.timeline.specs.Layout.{changes_of, valued, IsAround};
+ghost use Rattle.timeline.specs.Layout.{changes_of, valued, IsAround, IsLastChange};
 
 use sorted_arena::{P0, SortedArena};
 use std::alloc::Allocator;
@@ -78,4 +78,12 @@ pub(crate) fn next_after<V, A: Allocator>(changes: &Changes<V, A>, time: u64) ->
     ensures { IsNextChange (changes_of changes.now) time result }
 {
     time_of(changes, around(changes, time).1)
+}
+
+/// The time of the last change.
+pub(crate) fn last_time<V, A: Allocator>(changes: &Changes<V, A>) -> Option<u64>
+    requires { AreChanges (changes_of changes.now) }
+    ensures { IsLastChange (changes_of changes.now) result }
+{
+    time_of(changes, changes.last())
 }

@@ -3,6 +3,7 @@
 
 mod changes;
 mod debug;
+mod ends;
 mod gaps;
 mod list;
 mod paint;

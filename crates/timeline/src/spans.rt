@@ -1,6 +1,6 @@
 //! `Spans`: the spans of a timeline, in order.
 
-ghost use Rattle.std.specs.Prelude.{◌≡◌, IfSome, IfNone};
+ghost use Rattle.std.specs.Prelude.{◌≡◌, ◌↔◌, IsTrue, IfSome, IfNone};
 ghost use Rattle.std.specs.Iterator.{YieldsFirstBy, item_count};
 ghost use Rattle.timeline.specs.Timeline.{AreSpans, IsNextSpan, HasNone, shown_span};
 
@@ -65,6 +65,20 @@ impl<V, A: Allocator> Timeline<V, A> {
         ensures none { IfNone result (HasNone self.now.changes from until) }
     {
         self.spans(from, until).next()
+    }
+
+    /// Returns whether no value holds at any time from `from` until before `until`, in O(log n).
+    ///
+    /// ```
+    /// day.set(9, 17, 1)?;
+    /// assert!(rt; day.is_free(17, 24));
+    /// assert!(rt; !day.is_free(16, 18));
+    /// assert!(rt; day.is_free(12, 12));
+    /// ```
+    pub fn is_free(&self, from: u64, until: u64) -> bool
+        ensures { IsTrue result ↔ HasNone self.now.changes from until }
+    {
+        self.next_span(from, until).is_none()
     }
 }
 

@@ -1,20 +1,20 @@
 //! `Timeline`: the value that holds at each time.
 
-ghost use Rattle.std.specs.Prelude.{◌≡◌, true, false, ◌<◌, ◌+◌, ◌*◌, ◌↔◌, ◌⊎◌, ℕ, [], Some, None, Err, OnOk, OnErr, IfSome, IfNone, length};
+ghost use Rattle.std.specs.Prelude.{◌≡◌, true, false, ◌<◌, ◌≤◌, ◌+◌, ◌*◌, ◌↔◌, ◌⊎◌, ℕ, [], Some, None, Err, IsOk, IfOk, OnOk, OnErr, IfSome, IfNone, length};
 ghost use Rattle.std.specs.Option.{option_copied};
 ghost use Rattle.sorted_arena.specs.PlainArena.{capacity_for};
 ghost use Rattle.timeline.specs.Timeline.{most_entries, value_at, shown_whole, AreChanges, IsTimeline, HasRoomFor};
 ghost use Rattle.timeline.specs.Timeline.{IsWholeSpan, IsNextChange, SetsStretch, SetsFrom};
-ghost use Rattle.timeline.specs.Layout.{pieces_of, capacity_put, Sets, CannotEnd, IsEmptyTime};
+ghost use Rattle.timeline.specs.Layout.{pieces_of, capacity_put, Sets, CannotEnd, IsEmptyTime, IsLastChange};
 
-use crate::changes::{Changes, around, held_at, held_from, next_after, time_of};
+use crate::changes::{Changes, around, held_at, held_from, last_time, next_after, time_of};
 use crate::list::ChangesByTime;
 use crate::paint::{make_room, paint};
 use crate::span::WholeSpan;
 use crate::value::TimelineValue;
 use crate::walk::Walk;
 use sorted_arena::{ReallocationError, SortedArena};
-use std::alloc::{Allocator, Global};
+use std::alloc::{AllocError, Allocator, Global};
 use std::marker::Model;
 
 /// A function from times to values, each of which holds over a span of time.
@@ -123,6 +123,13 @@ impl<V, A: Allocator> Timeline<V, A> {
         ChangesByTime {
             items: self.changes.iter().items(),
         }
+    }
+
+    // The time from which on the value stays as it is.
+    pub(crate) fn last_change(&self) -> Option<u64>
+        ensures { IsLastChange self.now.changes result }
+    {
+        last_time(&self.changes)
     }
 
     // The pieces from one time until another.
@@ -293,6 +300,36 @@ impl<V: TimelineValue, A: Allocator> Timeline<V, A> {
             return Err(ReallocationError::AllocError);
         };
         Ok(())
+    }
+}
+
+impl<V: TimelineValue, A: Allocator + Copy> Timeline<V, A> {
+    /// Returns a clone on the same allocator: the same value at each time. O(capacity).
+    ///
+    /// The clone's capacity is at least the number of changes and at most this timeline's capacity.
+    ///
+    /// ```
+    /// day.set(9, 17, 1)?;
+    /// let copy = day.try_clone()?;
+    /// day.reset();
+    /// assert_eq!(rt; copy.get(12), Some(&1));
+    /// ```
+    ///
+    /// # Errors
+    ///
+    /// `AllocError`: memory for the changes, or for the clone of a value, is refused.
+    pub fn try_clone(&self) -> Result<Self, AllocError>
+        ensures changes { IfOk result (λ t. t.changes ≡ self.now.changes) }
+        ensures capacity { IfOk result (λ t. t.capacity ≤ self.now.capacity) }
+        ensures none { length self.now.changes ≡ 0 → IsOk result }
+        ensures lawful { IsTimeline self.now }
+    {
+        // For the prover: the timeline is lawful, and its arena is sound.
+        let _ = self.len();
+        let _ = self.changes.len();
+        Ok(Timeline {
+            changes: self.changes.clone()?,
+        })
     }
 }
 

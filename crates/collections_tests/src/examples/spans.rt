@@ -135,3 +135,59 @@ fn reserve_in(rt: &impl Abort, day: &mut Timeline<u8>) -> Result<(), Fail> {
     assert_eq!(rt; day.capacity(), room);
     Ok(())
 }
+
+#[test]
+fn is_free(rt: HostRuntime) -> Result<(), Fail> {
+    is_free_in(&rt, &mut Timeline::new(rt.alloc()))
+}
+
+fn is_free_in(rt: &impl Abort, day: &mut Timeline<u8>) -> Result<(), Fail> {
+    day.set(9, 17, 1)?;
+    assert!(rt; day.is_free(17, 24));
+    assert!(rt; !day.is_free(16, 18));
+    assert!(rt; day.is_free(12, 12));
+    Ok(())
+}
+
+#[test]
+fn first_span(rt: HostRuntime) -> Result<(), Fail> {
+    first_span_in(&rt, &mut Timeline::new(rt.alloc()))
+}
+
+fn first_span_in(rt: &impl Abort, day: &mut Timeline<u8>) -> Result<(), Fail> {
+    day.set(9, 17, 1)?;
+    day.set(12, 13, 2)?;
+    let span = day
+        .first_span()
+        .map(|span| (span.from, span.until, *span.value));
+    assert_eq!(rt; span, Some((9, Some(12), 1)));
+    Ok(())
+}
+
+#[test]
+fn last_span(rt: HostRuntime) -> Result<(), Fail> {
+    last_span_in(&rt, &mut Timeline::new(rt.alloc()))
+}
+
+fn last_span_in(rt: &impl Abort, day: &mut Timeline<u8>) -> Result<(), Fail> {
+    day.set(9, 17, 1)?;
+    day.set(12, 13, 2)?;
+    let span = day
+        .last_span()
+        .map(|span| (span.from, span.until, *span.value));
+    assert_eq!(rt; span, Some((13, Some(17), 1)));
+    Ok(())
+}
+
+#[test]
+fn try_clone(rt: HostRuntime) -> Result<(), Fail> {
+    try_clone_in(&rt, &mut Timeline::new(rt.alloc()))
+}
+
+fn try_clone_in(rt: &impl Abort, day: &mut Timeline<u8>) -> Result<(), Fail> {
+    day.set(9, 17, 1)?;
+    let copy = day.try_clone()?;
+    day.reset();
+    assert_eq!(rt; copy.get(12), Some(&1));
+    Ok(())
+}

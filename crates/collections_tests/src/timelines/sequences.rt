@@ -67,6 +67,50 @@ fn has_values(numbers: &Numbers, values: &[Option<u8>; 5]) -> bool {
     gaps == 0
 }
 
+/// Returns the first and the last time of the array with a value.
+fn ends(values: &[Option<u8>; 5]) -> Option<(usize, usize)> {
+    let mut first = None;
+    let mut last = None;
+    let mut index = 0usize;
+    for value in values.iter() {
+        if value.is_some() {
+            last = Some(index);
+            if first.is_none() {
+                first = Some(index);
+            }
+        }
+        index = index.wrapping_add(1);
+    }
+    Some((first?, last?))
+}
+
+/// Returns whether the first and the last span, and the times without a value, are those of the array.
+fn has_ends(numbers: &Numbers, values: &[Option<u8>; 5]) -> bool {
+    let first = match numbers.first_span() {
+        Some(span) => Some((span.from, numbers.is_free(0, span.from))),
+        None => None,
+    };
+    let last = match numbers.last_span() {
+        Some(span) => Some(match span.until {
+            Some(until) => (until, numbers.is_free(until, u64::MAX)),
+            None => (0, true),
+        }),
+        None => None,
+    };
+    let (wanted_first, wanted_last) = match ends(values) {
+        // a value at the greatest time holds for ever; so does one whose end is not before that
+        Some((from, 4)) => (Some((time(from), true)), Some((0, true))),
+        Some((from, until)) => (Some((time(from), true)), Some((end(until), true))),
+        None => (None, None),
+    };
+    first == wanted_first && last == wanted_last
+}
+
+/// The time at which the value at the time of an index ends, if none holds at the next.
+fn end(index: usize) -> u64 {
+    time(index.wrapping_add(1))
+}
+
 /// Makes three calls on a timeline and a plain array. Returns whether they agree.
 fn is_plain(alloc: Global, calls: (usize, usize, usize)) -> Result<bool, ReallocationError> {
     let mut numbers = Numbers::new(alloc);
@@ -77,7 +121,7 @@ fn is_plain(alloc: Global, calls: (usize, usize, usize)) -> Result<bool, Realloc
     make_plainly(&mut values, call(calls.0));
     make_plainly(&mut values, call(calls.1));
     make_plainly(&mut values, call(calls.2));
-    Ok(has_values(&numbers, &values))
+    Ok(has_values(&numbers, &values) && has_ends(&numbers, &values))
 }
 
 // The first call sets 1: 2 would be 1 by another name, and on an empty timeline clearing does nothing.
