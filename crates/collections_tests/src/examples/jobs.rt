@@ -157,10 +157,7 @@ fn iter_from(rt: HostRuntime) -> Result<(), Fail> {
 
 #[test]
 fn due(rt: HostRuntime) -> Result<(), Fail> {
-    due_in(&rt, &mut Agenda::new(rt.alloc()))
-}
-
-fn due_in(rt: &impl Abort, agenda: &mut Agenda<&'static str>) -> Result<(), Fail> {
+    let mut agenda: Agenda<&str> = Agenda::new(rt.alloc());
     agenda.schedule(30, "report").map_err(|refused| refused.1)?;
     let tea = agenda.schedule(10, "tea").map_err(|refused| refused.1)?;
     let mut due = agenda.due(20);
