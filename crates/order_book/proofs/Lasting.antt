@@ -1,5 +1,5 @@
 -- The room that is left once units were taken.
-use Rattle.std.proofs.Common.{◌≡◌, ℕ, ◌+◌, ◌-◌, ◌≤◌, List, [], ◌∷◌, length, arith}
+use Rattle.std.proofs.Common.{◌≡◌, ℕ, ◌-◌, ◌≤◌, List, [], ◌∷◌, length, arith}
 use Rattle.std.proofs.lemmas.Grind.{common_steps}
 use Rattle.order_book.specs.declared.order.Order.{Order}
 use Rattle.order_book.specs.Queue.{Queue, behind, taken, HasRoomFor}

@@ -7,11 +7,16 @@ pub mod Trading
 pub mod Taking
 pub mod Lasting
 pub mod Reducing
+pub mod Executing
 pub mod Levels
+pub mod AtPrice
+pub mod Cancelling
+pub mod Cloning
 -- A book of two sides.
 pub mod Volumes
 pub mod Rooms
 pub mod Apart
+pub mod Crossing
 pub mod Pairs
 pub mod Deals
 pub mod Names

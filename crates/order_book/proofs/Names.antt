@@ -8,7 +8,7 @@ use Rattle.order_book.specs.Book.{Book, RestsOrNot, queue, named}
 use Rattle.order_book.specs.Names.{GoesOn, Counts, IsStep, IsRun, HasNoLaterName, HasEnded, EndedNameLaw}
 
 -- a pointer names an order also where others stand before it
-there-behind : (x : Order) (xs : List Order) (p : ℕ × ℕ) → IsSome (order_of xs p) → IsSome (order_of (x ∷ xs) p)
+pub there-behind : (x : Order) (xs : List Order) (p : ℕ × ℕ) → IsSome (order_of xs p) → IsSome (order_of (x ∷ xs) p)
 there-behind x xs p there = elim (is_named_by p x) as (λ b. IsSome (if b then Some x else order_of xs p)) [
   | true ↦ refl
   | false ↦ there
@@ -69,7 +69,7 @@ there-between (x ∷ xs) y ys p = elim (is_named_by p x) as (λ b. IsSome (if b 
 ]
 
 -- where the generations don't begin again, the next one is greater
-after-is : (g : ℕ) → ((g ≡ 18446744073709551615) × (generation_after g ≡ 2)) ⊎ (generation_after g ≡ g + 1)
+pub after-is : (g : ℕ) → ((g ≡ 18446744073709551615) × (generation_after g ≡ 2)) ⊎ (generation_after g ≡ g + 1)
 after-is g = elim (eqb_tells g 18446744073709551615) [
   | inl h ↦ inl (h.1, rw h.0 refl)
   | inr h ↦ inr (rw h.0 refl)
@@ -111,7 +111,7 @@ taking (x ∷ xs) n g = elim (nat_lt n x.quantity) as (λ b. IsTaken (x ∷ xs) 
 ]
 
 -- that nothing is there, against that something is
-some-none : (o : Option Order) → IsSome o → o ≡ None → ⊥
+pub some-none : (o : Option Order) → IsSome o → o ≡ None → ⊥
 some-none None some none = absurd (cc)
 some-none (Some x) some none = absurd (cc)
 

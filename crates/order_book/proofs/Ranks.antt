@@ -1,5 +1,5 @@
 -- The order of ranks, and what it says of prices.
-use Rattle.std.proofs.Common.{◌≡◌, ◌≢◌, ℕ, ◌<◌, ◌≤◌, List, [], ◌∷◌, ◌++◌, map, refl, arith}
+use Rattle.std.proofs.Common.{◌≡◌, ◌≢◌, ℕ, ◌<◌, ◌≤◌, List, [], ◌∷◌, map, refl, arith}
 use Rattle.std.proofs.lemmas.{Bool.Decides.nat_tests, List.Elements.recursion_from_All}
 use Rattle.std.specs.{declared.cmp.Ordering.TheVariants.Less, declared.cmp.Ordering.TheVariants.Greater, List.AllByRecursion, Ordering.nat_cmp}
 use Rattle.sorted_arena.specs.Chain.{Entry}

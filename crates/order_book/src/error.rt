@@ -22,6 +22,20 @@ pub enum PlacingError {
     AllocError,
 }
 
+/// Why an order was not added. The book is unchanged.
+#[derive(Debug, Clone, Copy, PartialEq, Eq, Drop, Error)]
+pub enum AddingError {
+    /// The order is for nothing: its quantity is 0.
+    #[error("an order for nothing")]
+    NoQuantity,
+    /// Its side has 4,294,967,294 orders, as many as it can have.
+    #[error("as many orders as there can be")]
+    BeyondMaxCapacity,
+    /// There is no memory for the order.
+    #[error("out of memory")]
+    AllocError,
+}
+
 /// Why an order was not replaced. The book is unchanged.
 #[derive(Debug, Clone, Copy, PartialEq, Eq, Drop, Error)]
 pub enum ReplacingError {

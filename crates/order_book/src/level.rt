@@ -2,7 +2,7 @@
 
 ghost use Rattle.std.specs.Prelude.{◌≡◌, ◌∷◌, ◌≤◌, ℕ, length};
 ghost use Rattle.std.specs.Iterator.{YieldsFirst, item_count};
-ghost use Rattle.order_book.specs.Queue.{levels_of, first_levels, AreSummable};
+ghost use Rattle.order_book.specs.Queue.{levels_of, first_levels, level_at, orders_at, top_of, total, AreSummable};
 ghost use Rattle.order_book.specs.QueueLayout.{with_next, IsDepth};
 
 use crate::order::Order;
@@ -56,6 +56,40 @@ impl<A: Allocator> OrderQueue<A> {
         let mut rest = self.iter();
         let next = rest.next();
         Depth { levels, next, rest }
+    }
+}
+
+impl<A: Allocator> OrderQueue<A> {
+    /// Returns the best price with its whole quantity and its number of orders. `None` if there are no orders. O(1) for each order at the
+    /// best price.
+    pub fn top(&self) -> Option<Level>
+        ensures { result ≡ top_of self.now.orders }
+    {
+        let mut rest = self.iter();
+        let first = rest.next()?;
+        Some(level_from(first, &mut rest).0)
+    }
+
+    /// Returns the whole quantity and the number of the orders at a price. `None` if there are none. O(log n), plus O(1) for each of them.
+    pub fn level_at(&self, price: u64) -> Option<Level>
+        ensures { result ≡ level_at price self.now.orders }
+    {
+        let mut rest = self.iter_from(price);
+        let first = rest.next()?;
+        if first.price != price {
+            return None;
+        }
+        Some(level_from(first, &mut rest).0)
+    }
+
+    /// Returns how much rests at a price in all. O(log n), plus O(1) for each order at the price.
+    pub fn volume_at(&self, price: u64) -> u128
+        ensures { result ≡ total (orders_at price self.now.orders) }
+    {
+        match self.level_at(price) {
+            Some(level) => level.quantity,
+            None => 0,
+        }
     }
 }
 

@@ -13,7 +13,7 @@ mod settling;
 mod side;
 
 pub use book::OrderBook;
-pub use error::{PlacingError, ReplacingError};
+pub use error::{AddingError, PlacingError, ReplacingError};
 pub use level::{Depth, Level};
 pub use new_order::{NewOrder, OrderKind};
 pub use order::{Order, OrderId, Trade};

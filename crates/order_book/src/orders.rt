@@ -2,11 +2,11 @@
 
 ghost use Rattle.std.specs.Prelude.{◌≡◌};
 ghost use Rattle.std.specs.Iterator.{YieldsFirst, item_count};
-ghost use Rattle.order_book.specs.Queue.{IsSound};
+ghost use Rattle.order_book.specs.Queue.{orders_from, IsSound};
 
 use crate::order::{Lot, Order, order_at};
 use crate::queue::OrderQueue;
-use crate::side::Side;
+use crate::side::{Side, ranked};
 use sorted_arena::{P0, Range};
 use std::alloc::{Allocator, Global};
 use std::marker::Model;
@@ -37,6 +37,17 @@ impl<A: Allocator> OrderQueue<A> {
         Orders {
             side: self.side(),
             entries: self.arena().iter(),
+        }
+    }
+
+    /// Returns an iterator over the orders at `price` and at worse prices, first the one that trades first. O(log n).
+    pub fn iter_from(&self, price: u64) -> Orders<'_, A>
+        ensures orders { result ≡ orders_from self.now.side price self.now.orders }
+        ensures sound { IsSound self.now }
+    {
+        Orders {
+            side: self.side(),
+            entries: self.arena().range(ranked(self.side(), price)..),
         }
     }
 }

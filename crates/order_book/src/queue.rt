@@ -4,9 +4,14 @@ ghost use Rattle.std.specs.Prelude.{◌≡◌, ◌↔◌, ◌+◌, ◌-◌, ◌�
 ghost use Rattle.std.specs.Prelude.{IfOk, OnOk, OnErr, OnSome, IfSome, IsOk};
 ghost use Rattle.std.specs.Option.{option_map};
 ghost use Rattle.sorted_arena.specs.PlainArena.{capacity_for};
-ghost use Rattle.order_book.specs.Queue.{most_entries, first_of, order_of, resting, within, traded, trades_of_first, taken, with_left, with_rest, reduced, reduced_order};
+ghost use Rattle.order_book.specs.Queue.{most_entries, first_of, order_of, resting, within, traded, trades_of_first, taken, with_left, with_rest, reduced, reduced_order, left_of, executed};
 ghost use Rattle.order_book.specs.QueueLayout.{queue_of, IsQueueArena};
 ghost use Rattle.order_book.specs.Queue.{ChangesOrder, HasRoomFor, IsSound, Rests, Updates};
+
+mod compare;
+mod debug;
+mod remove_where;
+mod try_clone;
 
 use crate::order::{Lot, Order, Trade, order_at};
 use crate::side::{Side, ranked};
@@ -151,6 +156,7 @@ impl<A: Allocator> OrderQueue<A> {
         ensures updates { IfOk result (λ p. Updates self.old self.new p
             (Some (resting self.old.side p price quantity tag))) }
         ensures count { OnOk result (length self.new.orders ≡ length self.old.orders + 1) }
+        ensures side { self.new.side ≡ self.old.side }
         ensures full { (result ≡ Err ReallocationError.BeyondMaxCapacity)
             ↔ (length self.old.orders ≡ most_entries) }
         ensures memory { result ≡ Err ReallocationError.AllocError
@@ -174,6 +180,7 @@ impl<A: Allocator> OrderQueue<A> {
         ensures changes { ChangesOrder self.old pointer None result self.new }
         ensures count { OnSome result (length self.old.orders ≡ length self.new.orders + 1) }
         ensures gone { OnSome result (self.new ≡ with_left self.old pointer) }
+        ensures side { self.new.side ≡ self.old.side }
         ensures room { OnSome result (HasRoomFor 1 self.new) }
     {
         let (rank, lot) = self.orders.remove(pointer)?;
@@ -190,6 +197,7 @@ impl<A: Allocator> OrderQueue<A> {
         ensures changes { ChangesOrder self.old pointer
             (reduced_order (order_of self.old.orders pointer) quantity) result self.new }
         ensures after { IfSome result (λ left. self.new ≡ reduced self.old pointer left) }
+        ensures side { self.new.side ≡ self.old.side }
     {
         let order = self.get(pointer)?;
         let left = order.quantity.saturating_sub(quantity);
@@ -199,6 +207,29 @@ impl<A: Allocator> OrderQueue<A> {
         }
         self.write(pointer, order.tag, left);
         Some(left)
+    }
+
+    /// Trades up to `quantity` units of the order that the pointer names, at its price, and returns the trade.
+    ///
+    /// The order keeps its pointer and its place. If nothing of it is left, it leaves. If the pointer names no order, or `quantity` is 0,
+    /// nothing is traded: returns `None`, and nothing changes. O(1), or O(log n) if the order leaves.
+    pub fn execute(&mut self, pointer: P0, quantity: u64) -> Option<Trade>
+        ensures value { result ≡ executed (order_of self.old.orders pointer) quantity }
+        ensures changes { ChangesOrder self.old pointer
+            (reduced_order (order_of self.old.orders pointer) quantity) result self.new }
+        ensures after { OnSome result (self.new
+            ≡ reduced self.old pointer (left_of (order_of self.old.orders pointer) quantity)) }
+        ensures some { IfSome result (λ trade. 0 < trade.quantity) }
+        ensures side { self.new.side ≡ self.old.side }
+    {
+        // For the prover: of each order something is left.
+        let _ = self.len();
+        let order = self.get(pointer)?;
+        if quantity == 0 {
+            return None;
+        }
+        let _ = self.reduce(pointer, quantity);
+        Some(order.trade(quantity.min(order.quantity)))
     }
 
     // Writes how much is left of the order that the pointer names, which has this tag.
@@ -292,6 +323,7 @@ impl<A: Allocator> OrderQueue<A> {
     /// Takes so many units off, from the first order on. An order of which nothing is left leaves. O(log n) for each order that leaves.
     pub fn take(&mut self, quantity: u64)
         ensures after { self.new ≡ taken quantity self.old }
+        ensures side { self.new.side ≡ self.old.side }
         ensures room { (n : ℕ) → HasRoomFor n self.old → HasRoomFor n self.new }
     {
         let mut left = quantity;

@@ -27,6 +27,7 @@ fn rest<A: Allocator>(
     ensures memory { result ≡ Err ReallocationError.AllocError
         → (0 < left) × IsFull own.old × (length own.old.orders ≢ most_entries) }
     ensures fits { HasRoomFor 1 own.old → IsOk result }
+    ensures side { own.new.side ≡ own.old.side }
     ensures err { OnErr result (own.new ≡ own.old) }
 {
     if left == 0 {
@@ -70,6 +71,8 @@ pub(crate) fn settle<A: Allocator, B: Allocator>(
     ensures other_room { OnOk result
         ((n : ℕ) → HasRoomFor n other.old → HasRoomFor n other.new) }
     ensures kept_room { vec_capacity trades.old ≤ vec_capacity trades.new }
+    ensures own_side { own.new.side ≡ own.old.side }
+    ensures other_side { other.new.side ≡ other.old.side }
 {
     let price = order.kind.limit(order.side);
     // If the side is full, that is the refusal, also if the trades would be refused memory.
@@ -119,6 +122,8 @@ pub(crate) fn settle_anew<A: Allocator, B: Allocator>(
     ensures other_room { OnOk result
         ((n : ℕ) → HasRoomFor n other.old → HasRoomFor n other.new) }
     ensures kept_room { vec_capacity trades.old ≤ vec_capacity trades.new }
+    ensures own_side { own.new.side ≡ own.old.side }
+    ensures other_side { other.new.side ≡ other.old.side }
 {
     let price = order.kind.limit(order.side);
     let left = other.offer(price, order.quantity, trades)?;

@@ -1,29 +1,28 @@
 use Rattle.std.proofs.Common.{sym, subst, ap, ◌∙◌}
 use Rattle.order_book.specs.declared.side.Side.TheVariants.{Buy, Sell}
 use Rattle.order_book.specs.Book.{Book, IsBook, opposite}
-use Rattle.order_book.proofs.Pairs.{pair-settled_bid, pair-settled_ask}
+use Rattle.order_book.proofs.Pairs.{apart-of, uncrossed-by, pair-settled_bid, pair-settled_ask}
 use Rattle.order_book.proofs.Rooms.{granted, room-on}
 use Rattle.order_book.proofs.Names.{goes-own, goes-other, step-of}
 use Rattle.order_book.proofs.book.OrderBook.place.Goals.{in-Buy, in-Sell}
 use Rattle.order_book.proofs.book.OrderBook.place.Goals as goal
 
-pub invariant_of-self : goal.invariant_of-self
-invariant_of-self g c =
+pub returns-in-Ok-clause-uncrossed : goal.returns-in-Ok-clause-uncrossed
+returns-in-Ok-clause-uncrossed g c = λ uncrossed.
     let bids = c.self.inside.bids in
     let asks = c.self.inside.asks in
-    let settled = c.settle-settled in
     let lawful : IsBook (record { bids = bids; asks = asks }) = subst (λ (b : Book). IsBook b) (sym c.self.view_is) c.count.ensures.lawful in
-    pair-settled_bid bids asks settled.new.own settled.new.other c.self.invariant c.args.order _ _ bids c.self.invariant settled.result
-    lawful.asks.in_order settled.ensures.rests settled.ensures.settles
-
-pub invariant_of-self-in-Sell : goal.invariant_of-self-in-Sell
-invariant_of-self-in-Sell g c =
-    let bids = c.self.inside.bids in
-    let asks = c.self.inside.asks in
-    let settled = c.settle-settled-in-Sell in
-    let lawful : IsBook (record { bids = bids; asks = asks }) = subst (λ (b : Book). IsBook b) (sym c.self.view_is) c.count.ensures.lawful in
-    pair-settled_ask bids asks settled.new.other settled.new.own c.self.invariant c.args.order _ _ asks c.self.invariant settled.result
-    lawful.bids.in_order settled.ensures.rests settled.ensures.settles
+    let apart = apart-of bids asks c.args.self.now c.self.invariant c.self.view_is uncrossed in
+    elim c.match-order.branch [
+      | in-Buy w ↦
+          let settled = w.settle-settled in
+          uncrossed-by settled.new.own settled.new.other c.match-order.self (pair-settled_bid bids asks settled.new.own settled.new.other apart c.args.order _ _ bids apart settled.result
+          lawful.asks.in_order settled.ensures.rests settled.ensures.settles) w.self-is
+      | in-Sell w ↦
+          let settled = w.settle-settled-in-Sell in
+          uncrossed-by settled.new.other settled.new.own c.match-order.self (pair-settled_ask bids asks settled.new.other settled.new.own apart c.args.order _ _ asks apart settled.result
+          lawful.bids.in_order settled.ensures.rests settled.ensures.settles) w.self-is
+    ]
 
 pub returns-in-Ok-clause-steps : goal.returns-in-Ok-clause-steps
 returns-in-Ok-clause-steps g c =

@@ -1,31 +1,32 @@
-use Rattle.order_book.specs.Queue.{with_left}
+use Rattle.order_book.specs.{Queue.with_left, declared.new_order.NewOrder.NewOrder}
 use Rattle.order_book.specs.declared.new_order.OrderKind.TheVariants.{Limit}
 use Rattle.std.proofs.Common.{sym, subst, ap, ◌∙◌}
 use Rattle.order_book.specs.declared.side.Side.TheVariants.{Buy, Sell}
 use Rattle.order_book.specs.Book.{Book, IsBook, opposite}
-use Rattle.order_book.proofs.Pairs.{pair-without_bid, pair-without_ask, pair-settled_bid, pair-settled_ask}
+use Rattle.order_book.proofs.Pairs.{apart-of, uncrossed-by, pair-without_bid, pair-without_ask, pair-settled_bid, pair-settled_ask}
 use Rattle.order_book.proofs.Rooms.{granted, room-on}
 use Rattle.order_book.proofs.Names.{goes-own_anew, goes-other, step-of}
 use Rattle.order_book.proofs.book.OrderBook.replace.Goals.{in-Buy, in-Sell}
 use Rattle.order_book.proofs.book.OrderBook.replace.Goals as goal
 
-pub invariant_of-self : goal.invariant_of-self
-invariant_of-self g c =
+pub returns-in-Ok-clause-uncrossed : goal.returns-in-Ok-clause-uncrossed
+returns-in-Ok-clause-uncrossed g c = λ uncrossed.
     let bids = c.self.inside.bids in
     let asks = c.self.inside.asks in
-    let settled = c.settle_anew-settled in
+    let p = c.pointer-pointer.result in
+    let order : NewOrder = record { side = c.side-2.result; kind = Limit c.args.price; quantity = c.args.quantity; tag = c.in-Some.old.tag } in
     let lawful : IsBook (record { bids = bids; asks = asks }) = subst (λ (b : Book). IsBook b) (sym c.self.view_is) c.count.ensures.lawful in
-    pair-settled_bid bids asks settled.new.own settled.new.other c.self.invariant (record { side = c.side-2.result; kind = Limit c.args.price; quantity = c.args.quantity; tag = c.in-Some.old.tag }) _ _ (with_left bids c.pointer-pointer.result) (pair-without_bid bids asks c.self.invariant c.pointer-pointer.result) settled.result
-    lawful.asks.in_order settled.ensures.rests settled.ensures.settles
-
-pub invariant_of-self-in-Sell : goal.invariant_of-self-in-Sell
-invariant_of-self-in-Sell g c =
-    let bids = c.self.inside.bids in
-    let asks = c.self.inside.asks in
-    let settled = c.settle_anew-settled-in-Sell in
-    let lawful : IsBook (record { bids = bids; asks = asks }) = subst (λ (b : Book). IsBook b) (sym c.self.view_is) c.count.ensures.lawful in
-    pair-settled_ask bids asks settled.new.other settled.new.own c.self.invariant (record { side = c.side-2.result; kind = Limit c.args.price; quantity = c.args.quantity; tag = c.in-Some.old.tag }) _ _ (with_left asks c.pointer-pointer.result) (pair-without_ask bids asks c.self.invariant c.pointer-pointer.result) settled.result
-    lawful.bids.in_order settled.ensures.rests settled.ensures.settles
+    let apart = apart-of bids asks c.args.self.now c.self.invariant c.self.view_is uncrossed in
+    elim c.match-side.branch [
+      | in-Buy w ↦
+          let settled = w.settle_anew-settled in
+          uncrossed-by settled.new.own settled.new.other c.match-side.self (pair-settled_bid bids asks settled.new.own settled.new.other apart order _ _ (with_left bids p) (pair-without_bid bids asks apart p) settled.result
+          lawful.asks.in_order settled.ensures.rests settled.ensures.settles) w.self-is
+      | in-Sell w ↦
+          let settled = w.settle_anew-settled-in-Sell in
+          uncrossed-by settled.new.other settled.new.own c.match-side.self (pair-settled_ask bids asks settled.new.other settled.new.own apart order _ _ (with_left asks p) (pair-without_ask bids asks apart p) settled.result
+          lawful.bids.in_order settled.ensures.rests settled.ensures.settles) w.self-is
+    ]
 
 pub returns-in-Ok-clause-steps : goal.returns-in-Ok-clause-steps
 returns-in-Ok-clause-steps g c =

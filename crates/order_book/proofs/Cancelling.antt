@@ -1,0 +1,138 @@
+-- Orders that leave by a test: what is left of a list by the answers, and what it does to names.
+use Rattle.std.proofs.Common.{◌≡◌, ℕ, zero, suc, ◌+◌, ◌-◌, ◌<◌, ◌≤◌, ◌⊎◌, inl, inr, true, false, List, [], ◌∷◌, length, map, Option, Some, None, IsSome, refl, sym, ap, subst, ◌∙◌, arith, if◌then◌else◌}
+use Rattle.std.specs.{Prelude.Bool, List.AllByRecursion, List.items_where_true, List.Retain.ReturnsInTurn}
+use denote.Param.Members.{Mut}
+use Rattle.std.proofs.{lemmas.Bool.Decides.eqb_tells, lemmas.Bool.Decides.leb_tells}
+use Rattle.order_book.specs.Queue.{Queue, most_entries, IsDistinct, is_named_by, order_of, generation_after_many, greatest_generation, with_kept, Cancels}
+use Rattle.sorted_arena.specs.Sorted.{Sorted, with_rest}
+use Rattle.std.proofs.lemmas.List.{length-map}
+use Rattle.order_book.specs.{QueueLayout.order_in, QueueLayout.queue_of, declared.order.Lot.Lot, declared.side.Side.Side}
+use Rattle.order_book.specs.Book.{Book, named, opposite, queue}
+use Rattle.order_book.specs.{Id.Id, declared.side.Side.TheVariants.Buy, declared.side.Side.TheVariants.Sell}
+use Rattle.order_book.specs.{Names.GoesOn, declared.order.Order.Order}
+use Rattle.order_book.proofs.Names.{after-is, some-none}
+
+-- what is true of each element is true of those that are left
+module _ {X : Type 0} where
+  pub all-kept : (P : X → Type 0) (bs : List Bool) (xs : List X) → AllByRecursion P xs → AllByRecursion P (items_where_true bs xs)
+  all-kept P [] xs all = tt
+  all-kept P (b ∷ bs) [] all = tt
+  all-kept P (true ∷ bs) (x ∷ xs) all = (all.0, all-kept P bs xs all.1)
+  all-kept P (false ∷ bs) (x ∷ xs) all = all-kept P bs xs all.1
+
+  kept-fewer : (bs : List Bool) (xs : List X) → length (items_where_true bs xs) ≤ length xs
+  kept-fewer [] xs = omega arith
+  kept-fewer (b ∷ bs) [] = omega arith
+  kept-fewer (true ∷ bs) (x ∷ xs) = omega (arith, kept-fewer bs xs)
+  kept-fewer (false ∷ bs) (x ∷ xs) = omega (arith, kept-fewer bs xs)
+
+  -- if none has left, they are the same
+  kept-all : (bs : List Bool) (xs : List X) → length xs ≤ length (items_where_true bs xs) → items_where_true bs xs ≡ xs
+  kept-all [] [] all = refl
+  kept-all [] (x ∷ xs) all = absurd (omega (arith, all))
+  kept-all (b ∷ bs) [] all = refl
+  kept-all (true ∷ bs) (x ∷ xs) all = ap (λ ys. x ∷ ys) (kept-all bs xs (omega (arith, all)))
+  kept-all (false ∷ bs) (x ∷ xs) all = absurd (omega (arith, all, kept-fewer bs xs))
+
+  module _ {Y : Type 0} (f : X → Y) where
+    pub kept-map : (bs : List Bool) (xs : List X) → map f (items_where_true bs xs) ≡ items_where_true bs (map f xs)
+    kept-map [] xs = refl
+    kept-map (b ∷ bs) [] = refl
+    kept-map (true ∷ bs) (x ∷ xs) = ap (λ ys. f x ∷ ys) (kept-map bs xs)
+    kept-map (false ∷ bs) (x ∷ xs) = kept-map bs xs
+
+-- a pointer that names an order is its own
+pointer-own : (p : ℕ × ℕ) (x : Order) → is_named_by p x ≡ true → p ≡ x.id.pointer
+pointer-own p x = elim (eqb_tells x.id.pointer.0 p.0) [
+  | inl h ↦ elim (eqb_tells x.id.pointer.1 p.1) [
+    | inl k ↦ λ own. sym (rw (h.1, k.1) refl)
+    | inr k ↦ λ own. absurd (let wrong : false ≡ true = sym (rw (h.0, k.0) refl) ∙ own in cc)
+  ]
+  | inr h ↦ λ own. absurd (let wrong : false ≡ true = sym (rw h.0 refl) ∙ own in cc)
+]
+
+-- A test is asked through another one about what is made of each element: its answers are the same, in turn.
+module _ {X Y C F : Type 0} (R : C → X → Bool → C → Type 0) (S : F → Y → Bool → F → Type 0) (inner : C → F) (f : X → Y) (Stays : C → Type 0)
+    (step : (c d : C) (x : X) (b : Bool) → Stays c → R c x b d → S (inner c) (f x) b (inner d) × Stays d) where
+  pub asked-through : (bs : List Bool) (xs : List X) (c d : C) → Stays c → ReturnsInTurn R c bs xs d → ReturnsInTurn S (inner c) bs (map f xs) (inner d)
+  asked-through [] xs c d stays same = ap inner same
+  asked-through (b ∷ bs) [] c d stays none = none
+  asked-through (b ∷ bs) (x ∷ xs) c d stays told =
+      let here = step c told.0 x b stays told.1 in
+      (inner told.0, here.0, asked-through bs xs told.0 d here.1 told.2)
+
+-- what is named among those that are left, was named so
+pub named-kept : (bs : List Bool) (xs : List Order) (p : ℕ × ℕ) → IsDistinct xs → IsSome (order_of (items_where_true bs xs) p) → order_of (items_where_true bs xs) p ≡ order_of xs p
+named-kept [] xs p distinct = λ there. absurd (cc)
+named-kept (b ∷ bs) [] p distinct = λ there. absurd (cc)
+named-kept (true ∷ bs) (x ∷ xs) p distinct = elim (is_named_by p x) as (λ b. IsSome (if b then Some x else order_of (items_where_true bs xs) p) → (if b then Some x else order_of (items_where_true bs xs) p) ≡ (if b then Some x else order_of xs p)) [
+  | true ↦ λ there. refl
+  | false ↦ λ there. named-kept bs xs p distinct.1 there
+]
+named-kept (false ∷ bs) (x ∷ xs) p distinct = λ there. go (is_named_by p x) refl there (named-kept bs xs p distinct.1 there)
+  where
+    go : (b : Bool) → is_named_by p x ≡ b → IsSome (order_of (items_where_true bs xs) p) → order_of (items_where_true bs xs) p ≡ order_of xs p
+        → order_of (items_where_true bs xs) p ≡ order_of (x ∷ xs) p
+    go false other there same = same ∙ rw other refl
+    go true own there same = absurd (some-none _ (subst (λ (o : Option Order). IsSome o) (same ∙ ap (order_of xs) (pointer-own p x own)) there) distinct.0)
+
+-- so a name of an order that has left names nothing: generations rise, unless they begin again
+past-is : (n g : ℕ) → (generation_after_many greatest_generation n g ≡ g + n) ⊎ ((generation_after_many greatest_generation n g ≤ 1 + n) × (18446744073709551615 < g + n))
+past-is zero g = inl (omega arith)
+past-is (suc n) g = elim (after-is (generation_after_many greatest_generation n g)) [
+  | inl last ↦ elim (past-is n g) [
+    | inl rose ↦ inr (omega (arith, last.1), omega (arith, last.0, rose))
+    | inr again ↦ inr (omega (arith, last.1), omega (arith, again.1))
+  ]
+  | inr next ↦ elim (past-is n g) [
+    | inl rose ↦ inl (omega (arith, next, rose))
+    | inr again ↦ inr (omega (arith, next, again.0), omega (arith, again.1))
+  ]
+]
+
+past-rises : (n g : ℕ) → 0 < n → n ≤ most_entries → g ≤ generation_after_many greatest_generation n g → g < generation_after_many greatest_generation n g
+past-rises n g some few counted = elim (past-is n g) [
+  | inl rose ↦ omega (arith, some, rose)
+  | inr again ↦ absurd (omega (arith, few, counted, again.0, again.1))
+]
+
+module _ (q : Queue) (bs : List Bool) (distinct : IsDistinct q.orders) (few : length q.orders ≤ most_entries) where
+  pub goes-kept : q.generation ≤ (with_kept q (items_where_true bs q.orders)).generation → GoesOn q (with_kept q (items_where_true bs q.orders))
+  goes-kept counted = record {
+    known = λ p there. inl (subst (λ (o : Option Order). IsSome o) (named-kept bs q.orders p distinct there) there);
+    ended = λ p was none. past-rises gone q.generation (some-left p was none) (omega arith) counted;
+  }
+    where
+      gone : ℕ
+      gone = length q.orders - length (items_where_true bs q.orders)
+
+      some-left : (p : ℕ × ℕ) → IsSome (order_of q.orders p) → order_of (items_where_true bs q.orders) p ≡ None → 0 < gone
+      some-left p was none = elim (leb_tells (length q.orders) (length (items_where_true bs q.orders))) [
+        | inl all ↦ absurd (some-none _ was (ap (λ xs. order_of xs p) (sym (kept-all bs q.orders all.1)) ∙ none))
+        | inr fewer ↦ omega (arith, fewer.1)
+      ]
+
+-- the queue of an arena with fewer entries left
+pub kept-queue : (side : Side) (a new : Sorted ℕ Lot) → new ≡ with_rest greatest_generation a new.entries → queue_of side new ≡ with_kept (queue_of side a) (map (order_in side) new.entries)
+kept-queue side a new after = ap (queue_of side) after
+    ∙ ap (λ n. record { side = side; orders = map (order_in side) new.entries; generation = generation_after_many greatest_generation n a.generation; capacity = a.capacity })
+    (let same : length a.entries - length new.entries ≡ length (map (order_in side) a.entries) - length (map (order_in side) new.entries) = omega (arith, length-map a.entries (order_in side), length-map new.entries (order_in side)) in same)
+
+-- a name of a side, of which some orders have left while the other side stayed as it was
+pub name-kept : (side : Side) (old new : Book) → queue new (opposite side) ≡ queue old (opposite side)
+    → ((p : ℕ × ℕ) → IsSome (order_of (queue new side).orders p) → order_of (queue new side).orders p ≡ order_of (queue old side).orders p)
+    → (id : Id) → IsSome (named new id) → named new id ≡ named old id
+name-kept side old new same kept id = go side id.side same kept
+  where
+    go : (s t : Side) → queue new (opposite s) ≡ queue old (opposite s) → ((p : ℕ × ℕ) → IsSome (order_of (queue new s).orders p) → order_of (queue new s).orders p ≡ order_of (queue old s).orders p)
+        → IsSome (order_of (queue new t).orders id.pointer) → order_of (queue new t).orders id.pointer ≡ order_of (queue old t).orders id.pointer
+    go Buy Buy other kept = kept id.pointer
+    go Sell Sell other kept = kept id.pointer
+    go Buy Sell other kept = λ there. ap (λ (q : Queue). order_of q.orders id.pointer) other
+    go Sell Buy other kept = λ there. ap (λ (q : Queue). order_of q.orders id.pointer) other
+
+-- how names go on when a closure was asked, which may have cancelled some orders
+pub goes-cancelled : {F : Type 0} (m : Mut F (Order × Unit {0}) Bool) (f : F) (q new : Queue) → IsDistinct q.orders → length q.orders ≤ most_entries → Cancels m f q new → q.generation ≤ new.generation → GoesOn q new
+goes-cancelled m f q new distinct few cancels counted =
+    let left : new ≡ with_kept q (items_where_true cancels.filtered.0 q.orders) = cancels.after ∙ ap (with_kept q) cancels.filtered.4 in
+    subst (λ (r : Queue). GoesOn q r) (sym left) (goes-kept q cancels.filtered.0 distinct few (subst (λ (r : Queue). q.generation ≤ r.generation) left counted))

@@ -1,0 +1,33 @@
+//! Whether two sides have the same orders.
+
+ghost use Rattle.std.specs.Cmp.{on_equiv, on_per, partial_equiv_from_equiv};
+ghost use Rattle.std.specs.Cmp.Lexicographic.{lists_equiv, lists_per};
+ghost use Rattle.order_book.specs.Queue.{has_same_orders, same_order_equiv};
+
+use super::OrderQueue;
+use std::alloc::Allocator;
+
+/// The same orders in the same places, with their names.
+impl<A: Allocator> PartialEq for OrderQueue<A> {
+    ghost eq = { has_same_orders };
+
+    ghost laws = { on_per (λ q. q.orders)
+        (lists_per (partial_equiv_from_equiv same_order_equiv)) };
+
+    fn eq(&self, other: &OrderQueue<A>) -> bool {
+        if self.len() != other.len() {
+            return false;
+        }
+        let (mut left, mut right) = (self.iter(), other.iter());
+        while let Some(order) = left.next() {
+            if right.next() != Some(order) {
+                return false;
+            }
+        }
+        true
+    }
+}
+
+impl<A: Allocator> Eq for OrderQueue<A> {
+    ghost laws = { on_equiv (λ q. q.orders) (lists_equiv same_order_equiv) };
+}
