@@ -1,20 +1,21 @@
 //! A desk that deals for others, and says at once how much was dealt.
 
-ghost use Rattle.std.specs.Prelude.{◌≡◌, ◌≢◌, ◌↔◌, ◌+◌, ◌-◌, ◌++◌, ◌<◌, ◌⊎◌, ℕ, [], ◌∷◌, length, vec_capacity, IsTrue, true, false};
-ghost use Rattle.std.specs.Prelude.{Some, None, Ok, Err, IfOk, OnOk, OnErr, OnSome, IfSome, IfNone};
+ghost use Rattle.std.specs.Prelude.{◌≡◌, ◌≢◌, ◌↔◌, ◌+◌, ◌-◌, ◌++◌, ◌<◌, ◌⊎◌, ℕ, [], ◌∷◌, length, min, leb, vec_capacity, IsTrue, true, false};
+ghost use Rattle.std.specs.Prelude.{Some, None, Ok, Err, IfOk, OnOk, OnErr, OnSome, IfSome, IfNone, IsSome};
 ghost use Rattle.std.specs.Option.{option_map};
-ghost use Rattle.order_book.specs.Words.{HasRoomFor, first_levels, volume};
+ghost use Rattle.order_book.specs.Words.{HasRoomFor, first_levels, first_of, level_at, orders_at, orders_from, resting, top_of, total, volume};
 ghost use Rattle.order_book.specs.Names.{Counts, HasEnded, HasNoLaterName};
-ghost use Rattle.order_book.specs.Book.{IsFull, LacksRoom, Updates, named, queue, rest_of, trades_for, trades_of};
+ghost use Rattle.order_book.specs.Book.{IsFull, IsUncrossed, LacksRoom, Updates, named, opposite, queue, rest_of, trades_for, trades_of};
 
 use order_book::laws::ended_name_law;
 use order_book::{
-    Level, NewOrder, OrderBook, OrderId, OrderKind, PlacingError, ReallocationError, Side, Trade,
+    Level, NewOrder, Order, OrderBook, OrderId, OrderKind, PlacingError, ReallocationError, Side,
+    Trade,
 };
-use std::alloc::Global;
+use std::alloc::{AllocError, Global};
 use std::marker::Model;
 
-/// A desk with its book. In contracts it is the book.
+/// A desk with its book, in which no bid is ever at or above an ask. In contracts it is the book.
 #[derive(Drop)]
 pub struct Desk {
     book: OrderBook,
@@ -26,6 +27,10 @@ impl Model for Desk {
     ghost Value = { Book };
 
     ghost view = { λ d. d.book };
+
+    ghost use Rattle.order_book.specs.Book.{IsUncrossed};
+
+    ghost invariant = { λ d. IsUncrossed d.book };
 }
 
 /// What came of an order: how much of it was dealt at once, and the name of what rests.
@@ -107,6 +112,106 @@ impl Desk {
     {
         let left = self.left_of(id);
         self.book.reduce(id, left / 2)
+    }
+
+    /// Takes over an execution that the market reports, and returns how much of the order it filled: 0 if the name names none.
+    pub fn fill(&mut self, id: OrderId, quantity: u64) -> u64
+        ensures filled { (order : _) → named self.old id ≡ Some order
+            → result ≡ min quantity order.quantity }
+        ensures none { named self.old id ≡ None → (result ≡ 0) × (self.new ≡ self.old) }
+        ensures others { (other : _) → other ≢ id
+            → named self.new other ≡ named self.old other }
+    {
+        match self.book.execute(id, quantity) {
+            Some(trade) => trade.quantity,
+            None => 0,
+        }
+    }
+
+    /// Returns the best price of a side, and how much rests there. `None` if the side has no orders.
+    pub fn quote(&self, side: Side) -> Option<(u64, u128)>
+        ensures { result ≡ option_map (λ level. (level.price, level.quantity))
+            (top_of (queue self.now side).orders) }
+    {
+        let top = self.book.top(side)?;
+        Some((top.price, top.quantity))
+    }
+
+    /// Returns whether at least so much of a side rests at a price.
+    pub fn has_at(&self, side: Side, price: u64, quantity: u128) -> bool
+        ensures { result ≡ leb quantity (total (orders_at price (queue self.now side).orders)) }
+    {
+        quantity <= self.book.volume_at(side, price)
+    }
+
+    /// Returns how many orders of a side rest at a price.
+    pub fn count_at(&self, side: Side, price: u64) -> usize
+        ensures some { (level : _) → level_at price (queue self.now side).orders ≡ Some level
+            → result ≡ level.count }
+        ensures none { level_at price (queue self.now side).orders ≡ None → result ≡ 0 }
+    {
+        match self.book.level_at(side, price) {
+            Some(level) => level.count,
+            None => 0,
+        }
+    }
+
+    /// Returns the first order of a side at a price or a worse one.
+    pub fn first_from(&self, side: Side, price: u64) -> Option<Order>
+        ensures { result ≡ first_of (orders_from side price (queue self.now side).orders) }
+    {
+        self.book.iter_from(side, price).next()
+    }
+
+    /// Cancels the orders of a side with this tag, and returns how many. The others keep their names, and ended names stay so.
+    pub fn withdraw_all(&mut self, side: Side, tag: u64) -> usize
+        ensures count { result + length (queue self.new side).orders
+            ≡ length (queue self.old side).orders }
+        ensures kept { (other : _) → IsSome (named self.new other)
+            → named self.new other ≡ named self.old other }
+        ensures other_side { queue self.new (opposite side) ≡ queue self.old (opposite side) }
+        ensures ended { Counts self.old self.new → (other : _) → HasEnded self.old other
+            → HasEnded self.new other }
+    {
+        ended_name_law();
+        self.book.cancel_where(side, |order| order.tag == tag)
+    }
+
+    /// Takes over an order that rests elsewhere, and returns its name. One that would trade here, or for which there is no room, is refused:
+    /// nothing changes.
+    pub fn take_over(&mut self, side: Side, price: u64, quantity: u64, tag: u64) -> Option<OrderId>
+        ensures rests { IfSome result (λ id. named self.new id
+            ≡ Some (resting side id.pointer price quantity tag)) }
+        ensures none { IfNone result (self.new ≡ self.old) }
+    {
+        if self.book.offered(side, price, quantity) > 0 {
+            return None;
+        }
+        match self.book.add(side, price, quantity, tag) {
+            Ok(id) => Some(id),
+            Err(_) => None,
+        }
+    }
+
+    /// Returns a copy of the desk: the same orders with the same names.
+    pub fn copy(&self) -> Result<Desk, AllocError>
+        ensures bids { IfOk result (λ copy. copy.bids.orders ≡ self.now.bids.orders) }
+        ensures asks { IfOk result (λ copy. copy.asks.orders ≡ self.now.asks.orders) }
+    {
+        Ok(Desk {
+            book: self.book.try_clone()?,
+        })
+    }
+
+    /// Makes a desk of a book from a feed. One that is crossed is refused.
+    pub fn open(book: OrderBook) -> Option<Desk>
+        ensures same { IfSome result (λ desk. desk ≡ book) }
+        ensures crossed { IfNone result (IsUncrossed book → ⊥) }
+    {
+        if book.is_crossed() {
+            return None;
+        }
+        Some(Desk { book })
     }
 
     /// Places an order, appends its trades to the list, and says how much was dealt. One that is refused changes nothing.
