@@ -4,9 +4,11 @@ use crate::COMMANDS;
 use crate::chart::write_chart;
 use crate::command::{Command, Fault, Question};
 use crate::exchange::Exchange;
-use crate::values::{cancelled_value, left_value, order_value, totals_value, value_of};
+use crate::values::{
+    cancelled_value, executed_value, left_value, order_value, totals_value, value_of,
+};
 use line_service::{Style, complaint, write_json};
-use order_book::{Order, OrderKind, Side};
+use order_book::{Level, Order, OrderKind, Side};
 use std::alloc::Global;
 use std::io;
 use std::io::Write;
@@ -80,6 +82,34 @@ fn write_rest<W: Write>(
     }
 }
 
+/// Returns what the orders of a side are called.
+fn word_of(side: Side) -> &'static str {
+    match side {
+        Side::Buy => "bid",
+        Side::Sell => "ask",
+    }
+}
+
+/// Writes a level of a side, or that there is none.
+fn write_top<W: Write>(writer: &mut W, side: Side, top: Option<Level>) -> io::Result<()> {
+    let word = word_of(side);
+    match top {
+        Some(level) => {
+            let (price, quantity, count) = (level.price, level.quantity, level.count);
+            writeln!(writer, "{word} {quantity} at {price}, orders {count}")
+        }
+        None => writeln!(writer, "no {word}"),
+    }
+}
+
+/// Writes how much is left of an order.
+fn write_left<W: Write>(writer: &mut W, number: u64, left: u64) -> io::Result<()> {
+    match left {
+        0 => writeln!(writer, "gone {number}"),
+        left => writeln!(writer, "left {left} of {number}"),
+    }
+}
+
 /// Writes the best order of a side.
 fn write_best<W: Write>(writer: &mut W, word: &str, best: Option<Order>) -> io::Result<()> {
     match best {
@@ -107,13 +137,8 @@ fn write_depth<W: Write>(
     side: Side,
     levels: usize,
 ) -> io::Result<()> {
-    let word = match side {
-        Side::Buy => "bid",
-        Side::Sell => "ask",
-    };
     for level in exchange.book.depth(side, levels) {
-        let (price, quantity, count) = (level.price, level.quantity, level.count);
-        writeln!(writer, "{word} {quantity} at {price}, orders {count}")?;
+        write_top(writer, side, Some(level))?;
     }
     Ok(())
 }
@@ -153,12 +178,22 @@ fn change<W: Write>(
             figures.count(exchange);
             write_order(alloc, writer, style, exchange, rests, quantity)?;
         }
+        Command::Execute(number, quantity) => {
+            let left = exchange.execute(number, quantity)?;
+            figures.count(exchange);
+            if style.is_json {
+                write_json(alloc, writer, &executed_value(alloc, exchange, left)?)?;
+            } else {
+                write_trades(writer, exchange)?;
+                write_left(writer, number, left)?;
+            }
+        }
         Command::Reduce(number, quantity) => {
             let left = exchange.reduce(number, quantity)?;
-            match left {
-                _ if style.is_json => write_json(alloc, writer, &left_value(alloc, left)?)?,
-                0 => writeln!(writer, "gone {number}")?,
-                left => writeln!(writer, "left {left} of {number}")?,
+            if style.is_json {
+                write_json(alloc, writer, &left_value(alloc, left)?)?;
+            } else {
+                write_left(writer, number, left)?;
             }
         }
         Command::Cancel(number) => {
@@ -187,6 +222,7 @@ fn tell<W: Write>(
             write_best(writer, "bid", exchange.book.best_bid())?;
             write_best(writer, "ask", exchange.book.best_ask())?;
         }
+        Question::Top(side) => write_top(writer, side, exchange.book.top(side))?,
         Question::Depth(levels) => write_depths(writer, exchange, levels)?,
         Question::Chart(levels) => write_chart(alloc, writer, exchange, levels)?,
         Question::Help => writer.write_all(COMMANDS.as_bytes())?,
@@ -207,6 +243,10 @@ pub fn obey<W: Write>(
         Command::Place(side, kind, quantity, tag) => {
             let rests = exchange.place(side, kind, quantity, tag)?;
             figures.count(exchange);
+            write_order(alloc, writer, style, exchange, rests, quantity)?;
+        }
+        Command::Add(side, price, quantity, tag) => {
+            let rests = exchange.add(side, price, quantity, tag)?;
             write_order(alloc, writer, style, exchange, rests, quantity)?;
         }
         Command::Ask(question) if style.is_json => {

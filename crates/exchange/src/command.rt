@@ -1,7 +1,7 @@
 //! What a line says, and what may be wrong with it.
 
 use line_service::{NumberError, number};
-use order_book::{OrderKind, PlacingError, ReplacingError, Side};
+use order_book::{AddingError, OrderKind, PlacingError, ReplacingError, Side};
 use std::alloc::AllocError;
 use std::io;
 use std::str::SplitAsciiWhitespace;
@@ -12,7 +12,10 @@ use thiserror::Error;
 pub enum Command {
     /// An order of a side and kind for this quantity, with its owner's tag.
     Place(Side, OrderKind, u64, u64),
+    /// An order of a side at a price for this quantity, with its owner's tag, that rests without trading.
+    Add(Side, u64, u64, u64),
     Cancel(u64),
+    Execute(u64, u64),
     Reduce(u64, u64),
     Replace(u64, u64, u64),
     Ask(Question),
@@ -22,6 +25,7 @@ pub enum Command {
 #[derive(Clone, Copy)]
 pub enum Question {
     Best,
+    Top(Side),
     Depth(usize),
     Chart(usize),
     Help,
@@ -49,8 +53,12 @@ pub enum Fault {
     NotText,
     #[error("no such order")]
     NoOrder,
+    #[error("an execution of nothing")]
+    NoExecution,
     #[error("{0}")]
     Placing(#[from] PlacingError),
+    #[error("{0}")]
+    Adding(#[from] AddingError),
     #[error("{0}")]
     Replacing(#[from] ReplacingError),
     #[error("{0}")]
@@ -79,6 +87,7 @@ fn read_named(name: &str, words: &mut SplitAsciiWhitespace) -> Result<Command, M
         "sell" => limit(Side::Sell, words),
         "post" | "ioc" | "fok" => of_kind(name, words),
         "market" => market(words),
+        "add" => add(words),
         _ => read_other(name, words),
     }
 }
@@ -87,6 +96,7 @@ fn read_named(name: &str, words: &mut SplitAsciiWhitespace) -> Result<Command, M
 fn read_other(name: &str, words: &mut SplitAsciiWhitespace) -> Result<Command, Misread> {
     match name {
         "cancel" => Ok(Command::Cancel(number(words.next())?)),
+        "execute" => execute(words),
         "reduce" => reduce(words),
         "replace" => replace(words),
         _ => Ok(Command::Ask(read_question(name, words)?)),
@@ -97,6 +107,7 @@ fn read_other(name: &str, words: &mut SplitAsciiWhitespace) -> Result<Command, M
 fn read_question(name: &str, words: &mut SplitAsciiWhitespace) -> Result<Question, Misread> {
     match name {
         "best" => Ok(Question::Best),
+        "top" => Ok(Question::Top(side(words.next())?)),
         "depth" => Ok(Question::Depth(levels(words)?)),
         "chart" => Ok(Question::Chart(levels(words)?)),
         "help" => Ok(Question::Help),
@@ -126,11 +137,25 @@ fn of_kind(name: &str, words: &mut SplitAsciiWhitespace) -> Result<Command, Misr
     Ok(Command::Place(side, kind, quantity, tag))
 }
 
+fn add(words: &mut SplitAsciiWhitespace) -> Result<Command, Misread> {
+    let side = side(words.next())?;
+    let price = number(words.next())?;
+    let quantity = number(words.next())?;
+    let tag = tag(words)?;
+    Ok(Command::Add(side, price, quantity, tag))
+}
+
 fn market(words: &mut SplitAsciiWhitespace) -> Result<Command, Misread> {
     let side = side(words.next())?;
     let quantity = number(words.next())?;
     let tag = tag(words)?;
     Ok(Command::Place(side, OrderKind::Market, quantity, tag))
+}
+
+fn execute(words: &mut SplitAsciiWhitespace) -> Result<Command, Misread> {
+    let order = number(words.next())?;
+    let quantity = number(words.next())?;
+    Ok(Command::Execute(order, quantity))
 }
 
 fn reduce(words: &mut SplitAsciiWhitespace) -> Result<Command, Misread> {

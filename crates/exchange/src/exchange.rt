@@ -59,6 +59,20 @@ impl Exchange {
         Ok(self.enter(number, id, tag))
     }
 
+    /// Puts an order at rest without trading. Returns its number.
+    pub fn add(
+        &mut self,
+        side: Side,
+        price: u64,
+        quantity: u64,
+        tag: u64,
+    ) -> Result<Option<u64>, Fault> {
+        self.make_ready()?;
+        let number = self.last.wrapping_add(1);
+        let id = self.book.add(side, price, quantity, number)?;
+        Ok(self.enter(number, Some(id), tag))
+    }
+
     /// Replaces the order of this number. Returns the number if something of it rests again.
     pub fn replace(
         &mut self,
@@ -81,6 +95,19 @@ impl Exchange {
         let order = self.book.cancel(entry.id).ok_or(Fault::NoOrder)?;
         let _ = self.entries.remove(&number);
         Ok((order.price, order.quantity))
+    }
+
+    /// Executes this much of the order of this number, at most all of it; the trade is then the only one. Returns what is left of the order.
+    pub fn execute(&mut self, number: u64, quantity: u64) -> Result<u64, Fault> {
+        let entry = self.entry(number)?;
+        self.make_ready()?;
+        self.trades.reserve(1)?;
+        let trade = self
+            .book
+            .execute(entry.id, quantity)
+            .ok_or(Fault::NoExecution)?;
+        self.trades.push(trade)?;
+        Ok(self.left(number))
     }
 
     /// Takes this much off the order of this number. Returns what is left of it.

@@ -32,10 +32,13 @@ const COMMANDS: &str = "  buy PRICE QUANTITY [TAG]            trades, and what r
   ioc buy|sell PRICE QUANTITY [TAG]   trades at once; the rest is dropped
   fok buy|sell PRICE QUANTITY [TAG]   trades as a whole, or is refused
   market buy|sell QUANTITY [TAG]      trades at any price; the rest is dropped
+  add buy|sell PRICE QUANTITY [TAG]   rests without trading
   replace ORDER PRICE QUANTITY        counts as a new order, under its number
+  execute ORDER QUANTITY              trades so much of it, at its price
   reduce ORDER QUANTITY               takes so much off; the order keeps its place
   cancel ORDER
   best                                the best bid and ask
+  top buy|sell                        the best price of a side: quantity and orders
   depth [LEVELS]                      price, quantity and orders of each level
   chart [LEVELS]                      price and quantity of each level, as bars
   help                                these commands

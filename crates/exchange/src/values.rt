@@ -4,7 +4,7 @@ use crate::COMMANDS;
 use crate::answers::{Figures, left_of};
 use crate::command::Question;
 use crate::exchange::Exchange;
-use order_book::{Order, Side};
+use order_book::{Level, Order, Side};
 use serde_json::{Number, Value, json};
 use std::alloc::Global;
 use std::io;
@@ -52,6 +52,16 @@ pub fn order_value(
     Ok(json!(in alloc; {"trades": trades, "rests": rests, "dropped": dropped})?)
 }
 
+/// Returns an execution: its trade, and what is left of the order.
+///
+/// # Errors
+///
+/// An allocation failed.
+pub fn executed_value(alloc: Global, exchange: &Exchange, left: u64) -> io::Result<Value> {
+    let trades = trades_value(alloc, exchange)?;
+    Ok(json!(in alloc; {"trades": trades, "left": left})?)
+}
+
 /// Returns what is left of a reduced order.
 ///
 /// # Errors
@@ -79,6 +89,20 @@ fn best_value(alloc: Global, best: Option<Order>) -> io::Result<Value> {
     Ok(json!(in alloc; {"quantity": quantity, "price": price, "order": number})?)
 }
 
+// Returns a level.
+fn level_value(alloc: Global, level: Level) -> io::Result<Value> {
+    let quantity = quantity_value(alloc, level.quantity)?;
+    Ok(json!(in alloc; {"quantity": quantity, "price": level.price, "orders": level.count})?)
+}
+
+// Returns the best level of a side.
+fn top_value(alloc: Global, top: Option<Level>) -> io::Result<Value> {
+    match top {
+        Some(level) => level_value(alloc, level),
+        None => Ok(Value::Null),
+    }
+}
+
 // Returns the first levels of a side, the best first.
 fn levels_value(
     alloc: Global,
@@ -88,10 +112,7 @@ fn levels_value(
 ) -> io::Result<Value> {
     let mut values = Vec::new(alloc);
     for level in exchange.book.depth(side, levels) {
-        let quantity = quantity_value(alloc, level.quantity)?;
-        values.push(
-            json!(in alloc; {"quantity": quantity, "price": level.price, "orders": level.count})?,
-        )?;
+        values.push(level_value(alloc, level)?)?;
     }
     Ok(Value::from(values))
 }
@@ -114,6 +135,10 @@ pub fn value_of(alloc: Global, exchange: &Exchange, question: Question) -> io::R
             let bid = best_value(alloc, exchange.book.best_bid())?;
             let ask = best_value(alloc, exchange.book.best_ask())?;
             Ok(json!(in alloc; {"bid": bid, "ask": ask})?)
+        }
+        Question::Top(side) => {
+            let top = top_value(alloc, exchange.book.top(side))?;
+            Ok(json!(in alloc; {"top": top})?)
         }
         Question::Depth(levels) | Question::Chart(levels) => depth_value(alloc, exchange, levels),
         Question::Help => Ok(json!(in alloc; {"help": COMMANDS})?),
