@@ -154,3 +154,129 @@ fn reserve_in(rt: &(impl Abort + AllocGlobal), book: &mut OrderBook) -> Result<(
     assert_eq!(rt; book.capacity(Side::Sell), room);
     Ok(())
 }
+
+#[test]
+fn execute(rt: HostRuntime) -> Result<(), Fail> {
+    execute_in(&rt, &mut OrderBook::new(rt.alloc()))
+}
+
+fn execute_in(rt: &impl Abort, book: &mut OrderBook) -> Result<(), Fail> {
+    let ask = book.add(Side::Sell, 101, 10, 7)?;
+    let trade = book.execute(ask, 4);
+    assert_eq!(rt;
+        trade.map(|trade| (trade.price, trade.quantity)),
+        Some((101, 4))
+    );
+    assert_eq!(rt; book.get(ask).map(|order| order.quantity), Some(6));
+    Ok(())
+}
+
+#[test]
+fn add(rt: HostRuntime) -> Result<(), Fail> {
+    add_in(&rt, &mut OrderBook::new(rt.alloc()))
+}
+
+fn add_in(rt: &impl Abort, book: &mut OrderBook) -> Result<(), Fail> {
+    let bid = book.add(Side::Buy, 102, 10, 7)?;
+    book.add(Side::Sell, 101, 4, 8)?;
+    assert!(rt; book.is_crossed());
+    assert_eq!(rt;
+        book.get(bid).map(|order| (order.price, order.quantity)),
+        Some((102, 10))
+    );
+    Ok(())
+}
+
+#[test]
+fn try_clone(rt: HostRuntime) -> Result<(), Fail> {
+    try_clone_in(&rt, &mut OrderBook::new(rt.alloc()))
+}
+
+fn try_clone_in(rt: &impl Abort, book: &mut OrderBook) -> Result<(), Fail> {
+    let ask = book.add(Side::Sell, 101, 10, 7)?;
+    let copy = book.try_clone()?;
+    assert!(rt; copy == *book);
+    book.execute(ask, 10);
+    assert_eq!(rt; copy.get(ask).map(|order| order.quantity), Some(10));
+    assert!(rt; copy != *book);
+    Ok(())
+}
+
+#[test]
+fn top(rt: HostRuntime) -> Result<(), Fail> {
+    top_in(&rt, &mut OrderBook::new(rt.alloc()))
+}
+
+fn top_in(rt: &(impl Abort + AllocGlobal), book: &mut OrderBook) -> Result<(), Fail> {
+    let mut trades = Vec::new(rt.alloc());
+    book.place(NewOrder::limit(Side::Sell, 101, 10), &mut trades)?;
+    book.place(NewOrder::limit(Side::Sell, 101, 5), &mut trades)?;
+    book.place(NewOrder::limit(Side::Sell, 103, 20), &mut trades)?;
+    let top = book.top(Side::Sell);
+    assert_eq!(rt;
+        top.map(|top| (top.price, top.quantity, top.count)),
+        Some((101, 15, 2))
+    );
+    Ok(())
+}
+
+#[test]
+fn level_at(rt: HostRuntime) -> Result<(), Fail> {
+    level_at_in(&rt, &mut OrderBook::new(rt.alloc()))
+}
+
+fn level_at_in(rt: &(impl Abort + AllocGlobal), book: &mut OrderBook) -> Result<(), Fail> {
+    let mut trades = Vec::new(rt.alloc());
+    book.place(NewOrder::limit(Side::Sell, 103, 20), &mut trades)?;
+    book.place(NewOrder::limit(Side::Sell, 103, 5), &mut trades)?;
+    let level = book.level_at(Side::Sell, 103);
+    assert_eq!(rt;
+        level.map(|level| (level.quantity, level.count)),
+        Some((25, 2))
+    );
+    assert_eq!(rt; book.level_at(Side::Sell, 102), None);
+    Ok(())
+}
+
+#[test]
+fn volume_at(rt: HostRuntime) -> Result<(), Fail> {
+    volume_at_in(&rt, &mut OrderBook::new(rt.alloc()))
+}
+
+fn volume_at_in(rt: &(impl Abort + AllocGlobal), book: &mut OrderBook) -> Result<(), Fail> {
+    let mut trades = Vec::new(rt.alloc());
+    book.place(NewOrder::limit(Side::Sell, 103, 20), &mut trades)?;
+    book.place(NewOrder::limit(Side::Sell, 103, 5), &mut trades)?;
+    assert_eq!(rt; book.volume_at(Side::Sell, 103), 25);
+    assert_eq!(rt; book.volume_at(Side::Buy, 103), 0);
+    Ok(())
+}
+
+#[test]
+fn iter_from(rt: HostRuntime) -> Result<(), Fail> {
+    iter_from_in(&rt, &mut OrderBook::new(rt.alloc()))
+}
+
+fn iter_from_in(rt: &(impl Abort + AllocGlobal), book: &mut OrderBook) -> Result<(), Fail> {
+    let mut trades = Vec::new(rt.alloc());
+    book.place(NewOrder::limit(Side::Sell, 101, 10), &mut trades)?;
+    book.place(NewOrder::limit(Side::Sell, 103, 20), &mut trades)?;
+    let ask = book.iter_from(Side::Sell, 102).next();
+    assert_eq!(rt; ask.map(|ask| ask.price), Some(103));
+    assert!(rt; book.iter_from(Side::Buy, 102).next().is_none());
+    Ok(())
+}
+
+#[test]
+fn cancel_where(rt: HostRuntime) -> Result<(), Fail> {
+    cancel_where_in(&rt, &mut OrderBook::new(rt.alloc()))
+}
+
+fn cancel_where_in(rt: &(impl Abort + AllocGlobal), book: &mut OrderBook) -> Result<(), Fail> {
+    let mut trades = Vec::new(rt.alloc());
+    book.place(NewOrder::limit(Side::Sell, 101, 10), &mut trades)?;
+    book.place(NewOrder::limit(Side::Sell, 103, 20), &mut trades)?;
+    assert_eq!(rt; book.cancel_where(Side::Sell, |order| order.price < 102), 1);
+    assert_eq!(rt; book.best_ask().map(|ask| ask.price), Some(103));
+    Ok(())
+}

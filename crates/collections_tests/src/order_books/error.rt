@@ -1,9 +1,13 @@
 //! The errors of orders, as printed.
-use order_book::{PlacingError, ReplacingError};
+use order_book::{AddingError, PlacingError, ReplacingError};
 use std::alloc::Global;
 
 /// Returns the texts of an error.
 fn text_of_placing(alloc: Global, refusal: PlacingError) -> Option<String> {
+    format!(in alloc; "{refusal}, {refusal:?}").ok()
+}
+
+fn text_of_adding(alloc: Global, refusal: AddingError) -> Option<String> {
     format!(in alloc; "{refusal}, {refusal:?}").ok()
 }
 
@@ -54,5 +58,20 @@ fn each_replacing_error_is_printed_in_words_and_by_its_name(rt: HostRuntime) {
     ];
     for (refusal, wanted) in &texts {
         assert!(rt; is_text(text_of_replacing(rt.alloc(), *refusal), wanted));
+    }
+}
+
+#[test]
+fn each_adding_error_is_printed_in_words_and_by_its_name(rt: HostRuntime) {
+    let texts = [
+        (AddingError::NoQuantity, "an order for nothing, NoQuantity"),
+        (
+            AddingError::BeyondMaxCapacity,
+            "as many orders as there can be, BeyondMaxCapacity",
+        ),
+        (AddingError::AllocError, "out of memory, AllocError"),
+    ];
+    for (refusal, wanted) in &texts {
+        assert!(rt; is_text(text_of_adding(rt.alloc(), *refusal), wanted));
     }
 }
