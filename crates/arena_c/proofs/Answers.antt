@@ -2,10 +2,9 @@
 use Rattle.std.proofs.Common.{◌≡◌, ◌≢◌, ℕ, ℤ, Bool, true, List, [], ◌∷◌, length, Option, Some, None, is_some, Result, Ok, Err, IsSomeAnd, IfNone, IfOk, OnOk, OnErr, ◌↔◌, refl, sym, ap, ◌∙◌, subst, arith, lit<}
 use Rattle.std.specs.{Option.option_map, Option.option_and_then, Result.result_ok, Ordering.int_cmp, Ordering.is_eq, declared.cmp.Ordering.Ordering, List.Contains}
 use Rattle.sorted_arena.specs.{Chain.Entry as Listed, Chain.IsDistinct, Chain.first_pointer, Chain.last_pointer, Chain.item_of, ReallocationError.ReallocationError}
-use Rattle.sorted_arena.specs.{Sorted.first_where, Sorted.key_of, Sorted.first_item, Sorted.get, Sorted.last_item, Sorted.with_key, Sorted.without_first, Sorted.without_last, declared.error.UniqueInsertionError.UniqueInsertionError}
+use Rattle.sorted_arena.specs.{Sorted.first_where, Sorted.key_of, Sorted.first_item, Sorted.get, Sorted.last_item, Sorted.with_key, Sorted.without_first, Sorted.without_last, Unique.pointer_in_way, declared.error.UniqueInsertionError.UniqueInsertionError}
 use Rattle.sorted_arena.proofs.CallerLemmas.{first-named, last-named, last-none, with_key-none, without_first-none, without_last-none}
 use Rattle.arena_c.specs.{declared.entry.Entry.Entry, Shown.Arena, Shown.entry_found, Shown.greatest_generation}
-use Rattle.sorted_arena.specs.declared.error.UniqueInsertionError.TheVariants.{EqualKey, BeyondMaxCapacity, AllocError}
 use Rattle.sorted_arena.specs.ReallocationError.TheVariants.{BeyondMaxCapacity as Beyond, AllocError as NoMemory}
 use Rattle.arena_c.specs.Status.{ok, full, no_memory, closed, out_of_order}
 use Rattle.arena_c.specs.Answer.{found_status, found_or, look_status, Becomes, Looks, Changes, status_of_reservation}
@@ -58,7 +57,7 @@ becomes change a b old new taken put fact = subst (λ (n : Option Arena). Become
 pub equal-told : {P X : Type 0} (numbers : P → ℕ × ℕ) (result : Result P (X × UniqueInsertionError P)) (held : Option Arena) (a inside : Arena) (key same_key : ℤ) (Told : Type 0) → Some a ≡ held → inside ≡ a
     → same_key ≡ key → option_map numbers (pointer_in_way result) ≡ first_where (λ e. is_eq (int_cmp same_key (key_of e))) inside.entries → (Told ↔ (is_some (pointer_in_way result) ≡ true))
     → (Told ↔ IsSomeAnd held (λ b. is_some (first_where (λ e. is_eq (int_cmp key (key_of e))) b.entries) ≡ true))
-equal-told numbers result held a inside key same_key Told taken same_inside same_k fact told =
+equal-told {P = P} numbers result held a inside key same_key Told taken same_inside same_k fact told =
     subst (λ (h : Option Arena). Told ↔ IsSomeAnd h (λ b. is_some (first_where (λ e. is_eq (int_cmp key (key_of e))) b.entries) ≡ true)) taken
     ((λ h. sym there ∙ told.0 h), (λ p. told.1 (there ∙ p)))
   where

@@ -1,9 +1,9 @@
 -- Pairs that come behind all entries at once, and the pointers of the last entries.
-use Rattle.std.proofs.Common.{◌≡◌, ℕ, zero, suc, ◌+◌, ◌-◌, ◌<◌, ◌≤◌, ℤ, ◌++◌, List, [], ◌∷◌, map, length, length-append, take, drop, get_or, slice_set, Option, Some, None, Result, Ok, Err, OnOk, IsSome, IsSomeAnd, true, false, refl, sym, ap, subst, ◌∙◌, ◌⊎◌, inl, inr, arith}
+use Rattle.std.proofs.Common.{◌≡◌, ℕ, zero, suc, ◌+◌, ◌-◌, ◌<◌, ◌≤◌, ℤ, ◌++◌, List, [], ◌∷◌, map, length, length-append, take, drop, get_or, slice_set, Option, Some, None, Vec, Result, Ok, Err, OnOk, IsSome, IsSomeAnd, true, false, refl, sym, ap, subst, ◌∙◌, ◌⊎◌, inl, inr, arith}
 use native.Mathlib.Numerals.{unary_clauses}
 use Rattle.std.proofs.lemmas.{Grind.common_steps, List.length-map}
 use Rattle.std.specs.{Option.option_map, Ordering.is_gt, Ordering.int_cmp, List.zip, declared.cmp.Ordering.TheVariants.Greater}
-use Rattle.sorted_arena.specs.{Chain.item_of, Gap.last_of, PlainArena.capacity_for, Change.ExtendsSorted, Sorted.count, Sorted.get, Sorted.last_item, Sorted.pair_of as pair_in}
+use Rattle.sorted_arena.specs.{Chain.item_of, Gap.last_of, PlainArena.capacity_for, Change.ExtendsSorted, Change.refusal_of, Sorted.count, Sorted.get, Sorted.last_item, Sorted.pair_of as pair_in}
 use Rattle.sorted_arena.specs.declared.error.SortedError.{SortedError, TheVariants.OutOfOrder, TheVariants.BeyondMaxCapacity, TheVariants.AllocError}
 use Rattle.arena_c.specs.{declared.entry.Pointer.Pointer, Batch.first_fall, Batch.fall_behind, Batch.with_pointers, Batch.ExtendsAtOnce, Shown.Arena, Shown.most_entries}
 use Rattle.arena_c.proofs.Runs.{fall-step, take-step, drop-get}
