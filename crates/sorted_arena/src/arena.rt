@@ -16,6 +16,7 @@ mod counted;
 mod debug;
 mod drain;
 mod drain_entries;
+mod entry;
 mod extend;
 mod find;
 mod find_by;

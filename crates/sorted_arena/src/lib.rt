@@ -5,6 +5,7 @@
 #![tactic(auto)]
 
 mod arena;
+mod entry;
 mod error;
 mod into;
 mod met;
@@ -14,6 +15,7 @@ mod range;
 mod whole;
 
 pub use arena::SortedArena;
+pub use entry::{Entry, OccupiedEntry, VacantEntry};
 pub use error::{RekeyUniqueError, SortedError, UniqueInsertionError};
 pub use into::{IntoEntries, IntoKeys, IntoValues};
 pub use listing::laws;

@@ -1,6 +1,6 @@
 //! Searches by a closure, places, and removals that return pointers, over the orders of up to three keys, beside the vector.
 use crate::support::{Beside, Entry, Numbers, ORDERS, are_alike, beside_of};
-use sorted_arena::{BasePtr, P0};
+use sorted_arena::{BasePtr, Entry as Place, P0};
 use std::alloc::Global;
 
 /// The keys that are asked for: 0 to 6, of which entries have 1, 3 and 5.
@@ -127,6 +127,25 @@ fn is_found_or_inserted(beside: &mut Beside, k: u64) -> Option<bool> {
     Some(is_right && (q, key) == (p, k) && !arena.contains(p))
 }
 
+/// Whether the place of a key is at the first entry that has it, whose value is written then, or a new one has it; and whether the same
+/// entry is found again, and removed.
+fn is_entered(arena: &mut Numbers, k: u64) -> Option<bool> {
+    let before = arena.find(&k);
+    let p = match arena.entry(k) {
+        Place::Occupied(mut entry) => {
+            entry.set_value(77);
+            entry.pointer()
+        }
+        Place::Vacant(entry) => entry.insert(77).ok()?,
+    };
+    let is_first = arena.find(&k) == Some(p) && (before == None || before == Some(p));
+    let taken = match arena.entry(k) {
+        Place::Occupied(entry) => Some(entry.remove()),
+        Place::Vacant(_) => None,
+    };
+    Some(is_first && taken == Some((k, 77)) && !arena.contains(p))
+}
+
 /// Whether an arena of n keys in this order is searched and popped as the vector.
 fn is_searched(alloc: Global, n: usize, number: usize, k: u64) -> Option<bool> {
     let mut beside = beside_of(alloc, n, number)?;
@@ -142,7 +161,8 @@ fn is_emptied(alloc: Global, n: usize, number: usize, k: u64) -> Option<bool> {
 
 /// Whether such an arena finds or inserts a key, and removes its entry.
 fn is_changed(alloc: Global, n: usize, number: usize, k: u64) -> Option<bool> {
-    is_found_or_inserted(&mut beside_of(alloc, n, number)?, k)
+    let is_right = is_found_or_inserted(&mut beside_of(alloc, n, number)?, k)?;
+    Some(is_right && is_entered(&mut beside_of(alloc, n, number)?.arena, k)?)
 }
 
 #[test]

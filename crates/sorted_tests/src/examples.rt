@@ -1,6 +1,6 @@
 //! The examples in the text of the calls of `SortedArena`.
 
-use sorted_arena::{RekeyUniqueError, SortedArena, UniqueInsertionError};
+use sorted_arena::{Entry, RekeyUniqueError, SortedArena, UniqueInsertionError};
 use std::process::Abort;
 use std::test::Fail;
 
@@ -321,6 +321,28 @@ fn for_each_mut_in(
     assert!(rt; scores.values().eq(&[6, 8]));
     scores.for_each_mut("Alan".., |_, score| *score = 0);
     assert!(rt; scores.values().eq(&[6, 0]));
+    Ok(())
+}
+
+#[test]
+fn entry(rt: HostRuntime) -> Result<(), Fail> {
+    entry_in(&rt, &mut SortedArena::new(rt.alloc()))
+}
+
+fn entry_in(rt: &impl Abort, stock: &mut SortedArena<&'static str, u32>) -> Result<(), Fail> {
+    for word in ["tea", "milk", "tea"] {
+        match stock.entry(word) {
+            Entry::Occupied(mut entry) => {
+                let count = entry.value().saturating_add(1);
+                entry.set_value(count);
+            }
+            Entry::Vacant(entry) => {
+                entry.insert(1).map_err(|refused| refused.1)?;
+            }
+        }
+    }
+    assert!(rt; stock.keys().eq(&["milk", "tea"]));
+    assert!(rt; stock.values().eq(&[1, 2]));
     Ok(())
 }
 

@@ -9,7 +9,7 @@ ghost use Rattle.sorted_arena.specs.Given.{given_entry};
 ghost use Rattle.sorted_arena.specs.Sorted.{get, key_of, pointer_of, first_where, entries_until, Updates};
 
 use crate::sessions::Sessions;
-use sorted_arena::{P0, ReallocationError, SortedArena};
+use sorted_arena::{Entry, P0, ReallocationError, SortedArena};
 use std::alloc::AllocError;
 
 /// Tokens by users.
@@ -91,4 +91,21 @@ pub fn place_of(sessions: &Sessions, token: P0) -> Option<usize>
         option_map pointer_of (slice_get sessions.now.entries i) ≡ Some token) }
 {
     sessions.rank_of(token)
+}
+
+/// Counts a visit of a user. Nothing changes if memory for a user's first visit is refused.
+pub fn count_visit(visits: &mut SortedArena<u64, u64>, user: u64) -> Result<(), ReallocationError>
+    ensures { OnErr result (visits.new ≡ visits.old) }
+{
+    match visits.entry(user) {
+        Entry::Occupied(mut entry) => {
+            let count = entry.value().saturating_add(1);
+            entry.set_value(count);
+            Ok(())
+        }
+        Entry::Vacant(entry) => match entry.insert(1) {
+            Ok(_) => Ok(()),
+            Err((_, refusal)) => Err(refusal),
+        },
+    }
 }
