@@ -5,7 +5,7 @@ use Rattle.sorted_arena.specs.Unique.{first_other, other_in_way}
 use Rattle.arena_c.specs.Shown.{Arena}
 use Rattle.arena_c.proofs.pointed.topscedar_arena_rekey_unique.Goals as goal
 
--- what is told of an entry in the way tells that there is one
+-- a pointer that is in the way is that of an entry
 told-other : {Q : Type 0} (found : Option Q) (numbers : Q → ℕ × ℕ) (o : Option (ℕ × ℕ)) → is_some found ≡ true → IfSome found (λ q. Some (numbers q) ≡ o) → is_some o ≡ true
 told-other None numbers o there is = absurd (cc)
 told-other (Some q) numbers o there is = ap is_some (sym is)
