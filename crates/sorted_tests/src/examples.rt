@@ -42,7 +42,7 @@ fn insert_unique_in(
     rt: &impl Abort,
     names: &mut SortedArena<u32, &'static str>,
 ) -> Result<(), Fail> {
-    let ada = names.insert_unique(7, "Ada").map_err(|refused| refused.1)?;
+    let ada = names.insert(7, "Ada").map_err(|refused| refused.1)?;
     assert_eq!(rt;
         names.insert_unique(7, "Alan"),
         Err(((7, "Alan"), UniqueInsertionError::EqualKey(ada)))

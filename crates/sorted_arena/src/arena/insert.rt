@@ -93,7 +93,7 @@ impl<K: Ord + Drop, V: Drop, P: BasePtr, A: Allocator> SortedArena<K, V, P, A> {
     /// Inserts an entry, as [`insert`](Self::insert) does, unless one has an equal key. O(log n).
     ///
     /// ```
-    /// let ada = names.insert_unique(7, "Ada").map_err(|refused| refused.1)?;
+    /// let ada = names.insert(7, "Ada").map_err(|refused| refused.1)?;
     /// assert_eq!(rt; names.insert_unique(7, "Alan"), Err(((7, "Alan"), UniqueInsertionError::EqualKey(ada))));
     /// ```
     ///
