@@ -7,8 +7,8 @@ use Rattle.std.specs.BTreeMap.Range.{range_contains}
 use denote.Param.Members.{Mut}
 use Rattle.listing.specs.{Chain.Entry, Chain.IsDistinct, Chain.times, Chain.with_item_among, Gap.first_of}
 use Rattle.listing.proofs.OrdLemmas.{not_before, recursion-map}
-use Rattle.sorted_arena.specs.{Range.entries_between, Sorted.Sorted, Sorted.key_of, Sorted.value_of, Sorted.pointer_of, Sorted.AreSorted, Taking.IsCutAt}
-use Rattle.sorted_arena.specs.Write.{WritesIf, WritesEach, WritesAt}
+use Rattle.sorted_arena.specs.{Range.entries_between, Sorted.Sorted, Sorted.key_of, Sorted.value_of, Sorted.pointer_of, Sorted.AreSorted, Taking.IsCutAt, Taking.WritesAt}
+use Rattle.sorted_arena.specs.Write.{WritesIf, WritesEach}
 use Rattle.sorted_arena.proofs.{Cutting.some-same, Elements.all-front, Elements.all-back, Outside.range-part}
 
 -- what passes a test passes it

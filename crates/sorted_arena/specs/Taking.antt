@@ -1,8 +1,10 @@
--- How entries are taken out of a sorted arena one after another (layout).
+-- How entries are taken out of a sorted arena, or written, one after another (layout).
 use Rattle.std.specs.Prelude.{◌≡◌, ℕ, Bool, if◌then◌else◌, List, ◌∷◌, ◌++◌, Option, Some}
-use Rattle.std.specs.Option.{option_map}
+use Rattle.std.specs.{Option.option_map, Borrow.Bor, Borrow.MutBor}
+use denote.Param.Members.{Mut}
 use Rattle.listing.specs.{Chain.Entry, Gap.first_of}
-use Rattle.sorted_arena.specs.Sorted.{Sorted, pointer_of, with_left}
+use Rattle.sorted_arena.specs.Sorted.{Sorted, key_of, pointer_of, with_left}
+use Rattle.sorted_arena.specs.Write.{Writes}
 
 module _ {K V : Type 0} where
   -- a list is cut at the entry that a pointer names
@@ -26,4 +28,13 @@ module _ {K V : Type 0} where
     pub answer : Bool
     pub told : R f at.entry answer g
     pub left : new ≡ (if answer then old else with_left greatest old (at.front ++ at.back))
+    pub next_is : next ≡ option_map pointer_of (first_of at.back)
+
+module _ {F K V : Type 0} (g : Mut F (Bor K × (MutBor V × Unit {0})) (Unit {0} × (MutBor V × Unit {0}))) where
+  -- The entry at a cut was written: the closure was called for it and left this value, and `next` is the pointer of its successor.
+  pub record WritesAt (old : Sorted K V) (p : Option (ℕ × ℕ)) (at : IsCutAt old.entries p) (f f' : F) (new : Sorted K V)
+      (next : Option (ℕ × ℕ)) : Type 0 where
+    pub v : V
+    pub told : Writes g f at.entry v f'
+    pub written : new ≡ record old { entries = at.front ++ record at.entry { item = (key_of at.entry, v) } ∷ at.back }
     pub next_is : next ≡ option_map pointer_of (first_of at.back)

@@ -1,10 +1,9 @@
 -- What a closure writes to the values of entries.
-use Rattle.std.specs.Prelude.{◌≡◌, ℕ, Bool, true, false, List, [], ◌∷◌, ◌++◌, Option}
-use Rattle.std.specs.{Fn.Called, Borrow.Bor, Borrow.MutBor, Option.option_map}
+use Rattle.std.specs.Prelude.{◌≡◌, Bool, true, false, List, [], ◌∷◌}
+use Rattle.std.specs.{Fn.Called, Borrow.Bor, Borrow.MutBor}
 use denote.Param.Members.{Mut}
-use Rattle.listing.specs.{Chain.Entry, Gap.first_of}
-use Rattle.sorted_arena.specs.Sorted.{Sorted, key_of, value_of, pointer_of}
-use Rattle.sorted_arena.specs.Taking.{IsCutAt}
+use Rattle.listing.specs.Chain.{Entry}
+use Rattle.sorted_arena.specs.Sorted.{key_of, value_of}
 
 module _ {F K V : Type 0} (g : Mut F (Bor K × (MutBor V × Unit {0})) (Unit {0} × (MutBor V × Unit {0}))) where
   -- a call of the closure for the key of an entry, and its value to be written, may leave v there, and the closure in the state f'
@@ -28,11 +27,3 @@ module _ {F K V : Type 0} (g : Mut F (Bor K × (MutBor V × Unit {0})) (Unit {0}
   WritesEach test f [] new = new ≡ []
   WritesEach test f (e ∷ es) new = (v : V) × (f' : F) × (rest : List (Entry (K × V))) × WritesIf (test e) f e v f'
       × WritesEach test f' es rest × (new ≡ record e { item = (key_of e, v) } ∷ rest)
-
-  -- The closure was called for the entry at a cut, and `next` is the pointer of its successor (layout).
-  pub record WritesAt (old : Sorted K V) (p : Option (ℕ × ℕ)) (at : IsCutAt old.entries p) (f f' : F) (new : Sorted K V)
-      (next : Option (ℕ × ℕ)) : Type 0 where
-    pub v : V
-    pub told : Writes f at.entry v f'
-    pub written : new ≡ record old { entries = at.front ++ record at.entry { item = (key_of at.entry, v) } ∷ at.back }
-    pub next_is : next ≡ option_map pointer_of (first_of at.back)

@@ -22,6 +22,7 @@ pub enum Entry<'a, K: Ord, V, P: BasePtr = P0, A: Allocator = Global> {
 #[derive(Drop)]
 pub struct OccupiedEntry<'a, K: Ord, V, P: BasePtr = P0, A: Allocator = Global> {
     pub(crate) arena: &'a mut SortedArena<K, V, P, A>,
+    // the key that was sought, which equals the entry's
     pub(crate) key: K,
     pub(crate) pointer: P,
     ghost named: { IsSome (get arena.now (P.numbers pointer)) },

@@ -5,8 +5,8 @@ ghost use Rattle.std.specs.BTreeMap.Range.{range_contains};
 ghost use Rattle.std.specs.Option.{option_map};
 ghost use Rattle.std.specs.Range.Bound.{bound_map};
 ghost use Rattle.sorted_arena.specs.Sorted.{key_of, IsSound};
-ghost use Rattle.sorted_arena.specs.Taking.{IsCutAt};
-ghost use Rattle.sorted_arena.specs.Write.{WritesEach, WritesAt};
+ghost use Rattle.sorted_arena.specs.Taking.{IsCutAt, WritesAt};
+ghost use Rattle.sorted_arena.specs.Write.{WritesEach};
 
 use super::SortedArena;
 use std::alloc::Allocator;
