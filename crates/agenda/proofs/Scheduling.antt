@@ -4,7 +4,7 @@ use Rattle.std.proofs.lemmas.{List.append-nil, List.map-append, List.length-appe
 use Rattle.std.specs.{List.AllByRecursion, Ordering.nat_cmp, Ordering.is_lt}
 use Rattle.listing.specs.Chain.{times}
 use Rattle.agenda.specs.Agenda.{Agenda, Entry, most_entries, entry_of, key_of, put_behind, get, count, with_entry, IsFree, Keeps}
-use Rattle.agenda.specs.Bulk.{entries_of, with_all, SchedulesEach}
+use Rattle.agenda.specs.{Bulk.entries_of, Bulk.with_all, Scheduling.SchedulesEach}
 use Rattle.agenda.proofs.Reached.{all-more}
 use Rattle.listing.proofs.CallerLemmas.{entries-with_entry, generation-with_entry, capacity-with_entry, count-with_entry, entry-updates, step-with_entry, get-free}
 

@@ -7,7 +7,7 @@ use Rattle.listing.specs.Steps.{Raises}
 use Rattle.listing.proofs.CallerLemmas.{generation-with_entry}
 use Rattle.listing.proofs.CallerLemmas.{step-stays, step-without_entry, step-with_entry, none-with_entry, step-with_key, none-with_key, step-emptied}
 use Rattle.agenda.specs.Agenda.{Agenda, get, count, greatest_generation, most_entries, with_entry, with_key, with_left, with_rest, without_entry, IsFree, IsSound, Reschedules}
-use Rattle.agenda.specs.{Bulk.SchedulesEach, Tickets.IsStep}
+use Rattle.agenda.specs.{Scheduling.SchedulesEach, Tickets.IsStep}
 use Rattle.agenda.proofs.Parts.{IsPartOf, part-shorter, part-whole, found-part, generation-apart}
 
 next-other : (g : ℕ) → next_generation greatest_generation g ≢ g

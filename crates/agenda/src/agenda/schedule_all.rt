@@ -5,7 +5,8 @@ ghost use Rattle.std.specs.List.{All};
 ghost use Rattle.std.specs.Vec.{vec_capacity};
 ghost use Rattle.listing.specs.PlainArena.{capacity_for};
 ghost use Rattle.agenda.specs.Agenda.{most_entries, count, get, IsFree, Keeps};
-ghost use Rattle.agenda.specs.Bulk.{entries_of, with_all, SchedulesEach};
+ghost use Rattle.agenda.specs.Bulk.{entries_of, with_all};
+ghost use Rattle.agenda.specs.Scheduling.{SchedulesEach};
 ghost use Rattle.agenda.specs.Tickets.{IsStep};
 
 use super::Agenda;

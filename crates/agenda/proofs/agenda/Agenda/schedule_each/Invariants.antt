@@ -1,6 +1,6 @@
 use Rattle.std.proofs.Common.{◌≡◌, ◌+◌, ◌≤◌, ◌++◌, length, vec_len}
 use Rattle.std.specs.{Vec.vec_capacity, Vec.Iter.into_iter_items, Vec.Iter.into_iter_len}
-use Rattle.agenda.specs.Bulk.{SchedulesEach}
+use Rattle.agenda.specs.Scheduling.{SchedulesEach}
 use Rattle.agenda.proofs.agenda.Agenda.schedule_each.Given as goal
 
 -- the jobs so far were scheduled, and there is room for the others
