@@ -1,4 +1,4 @@
-//! A key's place in an arena: at the first entry that has it, or where none has.
+//! A key's place in an arena: the first entry that has it, or none.
 
 ghost use Rattle.std.specs.Prelude.{◌≡◌, ◌↔◌, Some, None, Err, IsSome, IfOk, OnOk, IfErr, OnErr};
 ghost use Rattle.std.specs.Option.{option_map};
@@ -9,7 +9,7 @@ use std::alloc::{Allocator, Global};
 use std::mem;
 use triple_ord::{BasePtr, P0, ReallocationError};
 
-/// The place of a key in an arena, which it borrows: [`entry`](SortedArena::entry) finds it.
+/// The place of a key, as [`entry`](SortedArena::entry) finds it. It borrows the arena.
 #[derive(Drop)]
 pub enum Entry<'a, K: Ord, V, P: BasePtr = P0, A: Allocator = Global> {
     /// An entry has an equal key: the first of them.
@@ -96,7 +96,7 @@ impl<'a, K: Ord, V, P: BasePtr, A: Allocator> VacantEntry<'a, K, V, P, A> {
         &self.key
     }
 
-    /// Gives the key back. The arena stays as it is.
+    /// Returns the key, and leaves the arena as it is.
     pub fn into_key(self) -> K
         ensures key { result ≡ self.entry.key }
         ensures unchanged { self.exit.0.now ≡ self.entry.arena.now }
