@@ -1,5 +1,5 @@
 -- Entries as removals give them, and where an entry is in its list.
-use Rattle.std.proofs.Common.{◌&&◌, not, count_by, ◌≡◌, ◌≤◌, ◌-◌, ℕ, length, length-append, List, [], ◌∷◌, ◌++◌, map, take, drop, append_assoc, Option, Some, None, slice_get, is_some, Bool, true, false, refl, sym, ap, ◌∙◌, arith}
+use Rattle.std.proofs.Common.{◌&&◌, not, count_by, ◌≡◌, ◌≤◌, ◌-◌, ℕ, length, length-append, List, [], ◌∷◌, ◌++◌, map, take, drop, append_assoc, Option, Some, None, slice_get, is_some, Bool, true, false, if◌then◌else◌, Result, Ok, Err, IsOk, is_ok, refl, sym, ap, ◌∙◌, arith}
 use Rattle.std.proofs.{lemmas.Grind.common_steps, lemmas.List.append-nil, lemmas.List.map-append, lemmas.List.Sums.length-filter}
 use Rattle.std.specs.{Option.option_map, Ordering.is_le, Ordering.is_gt, declared.cmp.Ordering.Ordering}
 use Rattle.std.specs.declared.cmp.Ordering.{TheVariants.Less, TheVariants.Equal, TheVariants.Greater}
@@ -123,3 +123,8 @@ count-below {K = K} {V = V} cmp k es = length-filter _ es ∙ same es
     same : (es : List (Entry (K × V))) → count_by (λ e. true && not (is_le (cmp k (key_of e)))) es ≡ count_by (λ e. is_gt (cmp k (key_of e))) es
     same [] = refl
     same (e ∷ es) = grind (arith, common_steps, test (cmp k (key_of e)), same es)
+
+-- a vector with room takes one more
+pub pushed : {X U E : Type 0} (r : Result U E) (xs new : List X) (x : X) → new ≡ (if is_ok r then xs ++ x ∷ [] else xs) → IsOk r → new ≡ xs ++ x ∷ []
+pushed (Ok u) xs new x is ok = is
+pushed (Err e) xs new x is ok = absurd (cc)

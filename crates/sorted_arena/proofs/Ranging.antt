@@ -42,7 +42,7 @@ module _ {K V : Type 0} where
 
   module _ (test : Entry (K × V) → Bool) where
     -- the first entry that passes a test
-    abbrev first_passing : List (Entry (K × V)) → Option (Entry (K × V))
+    abbrev pub first_passing : List (Entry (K × V)) → Option (Entry (K × V))
     first_passing [] = None
     first_passing (e ∷ es) = if test e then Some e else first_passing es
 
@@ -99,7 +99,7 @@ module _ {K V : Type 0} where
     none-inside (e ∷ es) all = inside-past e es all.0 ∙ none-inside es all.1
 
     -- a list that is cut where the first test begins to hold, and where the second does
-    record Split (es : List (Entry (K × V))) : Type 0 where
+    pub record Split (es : List (Entry (K × V))) : Type 0 where
       pub front : List (Entry (K × V))
       pub middle : List (Entry (K × V))
       pub back : List (Entry (K × V))
@@ -124,7 +124,7 @@ module _ {K V : Type 0} where
         go false passed rest =
             record { middle = e ∷ rest.middle; back = rest.back; cut = ap (λ xs. e ∷ xs) rest.cut; past = rw passed rest.past; is = inside-in e es all.0 passed ∙ ap (λ xs. e ∷ xs) rest.is }
 
-    split : (es : List (Entry (K × V))) → Stays s es → Stays t es → IfSome (first_passing t es) (λ f. s f ≡ true) → Split es
+    pub split : (es : List (Entry (K × V))) → Stays s es → Stays t es → IfSome (first_passing t es) (λ f. s f ≡ true) → Split es
     split [] ss ts forward = record { front = []; middle = []; back = []; cut = refl; first = refl; past = refl; is = refl }
     split (e ∷ es) ss ts forward = go (s e) (t e) refl refl (λ h. split es ss.1 ts.1 h)
       where

@@ -9,11 +9,11 @@ use Rattle.sorted_arena.proofs.{Cutting.index-pointer, Removing.RemovesMany, Rem
 
 -- a test of one more element in front
 module _ {X F : Type 0} (R : F → X → Bool → F → Type 0) where
-  filtered-more : (f g : F) (x : X) (b : Bool) (xs ys : List X) → R f x b g → IsFiltered R g xs ys → IsFiltered R f (x ∷ xs) (cond b (x ∷ ys) ys)
+  pub filtered-more : (f g : F) (x : X) (b : Bool) (xs ys : List X) → R f x b g → IsFiltered R g xs ys → IsFiltered R f (x ∷ xs) (cond b (x ∷ ys) ys)
   filtered-more f g x true xs ys told rest = (true ∷ rest.0, rest.1, omega (arith, rest.2), (g, told, rest.3), ap (λ zs. x ∷ zs) rest.4)
   filtered-more f g x false xs ys told rest = (false ∷ rest.0, rest.1, omega (arith, rest.2), (g, told, rest.3), rest.4)
 
-  filtered-none : (f : F) → IsFiltered R f [] []
+  pub filtered-none : (f : F) → IsFiltered R f [] []
   filtered-none f = ([], f, refl, refl, refl)
 
 pub first-pointer : {K V : Type 0} (es : List (Entry (K × V))) → first_pointer es ≡ option_map pointer_of (first_of es)

@@ -218,12 +218,12 @@ module _ {T : Type 0} where
 
 -- from an entry that a pointer names on to the end
 module _ {T : Type 0} where
-  record FromThere (es : List (Entry T)) (i : ℕ) : Type 0 where
-    front : List (Entry T)
-    cut : es ≡ front ++ from_index es i
-    begins : first_index (from_index es i) ≡ Some i
+  pub record FromThere (es : List (Entry T)) (i : ℕ) : Type 0 where
+    pub front : List (Entry T)
+    pub cut : es ≡ front ++ from_index es i
+    pub begins : first_index (from_index es i) ≡ Some i
 
-  from-there : (es : List (Entry T)) (i g : ℕ) → is_some (item_of es (i, g)) ≡ true → FromThere es i
+  pub from-there : (es : List (Entry T)) (i g : ℕ) → is_some (item_of es (i, g)) ≡ true → FromThere es i
   from-there [] i g there = absurd (cc)
   from-there (e ∷ es) i g there = go (e.index == i) refl (from-there es i g)
     where

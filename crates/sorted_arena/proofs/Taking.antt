@@ -1,11 +1,12 @@
 -- The entries of a part of a list that are taken out one after another: what is left at each step, and at the end.
 use Rattle.std.proofs.Common.{◌≡◌, ℕ, Bool, true, false, ◌+◌, ◌<◌, ◌++◌, length, length-append, append_assoc, List, [], ◌∷◌, Option, Some, refl, sym, ap, subst, ◌∙◌, arith}
 use Rattle.std.proofs.lemmas.List.{append-nil}
-use Rattle.std.specs.Option.{option_map}
+use Rattle.std.specs.{Borrow.Bor, Fn.Called, Option.option_map}
+use denote.Param.Members.{Mut}
 use Rattle.listing.specs.{Chain.Entry, Chain.IsDistinct, Chain.without as without_index, Gap.first_of}
 use Rattle.sorted_arena.specs.Sorted.{Sorted, count, pointer_of, get, next_of, with_left, with_rest, without_entry}
-use Rattle.sorted_arena.specs.Taking.{IsCutAt, TakesOut, AsksFor}
-use Rattle.sorted_arena.proofs.{Cutting.next-here, Cutting.found-here, Cutting.without-here, Outside.IsPart}
+use Rattle.sorted_arena.specs.{Answer.AnswersForEntry, Taking.IsCutAt, Taking.TakesOut, Taking.AsksFor}
+use Rattle.sorted_arena.proofs.{Cutting.some-same, Cutting.next-here, Cutting.found-here, Cutting.without-here, Outside.IsPart}
 use Rattle.sorted_arena.proofs.Removing.{RemovesMany, removes-none, removes-more, removes-rest}
 
 module _ {K V : Type 0} (greatest : Option ℕ) (old : Sorted K V) (middle others : List (Entry (K × V))) where
@@ -140,3 +141,18 @@ module _ {K V : Type 0} (greatest : Option ℕ) (old : Sorted K V) (distinct : I
 
     pub asks-gone : R f at.entry false g → (new : Sorted K V) (item : K × V) (after : Option (ℕ × ℕ)) → TakesOut greatest old next at item new after → AsksFor R greatest old next at f g new after
     asks-gone told new item after out = record { answer = false; told = told; left = out.left; next_is = out.next_is }
+
+-- what the test answers for the pointer of an entry and references to its key and its value, it answers for the entry
+pub answered : {F P K V : Type 0} (numbers : P → ℕ × ℕ) (m : Mut F (P × (Bor K × (Bor V × Unit {0}))) Bool) (f f' : F) (answer : Bool) (p : P) (e : Entry (K × V)) (o : Option (Bor K × Bor V)) (x : Bor K × Bor V)
+    → Some (numbers p) ≡ Some (pointer_of e) → o ≡ Some x → option_map (λ y. (y.0.now, y.1.now)) o ≡ Some e.item → Called m f (p, (x.0, (x.1, tt))) answer f' → AnswersForEntry numbers m f e answer f'
+answered {K = K} {V = V} numbers m f f' answer p e o x named is shown called =
+    let same : (x.0.now, x.1.now) ≡ e.item = some-same (sym (ap (option_map (λ (y : Bor K × Bor V). (y.0.now, y.1.now))) is) ∙ shown) in
+    record {
+      pointer = p;
+      key = x.0;
+      value = x.1;
+      shows_pointer = some-same named;
+      shows_key = ap (λ (y : K × V). y.0) same;
+      shows_value = ap (λ (y : K × V). y.1) same;
+      called = called;
+    }

@@ -1,8 +1,8 @@
 -- The entries whose keys are in a range, and what iterators over entries give.
-use Rattle.std.specs.Prelude.{◌≡◌, ℕ, ◌<◌, ◌^◌, Bool, List, filter, not, length}
+use Rattle.std.specs.Prelude.{◌≡◌, ◌==◌, ℕ, ◌<◌, ◌^◌, Bool, if◌then◌else◌, List, [], ◌∷◌, filter, not, length}
 use Rattle.std.specs.{Borrow.Bor, declared.cmp.Ordering.Ordering, declared.ops.Bound.Bound, BTreeMap.Range.range_contains}
 use Rattle.std.specs.Iterator.{YieldsFirstBy, YieldsLastBy, Runs.EveryRun, Runs.ItemsMapTo, Runs.ItemsMapToReversed}
-use Rattle.listing.specs.Chain.{Entry}
+use Rattle.listing.specs.Chain.{Entry, from_index}
 use Rattle.sorted_arena.specs.Sorted.{Sorted, key_of, IsSound}
 
 -- the entries whose keys are between two bounds, in order
@@ -27,6 +27,16 @@ shown_item x = (x.0.now, x.1.now)
 -- what a reference points to
 abbrev pub target_of : {T : Type 0} → Bor T → T
 target_of x = x.now
+
+module _ {T : Type 0} where
+  -- the entries up to the one with this index; all of them, if none has it
+  abbrev pub up_to_index : ℕ → List (Entry T) → List (Entry T)
+  up_to_index i [] = []
+  up_to_index i (e ∷ es) = if e.index == i then e ∷ [] else e ∷ up_to_index i es
+
+  -- the entries from the one with the first index to the one with the second; none, if that one is before it
+  abbrev pub entries_from_to : ℕ → ℕ → List (Entry T) → List (Entry T)
+  entries_from_to i j es = from_index (up_to_index j es) i
 
 module _ {A X : Type 0} (shows : A → X) where
   -- each run of `next` shows what is left in order, and each run of `next_back` in reverse

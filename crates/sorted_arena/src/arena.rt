@@ -18,6 +18,7 @@ mod drain;
 mod drain_entries;
 mod entry;
 mod extend;
+mod extract;
 mod find;
 mod find_by;
 mod find_or_insert;
@@ -52,6 +53,8 @@ use triple_ord::{BasePtr, BasePtrInx, P0, ReallocationError, SimpleOrdArena};
 #[derive(Drop)]
 pub struct SortedArena<K: Ord, V, P: BasePtr = P0, A: Allocator = Global> {
     pairs: Pairs<K, V, P, A>,
+    // For the arena that `split_off` makes.
+    alloc: A,
     // If it is set, the i-th entry has index i, and iterators step from index to index without reading links.
     is_compact: bool,
 }
@@ -79,6 +82,7 @@ impl<K: Ord, V, P: BasePtr, A: Allocator> SortedArena<K, V, P, A> {
     {
         SortedArena {
             pairs: SimpleOrdArena::new(alloc),
+            alloc,
             is_compact: true,
         }
     }

@@ -53,6 +53,13 @@ impl<K: Ord + Drop, V: Drop, P: BasePtr, A: Allocator> DoubleEndedIterator
     }
 }
 
+impl<K: Ord + Drop, V: Drop, P: BasePtr, A: Allocator> ExactSizeIterator
+    for IntoEntries<K, V, P, A> {
+    fn len(&self) -> usize {
+        self.arena.len()
+    }
+}
+
 /// `for (p, k, v) in arena` takes all entries out, in order.
 impl<K: Ord + Drop, V: Drop, P: BasePtr, A: Allocator> IntoIterator for SortedArena<K, V, P, A> {
     type Item = (P, K, V);
@@ -127,6 +134,12 @@ impl<K: Ord + Drop, V: Drop, P: BasePtr, A: Allocator> DoubleEndedIterator
     }
 }
 
+impl<K: Ord + Drop, V: Drop, P: BasePtr, A: Allocator> ExactSizeIterator for IntoKeys<K, V, P, A> {
+    fn len(&self) -> usize {
+        self.entries.len()
+    }
+}
+
 impl<K: Ord + Drop, V: Drop, P: BasePtr, A: Allocator> Iterator for IntoValues<K, V, P, A> {
     type Item = V;
 
@@ -151,6 +164,13 @@ impl<K: Ord + Drop, V: Drop, P: BasePtr, A: Allocator> DoubleEndedIterator
     fn next_back(&mut self) -> Option<V> {
         let (_, _, v) = self.entries.next_back()?;
         Some(v)
+    }
+}
+
+impl<K: Ord + Drop, V: Drop, P: BasePtr, A: Allocator> ExactSizeIterator
+    for IntoValues<K, V, P, A> {
+    fn len(&self) -> usize {
+        self.entries.len()
     }
 }
 

@@ -5,6 +5,7 @@
 #![tactic(auto)]
 
 mod arena;
+mod between;
 mod entry;
 mod error;
 mod into;

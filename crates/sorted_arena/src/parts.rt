@@ -119,7 +119,7 @@ impl<'a, K: Ord, V, P: BasePtr, A: Allocator> Iterator for ValuesDescending<'a, 
     }
 
     fn size_hint(&self) -> (usize, Option<usize>) {
-        (0, None)
+        self.range.size_hint()
     }
 }
 
@@ -136,7 +136,7 @@ impl<'a, K: Ord, V, P: BasePtr, A: Allocator> Iterator for Keys<'a, K, V, P, A> 
     }
 
     fn size_hint(&self) -> (usize, Option<usize>) {
-        (0, None)
+        self.range.size_hint()
     }
 }
 
@@ -162,7 +162,7 @@ impl<'a, K: Ord, V, P: BasePtr, A: Allocator> Iterator for Values<'a, K, V, P, A
     }
 
     fn size_hint(&self) -> (usize, Option<usize>) {
-        (0, None)
+        self.range.size_hint()
     }
 }
 
@@ -188,7 +188,7 @@ impl<'a, K: Ord, V, P: BasePtr, A: Allocator> Iterator for Items<'a, K, V, P, A>
     }
 
     fn size_hint(&self) -> (usize, Option<usize>) {
-        (0, None)
+        self.range.size_hint()
     }
 }
 

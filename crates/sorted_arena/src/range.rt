@@ -75,6 +75,15 @@ impl<'a, K: Ord, V, P: BasePtr, A: Allocator> Iterator for Range<'a, K, V, P, A>
         let (k, v) = link.t.k_v();
         Some((P::_from_raw(i, entry.0), k, v))
     }
+
+    // Exact where entries are counted; links would have to be followed.
+    fn size_hint(&self) -> (usize, Option<usize>) {
+        if self.is_numbered {
+            (self.left, Some(self.left))
+        } else {
+            (0, None)
+        }
+    }
 }
 
 impl<'a, K: Ord, V, P: BasePtr, A: Allocator> DoubleEndedIterator for Range<'a, K, V, P, A> {
@@ -218,7 +227,7 @@ impl<K: Ord, V, P: BasePtr, A: Allocator> SortedArena<K, V, P, A> {
     }
 
     // The entries from one on and before another; to the last one, if there is no other.
-    fn from_until(&self, first: Option<P>, end: Option<P>) -> Range<'_, K, V, P, A>
+    pub(crate) fn from_until(&self, first: Option<P>, end: Option<P>) -> Range<'_, K, V, P, A>
         requires { IsSound K.cmp P.Inx.most self.now
             → IsStretch self.now.entries (option_map (λ q. q.0) (option_map P.numbers first))
             (option_map (λ q. q.0) (option_map P.numbers end)) }

@@ -264,13 +264,10 @@ fn split_off(rt: HostRuntime) -> Result<(), Fail> {
     split_off_in(&rt, &mut SortedArena::new(rt.alloc()))
 }
 
-fn split_off_in(
-    rt: &(impl Abort + AllocGlobal),
-    users: &mut SortedArena<u64, &'static str>,
-) -> Result<(), Fail> {
+fn split_off_in(rt: &impl Abort, users: &mut SortedArena<u64, &'static str>) -> Result<(), Fail> {
     users.insert(100, "Ada").map_err(|refused| refused.1)?;
     users.insert(120, "Grace").map_err(|refused| refused.1)?;
-    let later = users.split_off(rt.alloc(), &110)?;
+    let later = users.split_off(&110)?;
     assert!(rt; users.values().eq(&["Ada"]));
     assert!(rt; later.values().eq(&["Grace"]));
     Ok(())
@@ -499,5 +496,70 @@ fn into_iter(rt: HostRuntime) -> Result<(), Fail> {
     assert_eq!(rt; entries.next(), Some((ada, 100, "Ada")));
     assert_eq!(rt; entries.next_back(), Some((grace, 120, "Grace")));
     assert_eq!(rt; entries.size_hint(), (1, Some(1)));
+    Ok(())
+}
+
+#[test]
+fn iter_between(rt: HostRuntime) -> Result<(), Fail> {
+    iter_between_in(&rt, &mut SortedArena::new(rt.alloc()))
+}
+
+fn iter_between_in(
+    rt: &impl Abort,
+    users: &mut SortedArena<u64, &'static str>,
+) -> Result<(), Fail> {
+    let ada = users.insert(100, "Ada").map_err(|refused| refused.1)?;
+    users.insert(110, "Alan").map_err(|refused| refused.1)?;
+    let grace = users.insert(120, "Grace").map_err(|refused| refused.1)?;
+    assert!(rt;
+        users
+            .iter_between(ada, grace)
+            .expect(rt, "both")
+            .keys()
+            .eq(&[100, 110, 120])
+    );
+    assert!(rt;
+        users
+            .iter_between(grace, ada)
+            .expect(rt, "both")
+            .next()
+            .is_none()
+    );
+    Ok(())
+}
+
+#[test]
+fn range_by(rt: HostRuntime) -> Result<(), Fail> {
+    range_by_in(&rt, &mut SortedArena::new(rt.alloc()))
+}
+
+fn range_by_in(rt: &impl Abort, users: &mut SortedArena<u64, &'static str>) -> Result<(), Fail> {
+    for (id, name) in [(201, "Ada"), (305, "Alan"), (309, "Grace"), (412, "Kurt")] {
+        users.insert(id, name).map_err(|refused| refused.1)?;
+    }
+    assert!(rt;
+        users
+            .range_by(|id| (id / 100).cmp(&3))
+            .values()
+            .eq(&["Alan", "Grace"])
+    );
+    Ok(())
+}
+
+#[test]
+fn extract_if(rt: HostRuntime) -> Result<(), Fail> {
+    extract_if_in(&rt, &mut SortedArena::new(rt.alloc()))
+}
+
+fn extract_if_in(
+    rt: &(impl Abort + AllocGlobal),
+    users: &mut SortedArena<u64, &'static str>,
+) -> Result<(), Fail> {
+    let ada = users.insert(100, "Ada").map_err(|refused| refused.1)?;
+    users.insert(110, "Alan").map_err(|refused| refused.1)?;
+    users.insert(120, "Grace").map_err(|refused| refused.1)?;
+    let mut taken = Vec::new(rt.alloc());
+    users.extract_if(..120, |p, _, _| p != ada, &mut taken)?;
+    assert!(rt; users.keys().eq(&[100, 120]));
     Ok(())
 }

@@ -5,6 +5,8 @@
 #[cfg(test)]
 mod append;
 #[cfg(test)]
+mod between;
+#[cfg(test)]
 mod capacity;
 #[cfg(test)]
 mod clone;
@@ -22,6 +24,8 @@ mod every_order;
 mod examples;
 #[cfg(test)]
 mod extend;
+#[cfg(test)]
+mod extract;
 #[cfg(test)]
 mod range;
 #[cfg(test)]

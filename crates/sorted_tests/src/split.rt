@@ -25,7 +25,7 @@ fn is_split(alloc: Global, n: usize, number: usize, k: u64) -> Option<bool> {
         within,
         others,
     } = parted(alloc, n, number, Bound::Included(k), Bound::Unbounded)?;
-    let moved = arena.split_off(alloc, &k).ok()?;
+    let moved = arena.split_off(&k).ok()?;
     Some(has_items(&moved, &within) && is_left(&arena, &others, &within))
 }
 

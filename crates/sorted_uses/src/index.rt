@@ -111,14 +111,14 @@ pub fn take_between(
 }
 
 /// Moves the records from one name on into an index of their own. If memory is refused, nothing changes.
-pub fn split_at(alloc: Global, index: &mut Index, from: &String) -> Result<Index, AllocError>
+pub fn split_at(index: &mut Index, from: &String) -> Result<Index, AllocError>
     ensures moved { IfOk result (λ moved. map pair_of moved.entries
         ≡ map pair_of (entries_between string_cmp (Included from.now) Unbounded index.old.entries)) }
     ensures left { OnOk result (index.new.entries
         ≡ entries_between string_cmp Unbounded (Excluded from.now) index.old.entries) }
     ensures refused { OnErr result (index.new ≡ index.old) }
 {
-    index.split_off(alloc, from)
+    index.split_off(from)
 }
 
 /// Returns how many records were looked at to find a name.

@@ -1,12 +1,13 @@
 //! Sessions by their deadlines, and a map from each user to the token of a session, in step with them.
 
-ghost use Rattle.std.specs.Prelude.{◌≡◌, ◌≢◌, ℕ, false, [], Some, None, IfOk, IfSome, IfNone, OnOk, OnErr, map, count_by, slice_get};
+ghost use Rattle.std.specs.Prelude.{◌≡◌, ◌≢◌, ◌==◌, ℕ, false, [], Some, None, IfOk, IfSome, IfNone, OnOk, OnErr, map, count_by, filter, length, slice_get};
 ghost use Rattle.std.specs.List.{All};
 ghost use Rattle.std.specs.Option.{option_map};
 ghost use Rattle.std.specs.Ordering.{is_eq, is_gt, nat_cmp};
 ghost use Rattle.std.specs.declared.cmp.Ordering.TheVariants.{Equal, Greater};
-ghost use Rattle.sorted_arena.specs.Given.{given_entry};
-ghost use Rattle.sorted_arena.specs.Sorted.{get, key_of, pointer_of, first_where, entries_until, Updates};
+ghost use Rattle.std.specs.declared.ops.Bound.TheVariants.{Included, Excluded, Unbounded};
+ghost use Rattle.sorted_arena.specs.{Given.given_entry, Given.entries_behind, Range.entries_between, Range.entries_from_to};
+ghost use Rattle.sorted_arena.specs.Sorted.{get, key_of, value_of, pointer_of, first_where, entries_until, Updates};
 
 use crate::sessions::Sessions;
 use sorted_arena::{Entry, P0, ReallocationError, SortedArena};
@@ -67,6 +68,36 @@ pub fn ending_at(sessions: &Sessions, deadline: u64) -> Option<P0>
         (All (λ s. nat_cmp deadline (key_of s) ≢ Equal) sessions.now.entries) }
 {
     sessions.find_by(|d| d.cmp(&deadline))
+}
+
+/// How many sessions end at a deadline.
+pub fn count_ending_at(sessions: &Sessions, deadline: u64) -> usize
+    ensures { result ≡ length (entries_between nat_cmp (Included deadline) (Included deadline)
+        sessions.now.entries) }
+{
+    sessions.range_by(|d| d.cmp(&deadline)).count()
+}
+
+/// How many sessions there are from that of one token to that of another, both counted. `None` if one of them has ended.
+pub fn count_from_to(sessions: &Sessions, first: P0, last: P0) -> Option<usize>
+    ensures { IfSome result (λ n. n ≡ length (entries_from_to first.0 last.0 sessions.now.entries)) }
+{
+    Some(sessions.iter_between(first, last)?.count())
+}
+
+/// Moves the sessions of a user that end before a time out, each with its token.
+pub fn take_of_user(
+    sessions: &mut Sessions,
+    user: u64,
+    time: u64,
+    taken: &mut Vec<(P0, u64, u64)>,
+) -> Result<(), AllocError>
+    ensures taken { OnOk result (entries_behind (λ p. p) taken.old taken.new
+        ≡ filter (λ s. value_of s == user)
+        (entries_between nat_cmp Unbounded (Excluded time) sessions.old.entries)) }
+    ensures refused { OnErr result (sessions.new ≡ sessions.old) }
+{
+    sessions.extract_if(..time, |_, _, of| *of == user, taken)
 }
 
 /// Whether a user has a token.

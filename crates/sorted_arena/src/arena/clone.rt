@@ -30,6 +30,7 @@ impl<K: Ord + Clone + Drop, V: Clone + Drop, P: BasePtr, A: Allocator + Copy> So
     {
         Ok(SortedArena {
             pairs: self.pairs.clone()?,
+            alloc: self.alloc,
             is_compact: self.is_compact,
         })
     }

@@ -1,13 +1,13 @@
 //! Removals of all entries in a range that also return their pointers. None of them takes memory, but for the vector.
 
-ghost use Rattle.std.specs.Prelude.{◌≡◌, ◌+◌, ◌≤◌, map, length, take, drop, vec_len, IsOk, OnOk, OnErr, Some};
+ghost use Rattle.std.specs.Prelude.{◌≡◌, ◌+◌, ◌≤◌, length, take, vec_len, IsOk, OnOk, OnErr, Some};
 ghost use Rattle.std.specs.List.{All};
 ghost use Rattle.std.specs.Option.{option_map};
 ghost use Rattle.std.specs.Ordering.{is_gt};
 ghost use Rattle.std.specs.Range.Bound.{bound_map};
 ghost use Rattle.std.specs.Vec.{vec_capacity};
 ghost use Rattle.std.specs.declared.cmp.Ordering.TheVariants.{Greater};
-ghost use Rattle.sorted_arena.specs.Given.{given_entry, DrainsEntriesInto};
+ghost use Rattle.sorted_arena.specs.Given.{entries_behind, DrainsEntriesInto};
 ghost use Rattle.sorted_arena.specs.Range.{entries_between, is_outside};
 ghost use Rattle.sorted_arena.specs.Sorted.{key_of, entries_until, with_passing, IsSound};
 ghost use Rattle.sorted_arena.specs.Taking.{IsCutAt, TakesOut};
@@ -33,7 +33,7 @@ impl<K: Ord + Drop, V: Drop, P: BasePtr + Drop, A: Allocator> SortedArena<K, V, 
         ensures held { OnOk result
             (take (length drained.old.items) drained.new.items ≡ drained.old.items) }
         ensures drained { R.has_bounds range → OnOk result
-            (map (given_entry P.numbers) (drop (length drained.old.items) drained.new.items)
+            (entries_behind P.numbers drained.old drained.new
             ≡ entries_between K.cmp (R.start_bound range) (R.end_bound range)
             self.old.entries) }
         ensures after { R.has_bounds range → OnOk result

@@ -98,6 +98,7 @@ impl<K: Ord + Drop, V: Drop, P: BasePtr, A: Allocator> SortedArena<K, V, P, A> {
         match pairs.reallocate_min_capacity(n) {
             Ok(()) => Ok(SortedArena {
                 pairs,
+                alloc,
                 is_compact: true,
             }),
             Err(refusal) => Err(refusal),

@@ -13,12 +13,13 @@ use std::ops::Bound;
 use triple_ord::BasePtr;
 
 impl<K: Ord + Drop, V: Drop, P: BasePtr, A: Allocator> SortedArena<K, V, P, A> {
-    /// Moves all entries whose key is at least `from` into a new arena, under new pointers, and returns it. O(log n) for each.
+    /// Moves all entries whose key is at least `from` into a new arena on the same allocator, under new pointers, and returns it. O(log n)
+    /// for each.
     ///
     /// ```
     /// users.insert(100, "Ada").map_err(|refused| refused.1)?;
     /// users.insert(120, "Grace").map_err(|refused| refused.1)?;
-    /// let later = users.split_off(rt.alloc(), &110)?;
+    /// let later = users.split_off(&110)?;
     /// assert!(rt; users.values().eq(&["Ada"]));
     /// assert!(rt; later.values().eq(&["Grace"]));
     /// ```
@@ -26,7 +27,7 @@ impl<K: Ord + Drop, V: Drop, P: BasePtr, A: Allocator> SortedArena<K, V, P, A> {
     /// # Errors
     ///
     /// If memory is refused, the arena is unchanged.
-    pub fn split_off<'k>(&mut self, alloc: A, from: &'k K) -> Result<Self, AllocError>
+    pub fn split_off<'k>(&mut self, from: &'k K) -> Result<Self, AllocError>
     where
         A: Copy,
         ensures moved { IfOk result (λ a. map pair_of a.entries
@@ -46,7 +47,7 @@ impl<K: Ord + Drop, V: Drop, P: BasePtr, A: Allocator> SortedArena<K, V, P, A> {
     {
         let until: Bound<&'k K> = Bound::Unbounded;
         let (first, count) = self.run_between(Bound::Included(from), until);
-        let mut moved = SortedArena::new(alloc);
+        let mut moved = SortedArena::new(self.alloc);
         match moved.reserve(count) {
             Ok(()) => {}
             Err(_) => return Err(AllocError),

@@ -113,6 +113,7 @@ fn a_refused_extension_keeps_the_pairs_before_it_and_can_be_resumed(rt: HostRunt
 enum Move {
     Pop,
     Drain,
+    Extract,
     Split,
     Append,
     Clone,
@@ -157,16 +158,36 @@ fn takes(alloc: Global, heap: &LocalHeap, call: Move, units: usize) -> Option<bo
     }
 }
 
+/// Extracts five of nine entries into a vector, where so much of a heap is left, as [`refuses_to_take`].
+fn extracts(alloc: Global, heap: &LocalHeap, units: usize) -> Option<bool> {
+    let mut arena = rising_arena(alloc, 0)?;
+    let mut taken = Vec::new(heap);
+    let _block = leave(heap, units)?;
+    let mut asked = 0usize;
+    let is_refused = arena
+        .extract_if(
+            ..5,
+            |_, _, _| {
+                asked = asked.wrapping_add(1);
+                true
+            },
+            &mut taken,
+        )
+        .is_err();
+    let wanted = if is_refused { (9, 0, 0) } else { (4, 5, 5) };
+    ((arena.len(), taken.len(), asked) == wanted).then_some(is_refused)
+}
+
 /// Splits nine entries at the fifth, as [`refuses_to_take`].
 fn refuses_to_split<'h>(heap: &'h LocalHeap, arena: &mut OnHeap<'h>, units: usize) -> Option<bool> {
     let _block = leave(heap, units)?;
-    let is_refused = arena.split_off(heap, &4).is_err();
+    let is_refused = arena.split_off(&4).is_err();
     (count(arena) == Some(9) || !is_refused).then_some(is_refused)
 }
 
 /// Whether five entries are split off at the fifth.
-fn is_split<'h>(heap: &'h LocalHeap, arena: &mut OnHeap<'h>) -> bool {
-    match arena.split_off(heap, &4) {
+fn is_split(arena: &mut OnHeap<'_>) -> bool {
+    match arena.split_off(&4) {
         Ok(moved) => moved.len() == 5,
         Err(_) => false,
     }
@@ -176,7 +197,7 @@ fn is_split<'h>(heap: &'h LocalHeap, arena: &mut OnHeap<'h>) -> bool {
 fn splits(alloc: Global, heap: &LocalHeap, units: usize) -> Option<bool> {
     let mut arena = filled(alloc, heap, 9)?;
     let was_refused = refuses_to_split(heap, &mut arena, units);
-    let is_done = was_refused == Some(false) || is_split(heap, &mut arena);
+    let is_done = was_refused == Some(false) || is_split(&mut arena);
     if is_done && count(&arena) == Some(4) {
         was_refused
     } else {
@@ -232,6 +253,7 @@ fn clones(alloc: Global, heap: &LocalHeap, units: usize) -> Option<bool> {
 /// Makes a call where so much of a heap is left.
 fn was_refused(alloc: Global, heap: &LocalHeap, call: Move, units: usize) -> Option<bool> {
     match call {
+        Move::Extract => extracts(alloc, heap, units),
         Move::Split => splits(alloc, heap, units),
         Move::Append => appends(alloc, heap, units),
         Move::Clone => clones(alloc, heap, units),
@@ -255,7 +277,7 @@ fn entries_stay_if_memory_for_them_is_refused(rt: HostRuntime) {
     // five pairs of 16 bytes
     assert_eq!(rt; least_room(rt.alloc(), Move::Pop), Some(5));
     assert_eq!(rt; least_room(rt.alloc(), Move::Drain), Some(5));
-    for call in [Move::Split, Move::Append, Move::Clone] {
+    for call in [Move::Extract, Move::Split, Move::Append, Move::Clone] {
         let least = least_room(rt.alloc(), call).expect(&rt, "the right answers");
         assert!(rt; least > 5);
     }

@@ -1,26 +1,9 @@
-use Rattle.std.proofs.Common.{◌≡◌, ◌∙◌, ℕ, Bool, true, false, Bor, Option, Some, refl, sym, ap}
-use Rattle.std.specs.{Fn.Called, Option.option_map}
-use denote.Param.Members.{Mut}
-use Rattle.listing.specs.Chain.{Entry}
-use Rattle.sorted_arena.specs.{Answer.AnswersForEntry, Sorted.pointer_of}
-use Rattle.sorted_arena.proofs.{Cutting.some-same, Placing.some-unless, Taking.cut-found, Taking.takes-out, Taking.asks-kept, Taking.asks-gone}
+use Rattle.std.proofs.Common.{◌∙◌, Some, true, false, refl, sym}
+use Rattle.std.specs.Option.{option_map}
+use Rattle.sorted_arena.specs.Answer.{AnswersForEntry}
+use Rattle.sorted_arena.proofs.{Placing.some-unless, Taking.answered, Taking.cut-found, Taking.takes-out, Taking.asks-kept, Taking.asks-gone}
 use Rattle.listing.proofs.CallerLemmas.{removed-sound}
 use Rattle.sorted_arena.proofs.arena.SortedArena.ask_entry.Goals as goal
-
--- what the test answers for the pointer of an entry and references to its key and its value, it answers for the entry
-answered : {F P K V : Type 0} (numbers : P → ℕ × ℕ) (m : Mut F (P × (Bor K × (Bor V × Unit {0}))) Bool) (f f' : F) (answer : Bool) (p : P) (e : Entry (K × V)) (o : Option (Bor K × Bor V)) (x : Bor K × Bor V)
-    → Some (numbers p) ≡ Some (pointer_of e) → o ≡ Some x → option_map (λ y. (y.0.now, y.1.now)) o ≡ Some e.item → Called m f (p, (x.0, (x.1, tt))) answer f' → AnswersForEntry numbers m f e answer f'
-answered {K = K} {V = V} numbers m f f' answer p e o x named is shown called =
-    let same : (x.0.now, x.1.now) ≡ e.item = some-same (sym (ap (option_map (λ (y : Bor K × Bor V). (y.0.now, y.1.now))) is) ∙ shown) in
-    record {
-      pointer = p;
-      key = x.0;
-      value = x.1;
-      shows_pointer = some-same named;
-      shows_key = ap (λ (y : K × V). y.0) same;
-      shows_value = ap (λ (y : K × V). y.1) same;
-      called = called;
-    }
 
 pub unwrap-requires : goal.unwrap-requires
 unwrap-requires g c =

@@ -1,14 +1,9 @@
-use Rattle.std.proofs.Common.{◌≡◌, ◌∙◌, ◌++◌, List, [], ◌∷◌, Result, Ok, Err, IsOk, is_ok, if◌then◌else◌, sym, arith, rules}
+use Rattle.std.proofs.Common.{◌∙◌, sym, arith, rules}
 use Rattle.std.specs.Range.Bound.{bound_map}
 use Rattle.sorted_arena.specs.Sorted.{with_passing}
 use Rattle.sorted_arena.proofs.{Cutting.some-same, Outside.range-part, Taking.taking-none, Taking.cut-next, Taking.taking-more, Taking.taking-done}
-use Rattle.sorted_arena.proofs.Entries.{given-is, behind-none, behind-more, behind-held, behind-entries}
+use Rattle.sorted_arena.proofs.Entries.{pushed, given-is, behind-none, behind-more, behind-held, behind-entries}
 use Rattle.sorted_arena.proofs.arena.SortedArena.drain_entries_between.Goals as goal
-
--- a vector with room takes one more
-pushed : {X U E : Type 0} (r : Result U E) (xs new : List X) (x : X) → new ≡ (if is_ok r then xs ++ x ∷ [] else xs) → IsOk r → new ≡ xs ++ x ∷ []
-pushed (Ok u) xs new x is ok = is
-pushed (Err e) xs new x is ok = absurd (cc)
 
 pub loop-init : goal.loop-init
 loop-init g c = record {
