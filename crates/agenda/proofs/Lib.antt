@@ -5,6 +5,7 @@ pub mod Removing
 pub mod Given
 pub mod Taking
 pub mod Walking
+pub mod Whole
 pub mod Retaining
 pub mod Scheduling
 -- That each call is a step of an agenda, and that tickets that ended stay so.

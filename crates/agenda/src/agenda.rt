@@ -9,6 +9,7 @@ ghost use Rattle.agenda.specs.Tickets.{HasNoLaterTicket, IsStep};
 
 mod debug;
 mod from;
+mod into;
 mod look;
 mod retain;
 mod room;
@@ -17,6 +18,7 @@ mod take;
 
 use crate::ticket::Ticket;
 pub use from::IterFrom;
+pub use into::IntoIter;
 use listing::{insert_behind, insert_behind_within};
 use std::alloc::{Allocator, Global};
 use std::marker::Model;

@@ -3,6 +3,7 @@
 ghost use Rattle.std.specs.Prelude.{◌≡◌};
 ghost use Rattle.std.specs.Iterator.{YieldsFirstBy, item_count};
 ghost use Rattle.agenda.specs.Agenda.{shown_job, AreSorted};
+ghost use Rattle.agenda.specs.Whole.{IteratesOver};
 ghost use Rattle.std.specs.Ordering.{nat_cmp};
 ghost use Rattle.listing.specs.Walk.{IsExactHint};
 
@@ -28,7 +29,19 @@ impl<'a, J, A: Allocator> Model for Iter<'a, J, A> {
 }
 
 impl<J, A: Allocator> Agenda<J, A> {
-    /// Returns an iterator over all jobs, in the order in which they leave.
+    /// Returns an iterator over all jobs, in the order in which they leave. `for (ticket, deadline, job) in &agenda` goes over them too.
+    ///
+    /// ```
+    /// let mut agenda: Agenda<&str> = Agenda::new(rt.alloc());
+    /// agenda.schedule(30, "report").map_err(|refused| refused.1)?;
+    /// agenda.schedule(10, "tea").map_err(|refused| refused.1)?;
+    /// let mut last = 0;
+    /// for (_, deadline, _) in &agenda {
+    ///     assert!(rt; last < deadline);
+    ///     last = deadline;
+    /// }
+    /// assert_eq!(rt; last, 30);
+    /// ```
     pub fn iter(&self) -> Iter<'_, J, A>
         ensures value { result ≡ self.now.entries }
         ensures in_order { AreSorted nat_cmp self.now.entries }
@@ -63,14 +76,23 @@ impl<'a, J, A: Allocator> Iterator for Iter<'a, J, A> {
     }
 }
 
+impl<'a, J, A: Allocator> ExactSizeIterator for Iter<'a, J, A> {
+    fn len(&self) -> usize {
+        self.entries.len()
+    }
+}
+
+/// `for (ticket, deadline, job) in &agenda` goes over all jobs, in the order in which they leave.
 impl<'a, J, A: Allocator> IntoIterator for &'a Agenda<J, A> {
     type Item = (Ticket, u64, &'a J);
 
     type IntoIter = Iter<'a, J, A>;
 
-    ghost into_iter_gives = { λ a i. i ≡ a.now.entries };
+    ghost into_iter_gives = { λ a jobs. IteratesOver shown_job a.now jobs };
 
     fn into_iter(self) -> Iter<'a, J, A> {
+        // For the prover: the list is sound.
+        let _ = self.len();
         self.iter()
     }
 }

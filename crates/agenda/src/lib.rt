@@ -8,7 +8,7 @@ mod iter;
 pub mod laws;
 mod ticket;
 
-pub use agenda::{Agenda, IterFrom};
+pub use agenda::{Agenda, IntoIter, IterFrom};
 pub use due::Due;
 pub use iter::Iter;
 pub use ticket::Ticket;

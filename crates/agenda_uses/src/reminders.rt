@@ -3,7 +3,8 @@
 ghost use Rattle.std.specs.Prelude.{◌≡◌, ◌≢◌, ◌+◌, ◌-◌, ◌≤◌, ℕ};
 ghost use Rattle.std.specs.Prelude.{Some, None, IfOk, OnOk, IfErr, OnErr, IfSome, IfNone, OnSome, is_some};
 ghost use Rattle.std.specs.{Option.option_map, Bool.OnFalse};
-ghost use Rattle.agenda.specs.Agenda.{get, count, first_deadline, first_due};
+ghost use Rattle.agenda.specs.Gap.{first_of};
+ghost use Rattle.agenda.specs.Agenda.{get, count, value_of, first_deadline, first_due};
 ghost use Rattle.agenda.specs.Tickets.{HasNoLaterTicket, HasEnded};
 
 use agenda::laws::ended_ticket_law;
@@ -129,4 +130,17 @@ pub fn idle_for(reminders: &Reminders, now: u64) -> Option<u64>
 {
     let time = reminders.next_deadline()?;
     Some(time.saturating_sub(now))
+}
+
+/// Gives the reminders up. Returns how many there were, and the first note.
+pub fn first_note(reminders: Reminders) -> (usize, Option<String>)
+    ensures count { result.0 ≡ count reminders }
+    ensures first { result.1 ≡ option_map value_of (first_of reminders.entries) }
+{
+    let mut notes = reminders.into_iter();
+    let left = notes.len();
+    match notes.next() {
+        Some((_, _, note)) => (left, Some(note)),
+        None => (left, None),
+    }
 }

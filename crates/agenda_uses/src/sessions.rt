@@ -1,6 +1,6 @@
 //! Sessions: users by the time at which their session ends. A map from user to ticket is kept in step by the tickets that come back.
 
-ghost use Rattle.std.specs.Prelude.{◌≡◌, ◌≢◌, ◌==◌, ◌+◌, ◌<◌, ℕ, nat_lt, not, filter, length, vec_len, Some, None, IfSome, IfNone, IfErr, OnSome, OnOk, OnErr, IsSome};
+ghost use Rattle.std.specs.Prelude.{◌≡◌, ◌≢◌, ◌==◌, ◌+◌, ◌-◌, ◌<◌, ℕ, nat_lt, not, filter, length, vec_len, Some, None, IfSome, IfNone, IfOk, IfErr, OnSome, OnOk, OnErr, IsSome, map};
 ghost use Rattle.std.specs.List.{All};
 ghost use Rattle.std.specs.Option.{option_map};
 ghost use Rattle.std.specs.Ordering.{nat_cmp};
@@ -8,7 +8,7 @@ ghost use Rattle.agenda.specs.Gap.{first_of};
 ghost use Rattle.agenda.specs.Agenda.{get, count, key_of, value_of, from_index, entries_until, shown_job};
 
 use agenda::{Agenda, Ticket};
-use std::alloc::AllocError;
+use std::alloc::{AllocError, Global};
 
 /// Users by the time at which their session ends.
 pub type Sessions = Agenda<u64>;
@@ -90,4 +90,25 @@ pub fn open_all(
         Ok(()) => Ok(()),
         Err((refused, _)) => Err(refused),
     }
+}
+
+/// Ends all sessions at once, and returns their users, first the one whose session was to end first.
+pub fn close(alloc: Global, sessions: Sessions) -> Result<Vec<u64>, AllocError>
+    ensures { IfOk result (λ users. users.items ≡ map value_of sessions.entries) }
+{
+    sessions.into_iter().map(|(_, _, user)| user).collect(alloc)
+}
+
+/// The session that ends first, with its ticket.
+pub fn first_open(sessions: &Sessions) -> Option<(Ticket, u64, &u64)>
+    ensures { option_map shown_job result ≡ first_of sessions.now.entries }
+{
+    sessions.into_iter().next()
+}
+
+/// How many sessions are left behind those that one passes over.
+pub fn count_behind(sessions: &Sessions, passed: usize) -> usize
+    ensures { result ≡ count sessions.now - passed }
+{
+    sessions.into_iter().skip(passed).count()
 }

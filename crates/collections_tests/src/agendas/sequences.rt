@@ -207,6 +207,23 @@ fn leave_alike(beside: &mut Beside) -> bool {
     beside.letters.is_empty()
 }
 
+/// Returns whether a copy of the agenda gives its jobs by value as the list has them, and says how many are left.
+fn are_given_alike(beside: &Beside) -> bool {
+    let Ok(letters) = beside.letters.try_clone() else {
+        return false;
+    };
+    let mut given = letters.into_iter();
+    for job in beside.jobs.iter() {
+        let left = given.len();
+        if given.next() != Some((job.ticket, job.deadline, job.letter))
+            || given.len().checked_add(1) != Some(left)
+        {
+            return false;
+        }
+    }
+    given.next().is_none()
+}
+
 /// Makes the calls of the sequence with this number. Its digits in base 9 are those of the calls.
 fn all_are_made(beside: &mut Beside, number: usize) -> bool {
     let mut digits = number;
@@ -216,7 +233,7 @@ fn all_are_made(beside: &mut Beside, number: usize) -> bool {
         }
         digits /= 9;
     }
-    leave_alike(beside)
+    are_given_alike(beside) && leave_alike(beside)
 }
 
 /// Returns whether an agenda of three jobs, two of them with equal deadlines, behaves like a list.

@@ -230,3 +230,30 @@ fn schedule_all_in(
     assert_eq!(rt; agenda.next_deadline(), Some(10));
     Ok(())
 }
+
+#[test]
+fn into_iter(rt: HostRuntime) -> Result<(), Fail> {
+    let mut agenda: Agenda<&str> = Agenda::new(rt.alloc());
+    let report = agenda.schedule(30, "report").map_err(|refused| refused.1)?;
+    let tea = agenda.schedule(10, "tea").map_err(|refused| refused.1)?;
+    let mut jobs = agenda.into_iter();
+    assert_eq!(rt; jobs.len(), 2);
+    assert_eq!(rt; jobs.next(), Some((tea, 10, "tea")));
+    assert_eq!(rt; jobs.next(), Some((report, 30, "report")));
+    assert_eq!(rt; jobs.next(), None);
+    Ok(())
+}
+
+#[test]
+fn iter(rt: HostRuntime) -> Result<(), Fail> {
+    let mut agenda: Agenda<&str> = Agenda::new(rt.alloc());
+    agenda.schedule(30, "report").map_err(|refused| refused.1)?;
+    agenda.schedule(10, "tea").map_err(|refused| refused.1)?;
+    let mut last = 0;
+    for (_, deadline, _) in &agenda {
+        assert!(rt; last < deadline);
+        last = deadline;
+    }
+    assert_eq!(rt; last, 30);
+    Ok(())
+}
