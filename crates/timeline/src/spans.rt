@@ -1,6 +1,6 @@
 //! `Spans`: the spans of a timeline, in order.
 
-ghost use Rattle.std.specs.Prelude.{◌≡◌, ◌↔◌, IsTrue, IfSome, IfNone};
+ghost use Rattle.std.specs.Prelude.{◌≡◌, ◌↔◌, ◌-◌, ◌^◌, IsTrue, IfSome, IfNone};
 ghost use Rattle.std.specs.Iterator.{YieldsFirstBy, item_count};
 ghost use Rattle.timeline.specs.Timeline.{AreSpans, IsNextSpan, HasNone, shown_span};
 
@@ -11,6 +11,20 @@ use std::alloc::{Allocator, Global};
 use std::marker::Model;
 
 /// An iterator over the spans within a time. It takes no memory. In contracts it is the list of the spans that are left.
+///
+/// `for span in &timeline` goes over those from time 0 until before `u64::MAX`, in order. A value that holds for ever is cut there.
+///
+/// ```
+/// let mut day: Timeline<u8> = Timeline::new(rt.alloc());
+/// day.set(9, 17, 1)?;
+/// day.set_from(20, 3)?;
+/// let mut ends = 0u64;
+/// for span in &day {
+///     assert!(rt; ends < span.from);
+///     ends = span.until;
+/// }
+/// assert_eq!(rt; ends, u64::MAX);
+/// ```
 #[derive(Drop)]
 pub struct Spans<'a, V, A: Allocator = Global> {
     walk: Walk<'a, V, A>,
@@ -100,5 +114,18 @@ impl<'a, V, A: Allocator> Iterator for Spans<'a, V, A> {
             }
         }
         None
+    }
+}
+
+/// `for span in &timeline` goes over the spans of all times but the last, `u64::MAX`, in order.
+impl<'a, V, A: Allocator> IntoIterator for &'a Timeline<V, A> {
+    type Item = Span<&'a V>;
+
+    type IntoIter = Spans<'a, V, A>;
+
+    ghost into_iter_gives = { λ t spans. AreSpans t.now.changes 0 (2 ^ 64 - 1) spans };
+
+    fn into_iter(self) -> Spans<'a, V, A> {
+        self.spans(0, u64::MAX)
     }
 }

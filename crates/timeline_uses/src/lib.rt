@@ -1,12 +1,12 @@
 //! What a program makes of a timeline, proved from the promises of the timeline's calls alone: there is no proof file.
 #![tactic(auto)]
 
-ghost use Rattle.std.specs.Prelude.{◌≡◌, ◌≤◌, ◌<◌, ◌+◌, ◌↔◌, ℕ, false, IsTrue, Some, None, IfSome, IfNone, IfOk, IsOk, OnOk, OnErr, length};
+ghost use Rattle.std.specs.Prelude.{◌≡◌, ◌≤◌, ◌<◌, ◌+◌, ◌-◌, ◌^◌, ◌↔◌, ℕ, false, IsTrue, Some, None, IfSome, IfNone, IfOk, IsOk, OnOk, OnErr, length};
 ghost use Rattle.std.specs.Option.{option_copied};
-ghost use Rattle.timeline.specs.Timeline.{value_at, HasNone, HasValues, HasRoomFor, IsBlank, IsNextGap};
+ghost use Rattle.timeline.specs.Timeline.{value_at, shown_span, HasNone, HasValues, HasRoomFor, IsBlank, IsNextGap, IsNextSpan};
 
 use std::alloc::Allocator;
-use timeline::{Gap, ReallocationError, Text, Timeline};
+use timeline::{Gap, ReallocationError, Span, Text, Timeline};
 
 /// Who is on duty at each time.
 pub type Shifts<A> = Timeline<Text<A>, A>;
@@ -108,4 +108,13 @@ pub fn with_rate<A: Allocator + Copy>(
     };
     new.set_from(from, rate)?;
     Ok(new)
+}
+
+/// The first rate that holds before the last time of all, and over which times.
+pub fn first_rate<A: Allocator>(rates: &Timeline<u64, A>) -> Option<Span<&u64>>
+    ensures span { IfSome result
+        (λ span. IsNextSpan rates.now.changes 0 (2 ^ 64 - 1) (shown_span span)) }
+    ensures none { IfNone result (HasNone rates.now.changes 0 (2 ^ 64 - 1)) }
+{
+    rates.into_iter().next()
 }

@@ -191,3 +191,17 @@ fn try_clone_in(rt: &impl Abort, day: &mut Timeline<u8>) -> Result<(), Fail> {
     assert_eq!(rt; copy.get(12), Some(&1));
     Ok(())
 }
+
+#[test]
+fn into_iter(rt: HostRuntime) -> Result<(), Fail> {
+    let mut day: Timeline<u8> = Timeline::new(rt.alloc());
+    day.set(9, 17, 1)?;
+    day.set_from(20, 3)?;
+    let mut ends = 0u64;
+    for span in &day {
+        assert!(rt; ends < span.from);
+        ends = span.until;
+    }
+    assert_eq!(rt; ends, u64::MAX);
+    Ok(())
+}
