@@ -1,108 +1,29 @@
 -- The orders at a price, and from a price on: which entries they are, and how levels sum them up.
-use Rattle.std.proofs.Common.{◌≡◌, ◌≢◌, ℕ, suc, ◌≤◌, ◌==◌, ◌&&◌, true, false, List, [], ◌∷◌, filter, length, map, Some, None, refl, sym, ap, subst, ◌∙◌, arith, inl, inr, if◌then◌else◌}
+use Rattle.std.proofs.Common.{◌≡◌, ℕ, ◌+◌, ◌≤◌, ◌==◌, true, false, List, [], ◌∷◌, filter, length, map, leb, Option, Some, None, refl, sym, ap, ◌∙◌, arith, inl, inr, if◌then◌else◌}
 use Rattle.std.proofs.{lemmas.Bool.Decides.eqb_tells, lemmas.Bool.Decides.nat_tests}
-use Rattle.std.specs.{Prelude.Bool, List.AllByRecursion, Ordering.nat_cmp, Ordering.is_le}
-use Rattle.sorted_arena.specs.Chain.{Entry}
-use Rattle.sorted_arena.proofs.CallerLemmas.{filter-none}
+use Rattle.std.specs.{Prelude.Bool, Iterator.YieldsFirst}
+use Rattle.std.proofs.lemmas.Grind.{common_steps}
+use Rattle.std.specs.{List.AllByRecursion, Ordering.is_eq, Ordering.nat_cmp}
+use Rattle.sorted_arena.specs.Chain.{IsDistinct, item_of, times}
+use Rattle.sorted_arena.specs.Sorted.{first_where, pointer_of}
+use Rattle.sorted_arena.proofs.CallerLemmas.{filter-none, found-here, distinct-rest}
 use Rattle.sorted_arena.proofs.OrdLemmas.{recursion-map as all-weaker}
-use Rattle.order_book.specs.Queue.{IsNoWorse, IsInOrder, AreSummable, meets, total, joined, levels_of, orders_from, orders_at, summed, level_at}
-use Rattle.order_book.specs.QueueLayout.{most_price, ranked, order_in, AreLawful}
-use Rattle.order_book.specs.{declared.side.Side.TheVariants.Buy, declared.side.Side.TheVariants.Sell, declared.side.Side.Side, declared.level.Level.Level, declared.order.Lot.Lot, declared.order.Order.Order}
-use Rattle.order_book.proofs.Ranks.{Entries}
-
--- what a filter keeps
-module _ {X : Type 0} (test : X → Bool) where
-  filter-all : (P : X → Type 0) (xs : List X) → AllByRecursion P xs → AllByRecursion P (filter test xs)
-  filter-all P [] all = tt
-  filter-all P (x ∷ xs) all = elim (test x) as (λ b. AllByRecursion P (if b then x ∷ filter test xs else filter test xs)) [
-    | true ↦ (all.0, filter-all P xs all.1)
-    | false ↦ filter-all P xs all.1
-  ]
-
-  filter-fewer : (xs : List X) → length (filter test xs) ≤ length xs
-  filter-fewer [] = omega arith
-  filter-fewer (x ∷ xs) = let rest = filter-fewer xs in elim (test x) as (λ b. length (if b then x ∷ filter test xs else filter test xs) ≤ suc (length xs)) [
-    | true ↦ omega (arith, rest)
-    | false ↦ omega (arith, rest)
-  ]
-
-  -- what another test keeps, if each that passes it passes this one
-  filter-weaker : (stronger : X → Bool) → ((x : X) → stronger x ≡ true → test x ≡ true) → (xs : List X) → filter stronger (filter test xs) ≡ filter stronger xs
-  filter-weaker stronger follows [] = refl
-  filter-weaker stronger follows (x ∷ xs) = go (test x) (stronger x) refl refl (filter-weaker stronger follows xs)
-    where
-      go : (b c : Bool) → test x ≡ b → stronger x ≡ c → filter stronger (filter test xs) ≡ filter stronger xs → filter stronger (filter test (x ∷ xs)) ≡ filter stronger (x ∷ xs)
-      go true true is so rest = rw (is, so, rest) refl
-      go true false is so rest = rw (is, so) rest
-      go false false is so rest = rw (is, so) rest
-      go false true is so rest = absurd (let wrong : false ≡ true = sym is ∙ follows x so in cc)
+use Rattle.order_book.specs.Queue.{IsNoWorse, IsInOrder, meets, total, joined, levels_of, orders_from, orders_at, summed, level_at, top_of}
+use Rattle.order_book.specs.QueueLayout.{most_price, ranked, order_in, level_in, summed_level, AreLawful}
+use Rattle.order_book.specs.{declared.side.Side.TheVariants.Buy, declared.side.Side.TheVariants.Sell, declared.side.Side.Side, declared.level.Level.Level, declared.order.Order.Order}
+use Rattle.order_book.proofs.{Ranks.Entries, Reading.is_from, Places.some-same}
+use Rattle.order_book.specs.declared.ladder.Totals.{Totals}
+use Rattle.order_book.proofs.Rows.{LevelEntry, Levels}
 
 -- where q is worse than p, no price that is no better than q is p
 apart-worse : (side : Side) (p q r : ℕ) → IsNoWorse side p q → IsNoWorse side q r → (q == p) ≡ false → (r == p) ≡ false
 apart-worse Buy p q r worse further other = grind (arith, nat_tests, worse, further, other)
 apart-worse Sell p q r worse further other = grind (arith, nat_tests, worse, further, other)
 
-module _ (side : Side) (price : ℕ) where
-  -- none of the orders behind one of a worse price is at the price
-  at-behind : (x : Order) (xs : List Order) → IsInOrder side (x ∷ xs) → IsNoWorse side price x.price → (x.price == price) ≡ false → orders_at price (x ∷ xs) ≡ []
-  at-behind x xs sorted worse other = filter-none (λ (y : Order). y.price == price) (x ∷ xs)
-      (other, all-weaker _ _ (λ y further. apart-worse side price x.price y.price worse further other) xs sorted.0)
-
-  -- the orders from a price on are in order, can be summed up, and all that are at it are among them
-  pub from-in_order : (xs : List Order) → IsInOrder side xs → IsInOrder side (orders_from side price xs)
-  from-in_order [] sorted = tt
-  from-in_order (x ∷ xs) sorted = elim (meets side price x.price) as (λ b. IsInOrder side (if b then x ∷ orders_from side price xs else orders_from side price xs)) [
-    | true ↦ (filter-all (λ (y : Order). meets side price y.price) (λ y. IsNoWorse side x.price y.price) xs sorted.0, from-in_order xs sorted.1)
-    | false ↦ from-in_order xs sorted.1
-  ]
-
-  pub from-summable : (xs : List Order) → AreSummable xs → AreSummable (orders_from side price xs)
-  from-summable xs summable = record {
-    few = omega (arith, filter-fewer (λ (y : Order). meets side price y.price) xs, summable.few);
-    bounded = filter-all (λ (y : Order). meets side price y.price) (λ (y : Order). y.quantity ≤ 18446744073709551615) xs summable.bounded;
-  }
-
-  own-met : (p : ℕ) → (p == price) ≡ true → meets side price p ≡ true
-  own-met p same = go side
-    where
-      go : (s : Side) → meets s price p ≡ true
-      go Buy = grind (arith, nat_tests, same)
-      go Sell = grind (arith, nat_tests, same)
-
-  pub at-from : (xs : List Order) → orders_at price (orders_from side price xs) ≡ orders_at price xs
-  at-from xs = filter-weaker (λ (y : Order). meets side price y.price) (λ (y : Order). y.price == price) (λ x same. own-met x.price same) xs
-
-  -- the first of them is no better
-  met-worse : (p : ℕ) → meets side price p ≡ true → IsNoWorse side price p
-  met-worse p met = go side met
-    where
-      go : (s : Side) → meets s price p ≡ true → IsNoWorse s price p
-      go Buy is = grind (arith, nat_tests, is)
-      go Sell is = grind (arith, nat_tests, is)
-
-  all-met : (xs : List Order) → AllByRecursion (λ (y : Order). meets side price y.price ≡ true) (orders_from side price xs)
-  all-met [] = tt
-  all-met (x ∷ xs) = go (meets side price x.price) refl (all-met xs)
-    where
-      Met : Order → Type 0
-      Met y = meets side price y.price ≡ true
-
-      go : (b : Bool) → meets side price x.price ≡ b → AllByRecursion Met (orders_from side price xs) → AllByRecursion Met (if b then x ∷ orders_from side price xs else orders_from side price xs)
-      go true met rest = (met, rest)
-      go false unmet rest = rest
-
-  first-worse : (x : Order) (rest xs : List Order) → x ∷ rest ≡ orders_from side price xs → IsNoWorse side price x.price
-  first-worse x rest xs is = met-worse x.price ((subst (λ ys. AllByRecursion (λ (y : Order). meets side price y.price ≡ true) ys) (sym is) (all-met xs)).0)
-
-  -- so if it has another price, none is at the price
-  pub level-none : (x : Order) (rest xs : List Order) → IsInOrder side xs → x ∷ rest ≡ orders_from side price xs → x.price ≢ price → None ≡ level_at price xs
-  level-none x rest xs sorted is other =
-      let later : IsInOrder side (x ∷ rest) = subst (IsInOrder side) (sym is) (from-in_order xs sorted) in
-      let apart : (x.price == price) ≡ false = elim (eqb_tells x.price price) [
-        | inl h ↦ absurd (other h.1)
-        | inr h ↦ h.0
-      ] in
-      ap (summed price) (sym (at-behind x rest later (first-worse x rest xs is) apart) ∙ ap (orders_at price) is ∙ at-from xs)
+-- none of the orders behind one of a worse price is at the price
+at-behind : (side : Side) (price : ℕ) (x : Order) (xs : List Order) → IsInOrder side (x ∷ xs) → IsNoWorse side price x.price → (x.price == price) ≡ false → orders_at price (x ∷ xs) ≡ []
+at-behind side price x xs sorted worse other = filter-none (λ (y : Order). y.price == price) (x ∷ xs)
+    (other, all-weaker _ _ (λ y further. apart-worse side price x.price y.price worse further other) xs sorted.0)
 
 -- the level of these orders
 abbrev sum_of : ℕ → List Order → Level
@@ -144,11 +65,39 @@ first-summed side x xs l ls sorted is =
     let here : orders_at x.price (x ∷ xs) ≡ x ∷ orders_at x.price xs = rw (own-price x) refl in
     ap (λ (m : Level). Some m) same ∙ rw here refl
 
-pub level-some : (side : Side) (price : ℕ) (x : Order) (rest xs : List Order) (l : Level) (ls : List Level) → IsInOrder side xs → x ∷ rest ≡ orders_from side price xs → x.price ≡ price
-    → levels_of (x ∷ rest) ≡ l ∷ ls → Some l ≡ level_at price xs
-level-some side price x rest xs l ls sorted is same levels =
-    first-summed side x rest l ls (subst (IsInOrder side) (sym is) (from-in_order side price xs sorted)) levels
-    ∙ ap (λ p. level_at p (x ∷ rest)) same ∙ ap (λ ys. level_at price ys) is ∙ ap (summed price) (at-from side price xs)
+-- the level of a price among others
+abbrev pub level_where : ℕ → List Level → Option Level
+level_where price [] = None
+level_where price (l ∷ ls) = if l.price == price then Some l else level_where price ls
+
+-- an order of another price in front changes none of them
+skips-order : (price : ℕ) (x : Order) (ls : List Level) → (x.price == price) ≡ false → level_where price (joined x ls) ≡ level_where price ls
+skips-order price x [] other = rw other refl
+skips-order price x (l ∷ ls) other = elim (eqb_tells l.price x.price) [
+  | inl h ↦ let apart : (l.price == price) ≡ false = rw h.1 other in rw (h.0, other, apart) refl
+  | inr h ↦ rw (h.0, other) refl
+]
+
+-- in the levels of orders in order it sums up those at the price
+pub level-found : (side : Side) (price : ℕ) (xs : List Order) → IsInOrder side xs → level_where price (levels_of xs) ≡ level_at price xs
+level-found side price [] sorted = refl
+level-found side price (x ∷ xs) sorted = elim (eqb_tells x.price price) [
+  | inl h ↦
+      let first = first-level side x xs sorted in
+      let here : level_where x.price (sum_of x.price (orders_at x.price (x ∷ xs)) ∷ first.0) ≡ Some (sum_of x.price (orders_at x.price (x ∷ xs))) = rw (own-price x) refl in
+      ap (λ (p : ℕ). level_where p (levels_of (x ∷ xs))) (sym h.1) ∙ ap (level_where x.price) first.1 ∙ here
+      ∙ first-summed side x xs (sum_of x.price (orders_at x.price (x ∷ xs))) first.0 sorted first.1 ∙ ap (λ (p : ℕ). level_at p (x ∷ xs)) h.1
+  | inr h ↦
+      let same : level_at price (x ∷ xs) ≡ level_at price xs = rw h.0 refl in
+      skips-order price x (levels_of xs) h.0 ∙ level-found side price xs sorted.1 ∙ sym same
+]
+
+-- the first level that an iterator gives, if it gives one, is the best
+pub top-first : (side : Side) (xs : List Order) → IsInOrder side xs → (o : Option Level) (left new : List Level) → left ≡ levels_of xs → YieldsFirst (λ left. left) left o new → o ≡ top_of xs
+top-first side [] sorted None left new is steps = refl
+top-first side [] sorted (Some l) left new is steps = absurd (let both : [] ≡ l ∷ new = sym is ∙ steps in cc)
+top-first side (x ∷ xs) sorted None left new is steps = absurd (let both = sym (first-level side x xs sorted).1 ∙ sym is ∙ steps.0 in cc)
+top-first side (x ∷ xs) sorted (Some l) left new is steps = first-summed side x xs l new sorted (sym is ∙ steps)
 
 -- the quantity of a level
 pub summed-some : (price : ℕ) (xs : List Order) (l : Level) → Some l ≡ summed price xs → l.quantity ≡ total xs
@@ -159,21 +108,73 @@ pub summed-none : (price : ℕ) (xs : List Order) → None ≡ summed price xs �
 summed-none price [] is = refl
 summed-none price (x ∷ xs) is = absurd (cc)
 
--- the entries from the rank of a price on are the orders from the price on
+-- the rows from the rank of a price on are the orders from the price on
 module _ (side : Side) (price : ℕ) (bounded : price ≤ most_price) where
-  -- whether a rank is at least that of the price
-  abbrev pub is_from : Entry (ℕ × Lot) → Bool
-  is_from e = is_le (nat_cmp (ranked side price) e.item.0) && true
-
-  met-ranked : (s : Side) (rank : ℕ) → rank ≤ most_price → (is_le (nat_cmp (ranked s price) rank) && true) ≡ meets s price (ranked s rank)
+  met-ranked : (s : Side) (rank : ℕ) → rank ≤ most_price → leb (ranked s price) rank ≡ meets s price (ranked s rank)
   met-ranked Buy rank lawful = grind (arith, nat_tests, lawful, bounded)
   met-ranked Sell rank lawful = grind (arith, nat_tests, lawful, bounded)
 
-  pub from-ranked : (es : Entries) → AreLawful es → map (order_in side) (filter is_from es) ≡ orders_from side price (map (order_in side) es)
+  pub from-ranked : (es : Entries) → AreLawful es → map (order_in side) (filter (is_from (ranked side price)) es) ≡ orders_from side price (map (order_in side) es)
   from-ranked [] lawful = refl
   from-ranked (e ∷ es) lawful = go (meets side price (ranked side e.item.0)) refl (from-ranked es lawful.1)
     where
-      go : (b : Bool) → meets side price (ranked side e.item.0) ≡ b → map (order_in side) (filter is_from es) ≡ orders_from side price (map (order_in side) es)
-          → map (order_in side) (filter is_from (e ∷ es)) ≡ orders_from side price (map (order_in side) (e ∷ es))
+      go : (b : Bool) → meets side price (ranked side e.item.0) ≡ b → map (order_in side) (filter (is_from (ranked side price)) es) ≡ orders_from side price (map (order_in side) es)
+          → map (order_in side) (filter (is_from (ranked side price)) (e ∷ es)) ≡ orders_from side price (map (order_in side) (e ∷ es))
       go true met rest = rw (met-ranked side e.item.0 lawful.0.price, met, rest) refl
       go false unmet rest = rw (met-ranked side e.item.0 lawful.0.price, unmet) rest
+
+-- The level of a price among the levels of a ladder, by the rank of the price.
+module _ (side : Side) (price : ℕ) (bounded : price ≤ most_price) where
+  abbrev is_at : LevelEntry → Bool
+  is_at l = is_eq (nat_cmp (ranked side price) l.item.0)
+
+  at-ranked : (s : Side) (rank : ℕ) → rank ≤ most_price → (ranked s rank == price) ≡ is_eq (nat_cmp (ranked s price) rank)
+  at-ranked Buy rank lawful = grind (arith, nat_tests, lawful, bounded)
+  at-ranked Sell rank lawful = grind (arith, nat_tests, lawful, bounded)
+
+  more-times : (e : LevelEntry) (es : Levels) (i : ℕ) → times i es ≤ times i (e ∷ es)
+  more-times e es i = grind (arith, common_steps)
+
+  own-times : (e : LevelEntry) (es : Levels) (i : ℕ) → e.index ≡ i → 1 ≤ times i (e ∷ es)
+  own-times e es i is = rw (← is) (grind (arith, common_steps))
+
+  where-there : (es : Levels) (p : ℕ × ℕ) → Some p ≡ first_where is_at es → 1 ≤ times p.0 es
+  where-there [] p first = absurd (cc)
+  where-there (e ∷ es) p first = go (is_at e) first (where-there es p)
+    where
+      go : (b : Bool) → Some p ≡ (if b then Some (pointer_of e) else first_where is_at es) → (Some p ≡ first_where is_at es → 1 ≤ times p.0 es) → 1 ≤ times p.0 (e ∷ es)
+      go true is later = own-times e es p.0 (ap (λ (q : ℕ × ℕ). q.0) (sym (some-same is)))
+      go false is later = omega (arith, later is, more-times e es p.0)
+
+  pub none-at : (ls : Levels) → AllByRecursion (λ (l : LevelEntry). l.item.0 ≤ most_price) ls → None ≡ first_where is_at ls → level_where price (map (level_in side) ls) ≡ None
+  none-at [] lawful none = refl
+  none-at (l ∷ ls) lawful none = go (is_at l) refl (none-at ls lawful.1)
+    where
+      go : (b : Bool) → is_at l ≡ b → (None ≡ first_where is_at ls → level_where price (map (level_in side) ls) ≡ None) → level_where price (map (level_in side) (l ∷ ls)) ≡ None
+      go true is later = absurd (let some : first_where is_at (l ∷ ls) ≡ Some (pointer_of l) = rw is refl in cc)
+      go false is later =
+          let rest : first_where is_at (l ∷ ls) ≡ first_where is_at ls = rw is refl in
+          rw (at-ranked side l.item.0 lawful.0, is) (later (none ∙ rest))
+
+  pub some-at : (ls : Levels) → AllByRecursion (λ (l : LevelEntry). l.item.0 ≤ most_price) ls → IsDistinct ls → (p : ℕ × ℕ) → Some p ≡ first_where is_at ls
+      → (item : ℕ × Totals) → item_of ls p ≡ Some item → level_where price (map (level_in side) ls) ≡ Some (summed_level side item.0 item.1)
+  some-at [] lawful distinct p first item found = absurd (cc)
+  some-at (l ∷ ls) lawful distinct p first item found = go (is_at l) refl (λ later there. some-at ls lawful.1 (distinct-rest l ls distinct) p later item there)
+    where
+      go : (b : Bool) → is_at l ≡ b → (Some p ≡ first_where is_at ls → item_of ls p ≡ Some item → level_where price (map (level_in side) ls) ≡ Some (summed_level side item.0 item.1))
+          → level_where price (map (level_in side) (l ∷ ls)) ≡ Some (summed_level side item.0 item.1)
+      go true is behind =
+          let here : first_where is_at (l ∷ ls) ≡ Some (pointer_of l) = rw is refl in
+          let own : p ≡ pointer_of l = some-same (first ∙ here) in
+          let same : Some item ≡ Some l.item = sym found ∙ ap (item_of (l ∷ ls)) own ∙ found-here (l ∷ ls) distinct [] l ls refl in
+          rw (at-ranked side l.item.0 lawful.0, is) (ap (λ (x : ℕ × Totals). Some (summed_level side x.0 x.1)) (sym (some-same same)))
+      go false is behind =
+          let rest : first_where is_at (l ∷ ls) ≡ first_where is_at ls = rw is refl in
+          let later : Some p ≡ first_where is_at ls = first ∙ rest in
+          rw (at-ranked side l.item.0 lawful.0, is) (behind later (sym (apart later) ∙ found))
+        where
+          apart : Some p ≡ first_where is_at ls → item_of (l ∷ ls) p ≡ item_of ls p
+          apart first = elim (eqb_tells l.index p.0) [
+            | inl h ↦ absurd (let twice : times p.0 (l ∷ ls) ≡ 1 + times p.0 ls = rw h.0 refl in omega (arith, twice, where-there ls p first, distinct p.0))
+            | inr h ↦ rw h.0 refl
+          ]

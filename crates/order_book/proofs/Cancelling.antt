@@ -1,12 +1,10 @@
 -- Orders that leave by a test: what is left of a list by the answers, and what it does to names.
-use Rattle.std.proofs.Common.{◌≡◌, ℕ, zero, suc, ◌+◌, ◌-◌, ◌<◌, ◌≤◌, ◌⊎◌, inl, inr, true, false, List, [], ◌∷◌, length, map, Option, Some, None, IsSome, refl, sym, ap, subst, ◌∙◌, arith, if◌then◌else◌}
-use Rattle.std.specs.{Prelude.Bool, List.AllByRecursion, List.items_where_true, List.Retain.ReturnsInTurn}
+use Rattle.std.proofs.Common.{◌≡◌, ℕ, zero, suc, ◌+◌, ◌-◌, ◌<◌, ◌≤◌, ◌⊎◌, inl, inr, true, false, List, [], ◌∷◌, length, Option, Some, None, IsSome, refl, sym, ap, subst, ◌∙◌, arith, if◌then◌else◌}
+use Rattle.std.specs.{Prelude.Bool, List.AllByRecursion, List.items_where_true}
 use denote.Param.Members.{Mut}
 use Rattle.std.proofs.{lemmas.Bool.Decides.eqb_tells, lemmas.Bool.Decides.leb_tells}
 use Rattle.order_book.specs.Queue.{Queue, most_entries, IsDistinct, is_named_by, order_of, generation_after_many, greatest_generation, with_kept, Cancels}
-use Rattle.sorted_arena.specs.Sorted.{Sorted, with_rest}
-use Rattle.std.proofs.lemmas.List.{length-map}
-use Rattle.order_book.specs.{QueueLayout.order_in, QueueLayout.queue_of, declared.order.Lot.Lot, declared.side.Side.Side}
+use Rattle.order_book.specs.declared.side.Side.{Side}
 use Rattle.order_book.specs.Book.{Book, named, opposite, queue}
 use Rattle.order_book.specs.{Id.Id, declared.side.Side.TheVariants.Buy, declared.side.Side.TheVariants.Sell}
 use Rattle.order_book.specs.{Names.GoesOn, declared.order.Order.Order}
@@ -34,15 +32,8 @@ module _ {X : Type 0} where
   kept-all (true ∷ bs) (x ∷ xs) all = ap (λ ys. x ∷ ys) (kept-all bs xs (omega (arith, all)))
   kept-all (false ∷ bs) (x ∷ xs) all = absurd (omega (arith, all, kept-fewer bs xs))
 
-  module _ {Y : Type 0} (f : X → Y) where
-    pub kept-map : (bs : List Bool) (xs : List X) → map f (items_where_true bs xs) ≡ items_where_true bs (map f xs)
-    kept-map [] xs = refl
-    kept-map (b ∷ bs) [] = refl
-    kept-map (true ∷ bs) (x ∷ xs) = ap (λ ys. f x ∷ ys) (kept-map bs xs)
-    kept-map (false ∷ bs) (x ∷ xs) = kept-map bs xs
-
 -- a pointer that names an order is its own
-pointer-own : (p : ℕ × ℕ) (x : Order) → is_named_by p x ≡ true → p ≡ x.id.pointer
+pub pointer-own : (p : ℕ × ℕ) (x : Order) → is_named_by p x ≡ true → p ≡ x.id.pointer
 pointer-own p x = elim (eqb_tells x.id.pointer.0 p.0) [
   | inl h ↦ elim (eqb_tells x.id.pointer.1 p.1) [
     | inl k ↦ λ own. sym (rw (h.1, k.1) refl)
@@ -50,16 +41,6 @@ pointer-own p x = elim (eqb_tells x.id.pointer.0 p.0) [
   ]
   | inr h ↦ λ own. absurd (let wrong : false ≡ true = sym (rw h.0 refl) ∙ own in cc)
 ]
-
--- A test is asked through another one about what is made of each element: its answers are the same, in turn.
-module _ {X Y C F : Type 0} (R : C → X → Bool → C → Type 0) (S : F → Y → Bool → F → Type 0) (inner : C → F) (f : X → Y) (Stays : C → Type 0)
-    (step : (c d : C) (x : X) (b : Bool) → Stays c → R c x b d → S (inner c) (f x) b (inner d) × Stays d) where
-  pub asked-through : (bs : List Bool) (xs : List X) (c d : C) → Stays c → ReturnsInTurn R c bs xs d → ReturnsInTurn S (inner c) bs (map f xs) (inner d)
-  asked-through [] xs c d stays same = ap inner same
-  asked-through (b ∷ bs) [] c d stays none = none
-  asked-through (b ∷ bs) (x ∷ xs) c d stays told =
-      let here = step c told.0 x b stays told.1 in
-      (inner told.0, here.0, asked-through bs xs told.0 d here.1 told.2)
 
 -- what is named among those that are left, was named so
 pub named-kept : (bs : List Bool) (xs : List Order) (p : ℕ × ℕ) → IsDistinct xs → IsSome (order_of (items_where_true bs xs) p) → order_of (items_where_true bs xs) p ≡ order_of xs p
@@ -111,12 +92,6 @@ module _ (q : Queue) (bs : List Bool) (distinct : IsDistinct q.orders) (few : le
         | inl all ↦ absurd (some-none _ was (ap (λ xs. order_of xs p) (sym (kept-all bs q.orders all.1)) ∙ none))
         | inr fewer ↦ omega (arith, fewer.1)
       ]
-
--- the queue of an arena with fewer entries left
-pub kept-queue : (side : Side) (a new : Sorted ℕ Lot) → new ≡ with_rest greatest_generation a new.entries → queue_of side new ≡ with_kept (queue_of side a) (map (order_in side) new.entries)
-kept-queue side a new after = ap (queue_of side) after
-    ∙ ap (λ n. record { side = side; orders = map (order_in side) new.entries; generation = generation_after_many greatest_generation n a.generation; capacity = a.capacity })
-    (let same : length a.entries - length new.entries ≡ length (map (order_in side) a.entries) - length (map (order_in side) new.entries) = omega (arith, length-map a.entries (order_in side), length-map new.entries (order_in side)) in same)
 
 -- a name of a side, of which some orders have left while the other side stayed as it was
 pub name-kept : (side : Side) (old new : Book) → queue new (opposite side) ≡ queue old (opposite side)

@@ -9,6 +9,5 @@ greatest-found : (side : Side) (es : Entries) → greatest_among es ≡ greatest
 greatest-found side [] = refl
 greatest-found side (e ∷ es) = ap (max e.index) (greatest-found side es)
 
-pub cloned-queue : (side : Side) (a new : Sorted ℕ Lot) → new.entries ≡ a.entries → new.generation ≡ a.generation → new.capacity ≡ greatest_among a.entries
-    → queue_of side new ≡ clone_of (queue_of side a)
-cloned-queue side a new entries generation capacity = rw (entries, generation, capacity ∙ greatest-found side a.entries) refl
+pub cloned-queue : (side : Side) (a new : Sorted ℕ Lot) → new ≡ record a { capacity = greatest_among a.entries } → queue_of side new ≡ clone_of (queue_of side a)
+cloned-queue side a new is = ap (queue_of side) is ∙ ap (λ (n : ℕ). record (queue_of side a) { capacity = n }) (greatest-found side a.entries)

@@ -1,6 +1,16 @@
 -- One side: its orders and the entries of its arena, what comes to rest, is taken, or is summed up.
+pub mod Rows
+pub mod Laying
+pub mod Places
 pub mod Meeting
 pub mod Ranks
+pub mod Reading
+pub mod Standing
+pub mod Joining
+pub mod Beginning
+pub mod Leaving
+pub mod Growing
+pub mod Summing
 pub mod Naming
 pub mod Putting
 pub mod Trading
@@ -11,6 +21,7 @@ pub mod Executing
 pub mod Levels
 pub mod AtPrice
 pub mod Cancelling
+pub mod Retaining
 pub mod Cloning
 -- A book of two sides.
 pub mod Volumes

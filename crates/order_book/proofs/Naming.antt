@@ -1,11 +1,11 @@
 -- The orders of a queue and the entries of its arena: what a pointer names, and what a removal leaves.
-use Rattle.std.proofs.Common.{◌≡◌, ℕ, ◌<◌, ◌≤◌, [], ◌∷◌, map, Option, Some, None, IsSome, refl, sym, ap, subst, ◌∙◌, arith, inl, inr}
+use Rattle.std.proofs.Common.{◌≡◌, ◌≢◌, ℕ, ◌+◌, ◌<◌, ◌≤◌, List, [], ◌∷◌, ◌++◌, map, Option, Some, None, IsSome, refl, sym, ap, subst, ◌∙◌, arith, rules, inl, inr}
 use Rattle.std.proofs.{lemmas.Bool.Decides.eqb_tells, lemmas.Grind.common_steps, lemmas.List.length-map}
 use Rattle.std.specs.{List.AllByRecursion, Option.option_map, Ordering.nat_cmp}
-use Rattle.sorted_arena.specs.Chain.{Entry, IsDistinct as AreDistinct, entry_at, item_of, first_pointer, without as without_index}
+use Rattle.sorted_arena.specs.Chain.{Entry, IsDistinct as AreDistinct, times, entry_at, item_of, first_pointer, without as without_index}
 use Rattle.sorted_arena.proofs.ChainLemmas.{entry_at-absent}
-use Rattle.sorted_arena.proofs.CallerLemmas.{first-named, distinct-rest, removed-sound, without_entry-some}
-use Rattle.sorted_arena.specs.Sorted.{Sorted, IsSound as IsSoundArena, Updates as UpdatesArena, without_entry}
+use Rattle.sorted_arena.proofs.CallerLemmas.{first-named, distinct-rest, removed-sound, without_entry-some, words}
+use Rattle.sorted_arena.specs.Sorted.{Sorted, get, next_of, IsSound as IsSoundArena, Updates as UpdatesArena, without_entry}
 use Rattle.sorted_arena.specs.PlainPointer.{greatest_generation}
 use Rattle.order_book.specs.Queue.{most_entries, Updates, with_left, first_of, order_of, without, IsDistinct, IsSound}
 use Rattle.order_book.specs.QueueLayout.{order_in, queue_of, IsLawful, AreLawful}
@@ -22,7 +22,7 @@ first-lost [] p named lost = absurd (cc)
 first-lost (e ∷ es) p named lost = let none = lost ∙ first-named (e ∷ es) p named in cc
 
 -- indexes stay distinct if an entry leaves
-pub distinct-removed : (a new : Sorted ℕ Lot) (p : ℕ × ℕ) → new ≡ without_entry greatest_generation a p → IsSoundArena nat_cmp most_entries a → AreDistinct new.entries
+distinct-removed : (a new : Sorted ℕ Lot) (p : ℕ × ℕ) → new ≡ without_entry greatest_generation a p → IsSoundArena nat_cmp most_entries a → AreDistinct new.entries
 distinct-removed a new p after sound = rw after ((removed-sound nat_cmp most_entries greatest_generation a p sound).distinct)
 
 module _ (side : Side) where
@@ -98,10 +98,10 @@ module _ (side : Side) where
     of_side = of_side-found a.entries;
     in_order = in_order-sorted side a.entries sound.sorted;
     distinct = distinct-found a.entries sound.distinct;
-    some_left = recursion-map (order_in side) IsLawful (λ x. 0 < x.quantity) (λ e lawful. lawful.some) a.entries lawful;
+    some_left = recursion-map (order_in side) (λ (e : Entry (ℕ × Lot)). IsLawful e.item) (λ x. 0 < x.quantity) (λ e lawful. lawful.some) a.entries lawful;
     summable = record {
       few = omega (arith, length-map a.entries (order_in side), sound.within, sound.limited);
-      bounded = recursion-map (order_in side) IsLawful (λ x. x.quantity ≤ 18446744073709551615) (λ e lawful. lawful.quantity) a.entries lawful;
+      bounded = recursion-map (order_in side) (λ (e : Entry (ℕ × Lot)). IsLawful e.item) (λ x. x.quantity ≤ 18446744073709551615) (λ e lawful. lawful.quantity) a.entries lawful;
     };
     within = omega (arith, length-map a.entries (order_in side), sound.within);
     limited = sound.limited;
@@ -114,3 +114,73 @@ module _ (side : Side) where
     changed = order_of-found new.entries after p ∙ ap (option_map (order_under p)) updates.changed;
     others = λ q apart. order_of-found new.entries after q ∙ ap (option_map (order_under q)) (updates.others q apart) ∙ sym (order_of-found old.entries before q);
   }
+
+  -- an order leaves
+  pub updates-removed : (a new : Sorted ℕ Lot) (p : ℕ × ℕ) → IsSoundArena nat_cmp most_entries a → new ≡ without_entry greatest_generation a p → Updates (queue_of side a) (queue_of side new) p None
+  updates-removed a new p sound after =
+      updates-found a new p None sound.distinct (distinct-removed a new p after sound) (record { changed = rw after (gone sound.distinct); others = λ q apart. rw after (kept sound.distinct q apart) })
+    where
+      gone : AreDistinct a.entries → get (without_entry greatest_generation a p) p ≡ None
+      gone distinct = search (rules, words)
+
+      kept : AreDistinct a.entries → (q : ℕ × ℕ) → q ≢ p → get (without_entry greatest_generation a p) q ≡ get a q
+      kept distinct q apart = search (rules, words)
+
+-- the order behind the one that a pointer names, and the first one, by their pointers
+module _ (side : Side) where
+  pub first-order : (es : Entries) → first_pointer es ≡ option_map (λ (x : Order). x.id.pointer) (first_of (map (order_in side) es))
+  first-order [] = refl
+  first-order (e ∷ es) = refl
+
+  there-named : (es : Entries) (front : List Order) (x : Order) (back : List Order) → map (order_in side) es ≡ front ++ x ∷ back → 1 ≤ times x.id.pointer.0 es
+  there-named [] [] x back cut = absurd (cc)
+  there-named [] (y ∷ front) x back cut = absurd (cc)
+  there-named (e ∷ es) [] x back cut =
+      let here : order_in side e ≡ x = cc in
+      subst (λ (y : Order). 1 ≤ times y.id.pointer.0 (e ∷ es)) here (grind (arith, common_steps))
+  there-named (e ∷ es) (y ∷ front) x back cut =
+      let rest : map (order_in side) es ≡ front ++ x ∷ back = cc in
+      omega (arith, there-named es front x back rest, more e es x.id.pointer.0)
+    where
+      more : (e : Entry (ℕ × Lot)) (es : Entries) (i : ℕ) → times i es ≤ times i (e ∷ es)
+      more e es i = grind (arith, common_steps)
+
+  pub next-order : (es : Entries) → AreDistinct es → (front : List Order) (x : Order) (back : List Order) → map (order_in side) es ≡ front ++ x ∷ back
+      → next_of es x.id.pointer ≡ option_map (λ (y : Order). y.id.pointer) (first_of back)
+  next-order [] distinct [] x back cut = absurd (cc)
+  next-order [] distinct (y ∷ front) x back cut = absurd (cc)
+  next-order (e ∷ es) distinct [] x back cut =
+      let here : order_in side e ≡ x = cc in
+      let rest : map (order_in side) es ≡ back = cc in
+      subst (λ (y : Order). next_of (e ∷ es) y.id.pointer ≡ option_map (λ (y : Order). y.id.pointer) (first_of back)) here
+      (own e es ∙ first-order es ∙ ap (λ (ys : List Order). option_map (λ (y : Order). y.id.pointer) (first_of ys)) rest)
+    where
+      own : (e : Entry (ℕ × Lot)) (es : Entries) → next_of (e ∷ es) (e.index, e.generation) ≡ first_pointer es
+      own e es = elim (eqb_tells e.index e.index) [
+        | inl h ↦ elim (eqb_tells e.generation e.generation) [
+          | inl k ↦ rw (h.0, k.0) refl
+          | inr k ↦ absurd (k.1 refl)
+        ]
+        | inr h ↦ absurd (h.1 refl)
+      ]
+  next-order (e ∷ es) distinct (y ∷ front) x back cut =
+      let rest : map (order_in side) es ≡ front ++ x ∷ back = cc in
+      elim (eqb_tells e.index x.id.pointer.0) [
+        | inl h ↦ absurd (let twice : times x.id.pointer.0 (e ∷ es) ≡ 1 + times x.id.pointer.0 es = rw h.0 refl in
+            omega (arith, twice, there-named es front x back rest, distinct x.id.pointer.0))
+        | inr h ↦ let skip : next_of (e ∷ es) x.id.pointer ≡ next_of es x.id.pointer = rw h.0 refl in
+            skip ∙ next-order es (distinct-rest e es distinct) front x back rest
+      ]
+
+  -- a pointer that names an order finds a row
+  pub row-there : (es : Entries) → AreDistinct es → (p : ℕ × ℕ) → IsSome (order_of (map (order_in side) es) p) → IsSome (item_of es p)
+  row-there es distinct p named = go (item_of es p) (subst (λ (o : Option Order). IsSome o) (order_of-found side es distinct p) named)
+    where
+      go : (o : Option (ℕ × Lot)) → IsSome (option_map (order_under side p) o) → IsSome o
+      go None there = absurd (cc)
+      go (Some item) there = refl
+
+  -- no orders are those of no rows
+  pub no-orders : {X : Type 0} (f : X → Entry (ℕ × Lot)) (es : List X) → map (order_in side) (map f es) ≡ [] → es ≡ []
+  no-orders f [] none = refl
+  no-orders f (e ∷ es) none = absurd (cc)

@@ -1,7 +1,7 @@
 -- The order of ranks, and what it says of prices.
 use Rattle.std.proofs.Common.{◌≡◌, ◌≢◌, ℕ, ◌<◌, ◌≤◌, List, [], ◌∷◌, map, refl, arith}
 use Rattle.std.proofs.lemmas.{Bool.Decides.nat_tests, List.Elements.recursion_from_All}
-use Rattle.std.specs.{declared.cmp.Ordering.TheVariants.Less, declared.cmp.Ordering.TheVariants.Greater, List.AllByRecursion, Ordering.nat_cmp}
+use Rattle.std.specs.{declared.cmp.Ordering.TheVariants.Greater, List.AllByRecursion, Ordering.nat_cmp}
 use Rattle.sorted_arena.specs.Chain.{Entry}
 use Rattle.sorted_arena.specs.Sorted.{AreSorted}
 use Rattle.order_book.specs.{declared.side.Side.TheVariants.Buy, declared.side.Side.TheVariants.Sell, declared.side.Side.Side}
@@ -13,22 +13,18 @@ pub no_worse-ranked : (side : Side) (r s : ℕ) → nat_cmp r s ≢ Greater → 
 no_worse-ranked Buy r s least = let at_most : r ≤ s = grind (arith, nat_tests, least) in omega (arith, at_most)
 no_worse-ranked Sell r s least = grind (arith, nat_tests, least)
 
-pub no_worse-ahead : (side : Side) (r s : ℕ) → nat_cmp s r ≢ Less → IsNoWorse side (ranked side r) (ranked side s)
-no_worse-ahead Buy r s least = let at_most : r ≤ s = grind (arith, nat_tests, least) in omega (arith, at_most)
-no_worse-ahead Sell r s least = grind (arith, nat_tests, least)
+pub no_worse-ahead : (side : Side) (r s : ℕ) → r ≤ s → IsNoWorse side (ranked side r) (ranked side s)
+no_worse-ahead Buy r s most = omega (arith, most)
+no_worse-ahead Sell r s most = omega (arith, most)
 
-pub worse-ranked : (side : Side) (r s : ℕ) → r ≤ most_price → nat_cmp s r ≡ Less → IsWorse side (ranked side r) (ranked side s)
-worse-ranked Buy r s lawful more = let greater : s < r = grind (arith, nat_tests, more) in omega (arith, lawful, greater)
-worse-ranked Sell r s lawful more = grind (arith, nat_tests, more)
+pub worse-ranked : (side : Side) (r s : ℕ) → r ≤ most_price → s < r → IsWorse side (ranked side r) (ranked side s)
+worse-ranked Buy r s lawful more = omega (arith, lawful, more)
+worse-ranked Sell r s lawful more = omega (arith, more)
 
 -- the rank of a rank is the price
 pub ranked-twice : (side : Side) (price : ℕ) → price ≤ most_price → ranked side (ranked side price) ≡ price
 ranked-twice Buy price lawful = omega (arith, lawful)
 ranked-twice Sell price lawful = refl
-
-pub ranked-lawful : (side : Side) (price : ℕ) → price ≤ most_price → ranked side price ≤ most_price
-ranked-lawful Buy price lawful = omega (arith)
-ranked-lawful Sell price lawful = lawful
 
 -- what is true of each element is true of what is made of each
 module _ {X : Type 0} where

@@ -1,10 +1,10 @@
 -- A quantity that is written at a pointer: its order has so much left.
-use Rattle.std.proofs.Common.{◌≡◌, ℕ, suc, zero, ◌<◌, ◌≤◌, ◌==◌, [], ◌∷◌, map, Some, None, refl, sym, ap, ◌∙◌, inl, inr, true, false, arith, if◌then◌else◌}
+use Rattle.std.proofs.Common.{◌≡◌, ℕ, suc, zero, ◌<◌, [], ◌∷◌, map, Some, None, refl, sym, ap, ◌∙◌, inl, inr, arith}
 use Rattle.std.proofs.lemmas.Bool.Decides.{eqb_tells}
 use Rattle.std.specs.{Option.option_map}
 use Rattle.sorted_arena.specs.Chain.{times, IsDistinct as AreDistinct, item_of, with_item_among}
 use Rattle.sorted_arena.specs.Sorted.{Sorted, get, with_value, Updates as UpdatesArena}
-use Rattle.order_book.specs.{QueueLayout.most_price, QueueLayout.order_in, QueueLayout.queue_of, QueueLayout.AreLawful, Queue.order_of, Queue.with_quantity, Queue.with_rest, Queue.reduced, Queue.Updates}
+use Rattle.order_book.specs.{QueueLayout.order_in, QueueLayout.queue_of, Queue.order_of, Queue.with_quantity, Queue.with_rest, Queue.reduced, Queue.Updates}
 use Rattle.order_book.specs.{declared.order.Lot.Lot, declared.side.Side.Side}
 use Rattle.sorted_arena.proofs.CallerLemmas.{distinct-rest, get-with_value, get-with_value_other}
 use Rattle.order_book.proofs.Naming.{order_under, order_of-found, updates-found}
@@ -32,36 +32,12 @@ module _ (side : Side) (p : ℕ × ℕ) (lot : Lot) where
         rw (h.0, written-found es (distinct-rest e es distinct) item (sym rest ∙ found) tagged) refl
   ]
 
-  -- entries stay lawful
-  lawful-written : (es : Entries) (item : ℕ × Lot) → item.0 ≤ most_price → lot.quantity ≤ most_price → 0 < lot.quantity → AreLawful es → AreLawful (with_item_among es p.0 (with_lot item))
-  lawful-written [] item priced few some all = tt
-  lawful-written (e ∷ es) item priced few some all = elim (e.index == p.0) as (λ b. AreLawful (if b then record e { item = with_lot item } ∷ es else e ∷ with_item_among es p.0 (with_lot item))) [
-    | true ↦ (record { price = priced; quantity = few; some = some }, all.1)
-    | false ↦ (all.0, lawful-written es item priced few some all.1)
-  ]
-
-  -- a pointer finds an item of a lawful price
-  priced-found : (es : Entries) (item : ℕ × Lot) → item_of es p ≡ Some item → AreLawful es → item.0 ≤ most_price
-  priced-found [] item found all = absurd (cc)
-  priced-found (e ∷ es) item found all = elim (eqb_tells e.index p.0) [
-    | inl h ↦ elim (eqb_tells e.generation p.1) [
-      | inl k ↦
-          let here : item_of (e ∷ es) p ≡ Some e.item = rw (h.0, k.0) refl in
-          let same : item ≡ e.item = cc in rw same (all.0.price)
-      | inr k ↦ absurd (let none : item_of (e ∷ es) p ≡ None = rw (h.0, k.0) refl in cc)
-    ]
-    | inr h ↦ let rest : item_of (e ∷ es) p ≡ item_of es p = rw h.0 refl in priced-found es item (sym rest ∙ found) all.1
-  ]
-
   abbrev pub written : Sorted ℕ Lot → Sorted ℕ Lot
   written a = with_value a p (get a p) lot
 
   module _ (a : Sorted ℕ Lot) (item : ℕ × Lot) (found : get a p ≡ Some item) where
     shown : written a ≡ record a { entries = with_item_among a.entries p.0 (with_lot item) }
     shown = ap (λ o. with_value a p o lot) found
-
-    pub lawful-reduced : AreLawful a.entries → 0 < lot.quantity → lot.quantity ≤ most_price → AreLawful (written a).entries
-    lawful-reduced lawful some few = rw shown (lawful-written a.entries item (priced-found a.entries item found lawful) few some lawful)
 
     pub queue-reduced : AreDistinct a.entries → lot.tag ≡ item.1.tag → 0 < lot.quantity → queue_of side (written a) ≡ reduced (queue_of side a) p lot.quantity
     queue-reduced distinct tagged some = rw shown (go lot.quantity some (written-found a.entries distinct item found tagged))
@@ -78,7 +54,7 @@ module _ (side : Side) (p : ℕ × ℕ) (lot : Lot) where
       | inr h ↦ rw (h.0, times-written es i) refl
     ]
 
-    pub distinct-reduced : AreDistinct a.entries → AreDistinct (written a).entries
+    distinct-reduced : AreDistinct a.entries → AreDistinct (written a).entries
     distinct-reduced distinct i = rw (shown, times-written a.entries i) (distinct i)
 
     -- what pointers name then

@@ -6,4 +6,5 @@ pub mod Names
 pub mod Words
 -- How a queue lies in its arena, how a book is made of two queues, and what an order does to them. No public clause cites these files.
 pub mod QueueLayout
+pub mod Ladder
 pub mod Layout

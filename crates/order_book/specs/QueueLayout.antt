@@ -1,10 +1,12 @@
--- How one side of a book lies in its sorted arena (layout).
-use Rattle.std.specs.Prelude.{ℕ, ◌-◌, ◌≤◌, ◌<◌, ◌≡◌, List, [], ◌∷◌, map, Option, Some, None}
+-- How one side of a book lies as rows, and how levels are summed up (layout).
+use Rattle.std.specs.Prelude.{◌≡◌, ℕ, ◌-◌, ◌≤◌, ◌<◌, Bool, if◌then◌else◌, List, ◌∷◌, ◌++◌, map, Option}
+use Rattle.std.specs.{Option.option_map, Fn.Called}
+use denote.Param.Members.{Mut}
 use Rattle.std.specs.List.{AllByRecursion}
-use Rattle.sorted_arena.specs.Chain.{Entry, IsDistinct}
+use Rattle.sorted_arena.specs.Chain.{Entry}
 use Rattle.sorted_arena.specs.Sorted.{Sorted}
-use Rattle.order_book.specs.{declared.side.Side.TheVariants.Buy, declared.side.Side.TheVariants.Sell, declared.order.Order.Order, Queue.Queue, Queue.AreSummable}
-use Rattle.order_book.specs.{declared.order.Lot.Lot, declared.side.Side.Side}
+use Rattle.order_book.specs.{declared.side.Side.TheVariants.Buy, declared.side.Side.TheVariants.Sell, declared.order.Order.Order, Queue.Queue, Queue.first_of, Queue.with_left}
+use Rattle.order_book.specs.{declared.order.Lot.Lot, declared.ladder.Totals.Totals, declared.level.Level.Level, declared.side.Side.Side}
 
 -- the greatest price, and the greatest quantity
 abbrev pub most_price : ℕ
@@ -28,27 +30,34 @@ order_in side e = record {
 abbrev pub queue_of : Side → Sorted ℕ Lot → Queue
 queue_of side a = record { side = side; orders = map (order_in side) a.entries; generation = a.generation; capacity = a.capacity }
 
--- an entry's rank and its quantity are numbers of 64 bits, and something is left of its order
-pub record IsLawful (e : Entry (ℕ × Lot)) : Type 0 where
-  pub price : e.item.0 ≤ most_price
-  pub quantity : e.item.1.quantity ≤ most_price
-  pub some : 0 < e.item.1.quantity
+-- a rank and the quantity of its lot are numbers of 64 bits, and something is left
+pub record IsLawful (item : ℕ × Lot) : Type 0 where
+  pub price : item.0 ≤ most_price
+  pub quantity : item.1.quantity ≤ most_price
+  pub some : 0 < item.1.quantity
 
--- all entries of a queue's arena are so
+-- all entries are so
 abbrev pub AreLawful : List (Entry (ℕ × Lot)) → Type 0
-AreLawful es = AllByRecursion IsLawful es
+AreLawful es = AllByRecursion (λ (e : Entry (ℕ × Lot)). IsLawful e.item) es
 
--- What holds of a queue's arena: no two entries share an index, and all are lawful.
-pub record IsQueueArena (es : List (Entry (ℕ × Lot))) : Type 0 where
-  pub distinct : IsDistinct es
-  pub lawful : AreLawful es
+-- what a level sums up, at the price of its rank
+abbrev pub summed_level : Side → ℕ → Totals → Level
+summed_level side rank t = record { price = ranked side rank; quantity = t.quantity; count = t.count }
 
--- the orders that an iterator over levels has left, where the next one has been taken already
-abbrev pub with_next : Option Order → List Order → List Order
-with_next None xs = xs
-with_next (Some x) xs = x ∷ xs
+abbrev pub level_in : Side → Entry (ℕ × Totals) → Level
+level_in side l = summed_level side l.item.0 l.item.1
 
--- What an iterator over levels has left: the sums of its orders fit, and if no next order has been taken, none is left.
-pub record IsDepth (next : Option Order) (rest : List Order) : Type 0 where
-  pub summable : AreSummable (with_next next rest)
-  pub ended : next ≡ None → rest ≡ []
+-- orders are cut at the one that a pointer names
+pub record IsCutAt (xs : List Order) (p : ℕ × ℕ) : Type 0 where
+  pub front : List Order
+  pub order : Order
+  pub back : List Order
+  pub cut : xs ≡ front ++ order ∷ back
+  pub named : p ≡ order.id.pointer
+
+-- The order at a cut was asked for: it leaves at `true`, and `next` is the pointer of the one behind it.
+pub record AsksFor {F : Type 0} (g : Mut F (Order × Unit {0}) Bool) (f : F) (old : Queue) {p : ℕ × ℕ} (at : IsCutAt old.orders p) (f' : F) (new : Queue) (next : Option (ℕ × ℕ)) : Type 0 where
+  pub answer : Bool
+  pub asked : Called g f (at.order, tt) answer f'
+  pub left : new ≡ (if answer then with_left old p else old)
+  pub next_is : next ≡ option_map (λ (x : Order). x.id.pointer) (first_of at.back)

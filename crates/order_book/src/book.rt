@@ -38,8 +38,8 @@ use std::marker::Model;
 /// rest without trading.
 ///
 /// In contracts a book is two queues, bids and asks, each a list of orders in the order in which they trade. [`count`](Self::count)
-/// promises what holds of every book. In the docs n is the number of orders on a side, and k that of the orders that are filled. In the
-/// examples of the calls `book` is an empty book, as `OrderBook::new(rt.alloc())` makes it.
+/// promises what holds of every book. In the docs n is the number of orders on a side, m that of its price levels, and
+/// k that of the orders that are filled. In the examples of the calls `book` is an empty book, as `OrderBook::new(rt.alloc())` makes it.
 #[derive(Drop)]
 pub struct OrderBook<A: Allocator = Global> {
     bids: OrderQueue<A>,
@@ -181,7 +181,7 @@ impl<A: Allocator> OrderBook<A> {
 
     /// Returns an iterator over the first `levels` price levels of a side, the best price first: fewer if there are fewer.
     ///
-    /// A step is O(1) for each order of its level.
+    /// Each step is O(1).
     ///
     /// ```
     /// let mut trades = Vec::new(rt.alloc());
@@ -203,8 +203,8 @@ impl<A: Allocator> OrderBook<A> {
         self.side(id.side()).get(id.pointer())
     }
 
-    /// Returns how much of an order of a side with this limit would trade at once. Nothing changes. O(1) for each order that it would
-    /// trade with.
+    /// Returns how much of an order of a side with this limit would trade at once. Nothing changes. O(1) for each price
+    /// level that it would trade with.
     ///
     /// ```
     /// let mut trades = Vec::new(rt.alloc());
@@ -222,7 +222,8 @@ impl<A: Allocator> OrderBook<A> {
         }
     }
 
-    /// Returns how much the other side offers an order of a side with this limit in all. O(1) for each order within the limit.
+    /// Returns how much the other side offers an order of a side with this limit in all. O(1) for each price level within
+    /// the limit.
     ///
     /// ```
     /// let mut trades = Vec::new(rt.alloc());
@@ -240,7 +241,7 @@ impl<A: Allocator> OrderBook<A> {
         }
     }
 
-    /// Removes an order and returns it, in O(log n).
+    /// Removes an order and returns it. O(1), plus O(log m) if no other order of its side is at its price.
     ///
     /// If `id` names no order, returns `None` and nothing changes.
     ///
@@ -268,7 +269,7 @@ impl<A: Allocator> OrderBook<A> {
     /// Takes `quantity` units off an order, at most all of it, and returns how much of it is left.
     ///
     /// The order keeps its id and its place in the queue. If nothing of it is left, it leaves. If `id` names no order, returns `None` and
-    /// nothing changes. O(1), or O(log n) if the order leaves.
+    /// nothing changes. O(1), plus O(log m) if the order leaves and no other is at its price.
     ///
     /// ```
     /// let mut trades = Vec::new(rt.alloc());
@@ -351,7 +352,7 @@ impl<A: Allocator> OrderBook<A> {
     ///
     /// # Complexity
     ///
-    /// O((k + 1) log n); plus O(n) when its side grows (amortized O(1)).
+    /// O(k), and O(log m) for each price level that is emptied and for the rest; plus O(n) when its side grows (amortized O(1)).
     pub fn place<B: Allocator>(
         &mut self,
         order: NewOrder,

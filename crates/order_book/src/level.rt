@@ -1,13 +1,14 @@
 //! `Depth`: the orders of a side by price.
 
-ghost use Rattle.std.specs.Prelude.{◌≡◌, ◌∷◌, ◌≤◌, ℕ, length};
+ghost use Rattle.std.specs.Prelude.{◌≡◌};
 ghost use Rattle.std.specs.Iterator.{YieldsFirst, item_count};
-ghost use Rattle.order_book.specs.Queue.{levels_of, first_levels, level_at, orders_at, top_of, total, AreSummable};
-ghost use Rattle.order_book.specs.QueueLayout.{with_next, IsDepth};
+ghost use Rattle.order_book.specs.Queue.{first_levels, levels_of, level_at, orders_at, top_of, total, IsSound};
+ghost use Rattle.order_book.specs.QueueLayout.{summed_level};
 
-use crate::order::Order;
-use crate::orders::Orders;
+use crate::ladder::Totals;
 use crate::queue::OrderQueue;
+use crate::side::{Side, ranked};
+use sorted_arena::{P0, Range};
 use std::alloc::{Allocator, Global};
 use std::marker::Model;
 
@@ -24,65 +25,69 @@ pub struct Level {
 
 /// An iterator over the price levels of a side, the best price first. In contracts it is the list of the levels that are left.
 ///
-/// A step is O(1) for each order of its level.
+/// A step is O(1).
 #[derive(Drop)]
 pub struct Depth<'a, A: Allocator = Global> {
+    side: Side,
     // the number of levels that it may still give
     levels: usize,
-    // the first order of the next level
-    next: Option<Order>,
-    // the orders behind that
-    rest: Orders<'a, A>,
+    // those that are left
+    rest: Range<'a, u64, Totals, P0, A>,
 }
 
 impl<'a, A: Allocator> Model for Depth<'a, A> {
-    ghost use Rattle.std.specs.Prelude.{List, take};
+    ghost use Rattle.std.specs.Prelude.{List, map, take};
     ghost use Rattle.order_book.specs.declared.level.Level.{Level};
-    ghost use Rattle.order_book.specs.Queue.{levels_of};
-    ghost use Rattle.order_book.specs.QueueLayout.{with_next, IsDepth};
+    ghost use Rattle.order_book.specs.QueueLayout.{level_in};
 
     ghost Value = { List Level };
 
-    ghost view = { λ d. take d.levels (levels_of (with_next d.next d.rest)) };
-
-    ghost invariant = { λ d. IsDepth d.next d.rest };
+    ghost view = { λ d. take d.levels (map (level_in d.side) d.rest) };
 }
 
 impl<A: Allocator> OrderQueue<A> {
-    /// Returns an iterator over the first `levels` price levels, the best price first: fewer if there are fewer.
+    /// Returns an iterator over the first `levels` price levels, the best price first: fewer if there are fewer. O(1).
     pub fn depth(&self, levels: usize) -> Depth<'_, A>
         ensures { result ≡ first_levels levels self.now.orders }
     {
-        let mut rest = self.iter();
-        let next = rest.next();
-        Depth { levels, next, rest }
+        Depth {
+            side: self.side(),
+            levels,
+            rest: self.ladder().levels.iter(),
+        }
     }
-}
 
-impl<A: Allocator> OrderQueue<A> {
-    /// Returns the best price with its whole quantity and its number of orders. `None` if there are no orders. O(1) for each order at the
-    /// best price.
+    // An iterator over all price levels.
+    pub(crate) fn levels(&self) -> Depth<'_, A>
+        ensures levels { result ≡ levels_of self.now.orders }
+        ensures sound { IsSound self.now }
+    {
+        // For the prover: there are no more levels than orders.
+        let _ = self.len();
+        self.depth(usize::MAX)
+    }
+
+    /// Returns the best price with its whole quantity and its number of orders. `None` if there are no orders. O(1).
     pub fn top(&self) -> Option<Level>
         ensures { result ≡ top_of self.now.orders }
     {
-        let mut rest = self.iter();
-        let first = rest.next()?;
-        Some(level_from(first, &mut rest).0)
+        self.levels().next()
     }
 
-    /// Returns the whole quantity and the number of the orders at a price. `None` if there are none. O(log n), plus O(1) for each of them.
+    /// Returns the whole quantity and the number of the orders at a price. `None` if there are none. O(log m).
     pub fn level_at(&self, price: u64) -> Option<Level>
         ensures { result ≡ level_at price self.now.orders }
     {
-        let mut rest = self.iter_from(price);
-        let first = rest.next()?;
-        if first.price != price {
-            return None;
+        // For the prover: the orders are in order.
+        let _ = self.len();
+        let rank = ranked(self.side(), price);
+        match self.ladder().levels.get_by_key(&rank) {
+            Some((_, rank, totals)) => Some(level_of(self.side(), *rank, *totals)),
+            None => None,
         }
-        Some(level_from(first, &mut rest).0)
     }
 
-    /// Returns how much rests at a price in all. O(log n), plus O(1) for each order at the price.
+    /// Returns how much rests at a price in all. O(log m).
     pub fn volume_at(&self, price: u64) -> u128
         ensures { result ≡ total (orders_at price self.now.orders) }
     {
@@ -93,26 +98,15 @@ impl<A: Allocator> OrderQueue<A> {
     }
 }
 
-// Takes the orders of a level, of which the first is given. Returns the level, and the first order of the next one.
-fn level_from<A: Allocator>(first: Order, rest: &mut Orders<'_, A>) -> (Level, Option<Order>)
-    requires { AreSummable (first ∷ rest.old) }
-    ensures level { levels_of (first ∷ rest.old)
-        ≡ result.0 ∷ levels_of (with_next result.1 rest.new) }
-    ensures left { IsDepth result.1 rest.new }
+// The level of a rank by what it sums up.
+fn level_of(side: Side, rank: u64, totals: Totals) -> Level
+    ensures { result ≡ summed_level side rank totals }
 {
-    let mut level = Level {
-        price: first.price,
-        quantity: u128::from(first.quantity),
-        count: 1,
-    };
-    while let Some(order) = rest.next() {
-        if order.price != level.price {
-            return (level, Some(order));
-        }
-        level.quantity += u128::from(order.quantity);
-        level.count += 1;
+    Level {
+        price: ranked(side, rank),
+        quantity: totals.quantity,
+        count: totals.count,
     }
-    (level, None)
 }
 
 impl<'a, A: Allocator> Iterator for Depth<'a, A> {
@@ -126,10 +120,12 @@ impl<'a, A: Allocator> Iterator for Depth<'a, A> {
         if self.levels == 0 {
             return None;
         }
-        let first = self.next?;
-        let (level, next) = level_from(first, &mut self.rest);
-        self.next = next;
-        self.levels -= 1;
-        Some(level)
+        match self.rest.next() {
+            Some((_, rank, totals)) => {
+                self.levels -= 1;
+                Some(level_of(self.side, *rank, *totals))
+            }
+            None => None,
+        }
     }
 }

@@ -3,6 +3,7 @@
 
 mod book;
 mod error;
+mod ladder;
 pub mod laws;
 mod level;
 mod new_order;

@@ -4,10 +4,12 @@ ghost use Rattle.std.specs.Prelude.{◌≡◌};
 ghost use Rattle.std.specs.Iterator.{YieldsFirst, item_count};
 ghost use Rattle.order_book.specs.Queue.{orders_from, IsSound};
 
-use crate::order::{Lot, Order, order_at};
+use crate::ladder::Resting;
+use crate::order::{Order, order_at};
 use crate::queue::OrderQueue;
 use crate::side::{Side, ranked};
-use sorted_arena::{P0, Range};
+use chain_base::ChainArena;
+use sorted_arena::{BasePtr, P0};
 use std::alloc::{Allocator, Global};
 use std::marker::Model;
 
@@ -15,17 +17,23 @@ use std::marker::Model;
 #[derive(Drop)]
 pub struct Orders<'a, A: Allocator = Global> {
     side: Side,
-    entries: Range<'a, u64, Lot, P0, A>,
+    orders: &'a ChainArena<P0, Resting, A>,
+    // the index of the next one
+    at: Option<u32>,
 }
 
 impl<'a, A: Allocator> Model for Orders<'a, A> {
     ghost use Rattle.std.specs.Prelude.{List, map};
     ghost use Rattle.order_book.specs.declared.order.Order.{Order};
     ghost use Rattle.order_book.specs.QueueLayout.{order_in};
+    ghost use Rattle.order_book.specs.Ladder.{row_of, rows_left};
+    ghost use Rattle.sorted_arena.specs.Chain.{IsDistinct};
 
     ghost Value = { List Order };
 
-    ghost view = { λ o. map (order_in o.side) o.entries };
+    ghost view = { λ o. map (order_in o.side) (rows_left o.orders.now.entries o.at) };
+
+    ghost invariant = { λ o. IsDistinct o.orders.now.entries };
 }
 
 impl<A: Allocator> OrderQueue<A> {
@@ -34,20 +42,28 @@ impl<A: Allocator> OrderQueue<A> {
         ensures orders { result ≡ self.now.orders }
         ensures sound { IsSound self.now }
     {
+        // For the prover: what holds of every side.
+        let _ = self.len();
+        let ladder = self.ladder();
         Orders {
             side: self.side(),
-            entries: self.arena().iter(),
+            orders: &ladder.orders,
+            at: ladder.first_index(),
         }
     }
 
-    /// Returns an iterator over the orders at `price` and at worse prices, first the one that trades first. O(log n).
+    /// Returns an iterator over the orders at `price` and at worse prices, first the one that trades first. O(log m).
     pub fn iter_from(&self, price: u64) -> Orders<'_, A>
         ensures orders { result ≡ orders_from self.now.side price self.now.orders }
         ensures sound { IsSound self.now }
     {
+        // For the prover: what holds of every side.
+        let _ = self.len();
+        let ladder = self.ladder();
         Orders {
             side: self.side(),
-            entries: self.arena().range(ranked(self.side(), price)..),
+            orders: &ladder.orders,
+            at: ladder.index_from(ranked(self.side(), price)),
         }
     }
 }
@@ -60,9 +76,10 @@ impl<'a, A: Allocator> Iterator for Orders<'a, A> {
     ghost remaining = { item_count (λ left. left) };
 
     fn next(&mut self) -> Option<Order> {
-        match self.entries.next() {
-            Some((pointer, rank, lot)) => Some(order_at(self.side, pointer, *rank, *lot)),
-            None => None,
-        }
+        let index = self.at?;
+        let (generation, link) = self.orders.get_inx_link_no_gen(index)?;
+        self.at = link.next();
+        let pointer = P0::_from_raw(index, generation);
+        Some(order_at(self.side, pointer, link.t.rank, link.t.lot))
     }
 }

@@ -5,7 +5,8 @@ ghost use Rattle.std.specs.Prelude.{IfOk, OnOk, OnErr, OnSome, IfSome, IsOk};
 ghost use Rattle.std.specs.Option.{option_map};
 ghost use Rattle.sorted_arena.specs.PlainArena.{capacity_for};
 ghost use Rattle.order_book.specs.Queue.{most_entries, first_of, order_of, resting, within, traded, trades_of_first, taken, with_left, with_rest, reduced, reduced_order, left_of, executed};
-ghost use Rattle.order_book.specs.QueueLayout.{queue_of, IsQueueArena};
+ghost use Rattle.order_book.specs.Ladder.{rows_of, IsLadder};
+ghost use Rattle.order_book.specs.QueueLayout.{queue_of};
 ghost use Rattle.order_book.specs.Queue.{ChangesOrder, HasRoomFor, IsSound, Rests, Updates};
 
 mod compare;
@@ -13,9 +14,10 @@ mod debug;
 mod remove_where;
 mod try_clone;
 
+use crate::ladder::Ladder;
 use crate::order::{Lot, Order, Trade, order_at};
 use crate::side::{Side, ranked};
-use sorted_arena::{BasePtrInx, P0, ReallocationError, SortedArena};
+use sorted_arena::{BasePtrInx, P0, ReallocationError};
 use std::alloc::{AllocError, Allocator, Global};
 use std::marker::Model;
 
@@ -25,12 +27,12 @@ use std::marker::Model;
 /// [`len`](Self::len) promises what holds of every queue: the list is in order, no pointer names two orders, of each something is left, and
 /// all fit in the capacity.
 ///
-/// In the docs n is the number of orders.
+/// In the docs n is the number of orders, and m that of price levels.
 #[derive(Drop)]
 pub struct OrderQueue<A: Allocator = Global> {
     side: Side,
-    // what is left of each order and its tag, by the rank of its price
-    orders: SortedArena<u64, Lot, P0, A>,
+    // what is left of each order and its tag, by the rank of its price, and the levels
+    ladder: Ladder<A>,
 }
 
 impl<A: Allocator> Model for OrderQueue<A> {
@@ -38,11 +40,12 @@ impl<A: Allocator> Model for OrderQueue<A> {
 
     ghost Value = { Queue };
 
-    ghost use Rattle.order_book.specs.QueueLayout.{queue_of, IsQueueArena};
+    ghost use Rattle.order_book.specs.QueueLayout.{queue_of};
+    ghost use Rattle.order_book.specs.Ladder.{rows_of, IsLadder};
 
-    ghost view = { λ q. queue_of q.side q.orders };
+    ghost view = { λ q. queue_of q.side (rows_of q.ladder.orders) };
 
-    ghost invariant = { λ q. IsQueueArena q.orders.entries };
+    ghost invariant = { λ q. IsLadder q.ladder.orders q.ladder.levels };
 }
 
 impl<A: Allocator> OrderQueue<A> {
@@ -57,16 +60,16 @@ impl<A: Allocator> OrderQueue<A> {
     {
         OrderQueue {
             side,
-            orders: SortedArena::new(alloc),
+            ladder: Ladder::new(alloc),
         }
     }
 
-    // The arena of the orders.
-    pub(crate) fn arena(&self) -> &SortedArena<u64, Lot, P0, A>
-        ensures view { self.now ≡ queue_of self.now.side result.now }
-        ensures lawful { IsQueueArena result.now.entries }
+    // Its orders and its levels.
+    pub(crate) fn ladder(&self) -> &Ladder<A>
+        ensures view { self.now ≡ queue_of self.now.side (rows_of result.now.orders) }
+        ensures ladder { IsLadder result.now.orders result.now.levels }
     {
-        &self.orders
+        &self.ladder
     }
 
     /// Returns which side it is.
@@ -81,7 +84,7 @@ impl<A: Allocator> OrderQueue<A> {
         ensures value { result ≡ length self.now.orders }
         ensures sound { IsSound self.now }
     {
-        self.orders.len()
+        self.ladder.len()
     }
 
     /// Returns how many orders a side can have at most: 4,294,967,294, as many as pointers have indexes.
@@ -95,7 +98,7 @@ impl<A: Allocator> OrderQueue<A> {
     pub fn capacity(&self) -> usize
         ensures { result ≡ self.now.capacity }
     {
-        self.orders.capacity()
+        self.ladder.orders.capacity()
     }
 
     /// Makes room for `additional` more orders: putting them will not fail. O(capacity) if the side grows, else O(1).
@@ -118,7 +121,7 @@ impl<A: Allocator> OrderQueue<A> {
             → self.old.capacity < length self.old.orders + additional }
         ensures err { OnErr result (self.new ≡ self.old) }
     {
-        self.orders.reserve(additional)
+        self.ladder.reserve(additional)
     }
 
     /// Returns the order that trades first, in O(1).
@@ -126,17 +129,17 @@ impl<A: Allocator> OrderQueue<A> {
         ensures value { result ≡ first_of self.now.orders }
         ensures left { IfSome result (λ order. 0 < order.quantity) }
     {
-        let pointer = self.orders.first()?;
-        let (rank, lot) = self.orders.get(pointer)?;
-        Some(order_at(self.side, pointer, *rank, *lot))
+        let pointer = self.ladder.first()?;
+        let (rank, lot) = self.ladder.get(pointer)?;
+        Some(order_at(self.side, pointer, rank, lot))
     }
 
     /// Returns the order that the pointer names, in O(1). `None` if it names no order.
     pub fn get(&self, pointer: P0) -> Option<Order>
         ensures { result ≡ order_of self.now.orders pointer }
     {
-        let (rank, lot) = self.orders.get(pointer)?;
-        Some(order_at(self.side, pointer, *rank, *lot))
+        let (rank, lot) = self.ladder.get(pointer)?;
+        Some(order_at(self.side, pointer, rank, lot))
     }
 
     /// Puts an order after every order with a price at least as good, and returns its pointer.
@@ -149,7 +152,7 @@ impl<A: Allocator> OrderQueue<A> {
     ///
     /// # Complexity
     ///
-    /// O(log n), plus O(n) if the side grows (amortized O(1)).
+    /// O(log m), plus O(n) if the side grows (amortized O(1)).
     pub fn put(&mut self, price: u64, quantity: u64, tag: u64) -> Result<P0, ReallocationError>
         requires { 0 < quantity }
         ensures ok { IfOk result (λ p. Rests self.old price quantity tag p self.new) }
@@ -164,15 +167,14 @@ impl<A: Allocator> OrderQueue<A> {
         ensures fits { HasRoomFor 1 self.old → IsOk result }
         ensures err { OnErr result (self.new ≡ self.old) }
     {
+        // For the prover: what holds of every side.
+        let _ = self.len();
         let lot = Lot { quantity, tag };
-        let pointer = match self.orders.insert(ranked(self.side, price), lot) {
-            Ok(pointer) => pointer,
-            Err((_, refusal)) => return Err(refusal),
-        };
+        let pointer = self.ladder.insert(ranked(self.side, price), lot)?;
         Ok(pointer)
     }
 
-    /// Removes the order that the pointer names and returns it, in O(log n).
+    /// Removes the order that the pointer names and returns it. O(1), plus O(log m) if no other order is at its price.
     ///
     /// If the pointer names no order, returns `None` and nothing changes.
     pub fn remove(&mut self, pointer: P0) -> Option<Order>
@@ -183,14 +185,15 @@ impl<A: Allocator> OrderQueue<A> {
         ensures side { self.new.side ≡ self.old.side }
         ensures room { OnSome result (HasRoomFor 1 self.new) }
     {
-        let (rank, lot) = self.orders.remove(pointer)?;
+        let (rank, lot) = self.ladder.remove(pointer)?;
         Some(order_at(self.side, pointer, rank, lot))
     }
 
     /// Takes `quantity` units off the order that the pointer names, at most all of it, and returns how much of it is left.
     ///
     /// The order keeps its pointer and its place. If nothing of it is left, it leaves. If the pointer names no order, returns `None` and
-    /// nothing changes. O(1), or O(log n) if the order leaves.
+    /// nothing changes. O(1), plus O(log m) if the order leaves and no
+    /// other is at its price.
     pub fn reduce(&mut self, pointer: P0, quantity: u64) -> Option<u64>
         ensures value { result
             ≡ option_map (λ x. x.quantity - quantity) (order_of self.old.orders pointer) }
@@ -212,7 +215,8 @@ impl<A: Allocator> OrderQueue<A> {
     /// Trades up to `quantity` units of the order that the pointer names, at its price, and returns the trade.
     ///
     /// The order keeps its pointer and its place. If nothing of it is left, it leaves. If the pointer names no order, or `quantity` is 0,
-    /// nothing is traded: returns `None`, and nothing changes. O(1), or O(log n) if the order leaves.
+    /// nothing is traded: returns `None`, and nothing changes. O(1), plus O(log m) if the order leaves and no
+    /// other is at its price.
     pub fn execute(&mut self, pointer: P0, quantity: u64) -> Option<Trade>
         ensures value { result ≡ executed (order_of self.old.orders pointer) quantity }
         ensures changes { ChangesOrder self.old pointer
@@ -244,38 +248,38 @@ impl<A: Allocator> OrderQueue<A> {
             quantity: left,
             tag,
         };
-        let _ = self.orders.set_value(pointer, lot);
+        self.ladder.set_lot(pointer, lot);
     }
 
     /// Returns how much of `quantity` an order of the other side with this limit would trade at once.
     ///
-    /// O(1) for each order that it would trade with.
+    /// O(1) for each price level that it would trade with.
     pub fn offered(&self, limit: u64, quantity: u64) -> u64
         ensures { result ≡ traded self.now limit quantity }
     {
         let mut left = quantity;
-        for order in self.iter() {
+        for level in self.levels() {
             if left == 0 {
                 break;
             }
-            if !self.side.meets(order.price, limit) {
+            if !self.side.meets(level.price, limit) {
                 break;
             }
-            left -= left.min(order.quantity);
+            left = rest_behind(left, level.quantity);
         }
         quantity - left
     }
 
-    /// Returns how much the orders that meet a limit offer in all. O(1) for each of them.
+    /// Returns how much the orders that meet a limit offer in all. O(1) for each of their price levels.
     pub fn volume_within(&self, limit: u64) -> u128
         ensures { result ≡ within self.now.side limit self.now.orders }
     {
         let mut volume = 0;
-        for order in self.iter() {
-            if !self.side.meets(order.price, limit) {
+        for level in self.levels() {
+            if !self.side.meets(level.price, limit) {
                 break;
             }
-            volume += u128::from(order.quantity);
+            volume += level.quantity;
         }
         volume
     }
@@ -320,7 +324,8 @@ impl<A: Allocator> OrderQueue<A> {
         Ok(left)
     }
 
-    /// Takes so many units off, from the first order on. An order of which nothing is left leaves. O(log n) for each order that leaves.
+    /// Takes so many units off, from the first order on. An order of which nothing is left leaves. O(1) for each order that leaves, and
+    /// O(log m) for each price level.
     pub fn take(&mut self, quantity: u64)
         ensures after { self.new ≡ taken quantity self.old }
         ensures side { self.new.side ≡ self.old.side }
@@ -354,5 +359,15 @@ impl<A: Allocator> OrderQueue<A> {
         }
         self.write(first.id.pointer(), first.tag, first.quantity - quantity);
         quantity
+    }
+}
+
+// How much of a quantity is left behind a level of this quantity.
+fn rest_behind(wanted: u64, quantity: u128) -> u64
+    ensures { result ≡ wanted - quantity }
+{
+    match u64::try_from(quantity) {
+        Ok(quantity) => wanted.saturating_sub(quantity),
+        Err(_) => 0,
     }
 }

@@ -193,7 +193,7 @@ fn is_refused_at_first<'h>(
 /// fails.
 fn is_refused(alloc: Global, order: Order, asks: usize, bids: usize, units: usize) -> Option<bool> {
     // a heap with room for a whole test
-    let heap = LocalHeap::new(alloc, 1 << 14).ok()?;
+    let heap = LocalHeap::new(alloc, 1 << 15).ok()?;
     let mut market = new_market(alloc, &heap);
     if open(alloc, &mut market, asks, bids) {
         is_refused_at_first(alloc, &heap, units, &mut market, order)
@@ -205,7 +205,7 @@ fn is_refused(alloc: Global, order: Order, asks: usize, bids: usize, units: usiz
 /// Returns how often an order is refused with no units of memory left, with one, with two and so on; `None` if the book fails.
 fn refusals(alloc: Global, order: Order, asks: usize, bids: usize) -> Option<u32> {
     let mut refused = 0u32;
-    for units in 0..192usize {
+    for units in 0..384usize {
         if is_refused(alloc, order, asks, bids, units)? {
             refused = refused.wrapping_add(1);
         }
@@ -215,7 +215,7 @@ fn refusals(alloc: Global, order: Order, asks: usize, bids: usize) -> Option<u32
 
 /// Returns whether an order was refused at least once, and taken at least once.
 fn is_sometimes(refused: Option<u32>) -> bool {
-    matches!(refused, Some(1..=191))
+    matches!(refused, Some(1..=383))
 }
 
 #[test]

@@ -15,7 +15,8 @@ impl<A: Allocator> OrderBook<A> {
     /// Asks `f` once for each order of a side, in the order in which they trade, removes those for which it answers `true`, and returns
     /// how many.
     ///
-    /// The other orders keep their ids and their places in the queue. O(n) calls, and O(log n) for each order that leaves.
+    /// The other orders keep their ids and their places in the queue. O(n) calls, O(1) for each order that leaves, and O(log m) for each
+    /// price level.
     ///
     /// ```
     /// let mut trades = Vec::new(rt.alloc());

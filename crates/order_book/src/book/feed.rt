@@ -50,7 +50,7 @@ impl<A: Allocator> OrderBook<A> {
     ///
     /// # Complexity
     ///
-    /// O(log n), plus O(n) when the side grows (amortized O(1)).
+    /// O(log m), plus O(n) when the side grows (amortized O(1)).
     pub fn add(
         &mut self,
         side: Side,
@@ -94,7 +94,7 @@ impl<A: Allocator> OrderBook<A> {
     /// Trades up to `quantity` units of an order, at its price, and returns the trade: what a feed calls an execution.
     ///
     /// The order keeps its id and its place in the queue. If nothing of it is left, it leaves. If `id` names no order, or `quantity` is 0,
-    /// nothing is traded: returns `None`, and nothing changes. O(1), or O(log n) if the order leaves.
+    /// nothing is traded: returns `None`, and nothing changes. O(1), plus O(log m) if the order leaves and no other is at its price.
     ///
     /// ```
     /// let ask = book.add(Side::Sell, 101, 10, 7)?;

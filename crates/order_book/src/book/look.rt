@@ -13,7 +13,7 @@ use std::alloc::Allocator;
 impl<A: Allocator> OrderBook<A> {
     /// Returns the best price of a side with its whole quantity and its number of orders. `None` if the side has no orders.
     ///
-    /// O(1) for each order at the best price.
+    /// O(1).
     ///
     /// ```
     /// let mut trades = Vec::new(rt.alloc());
@@ -31,7 +31,7 @@ impl<A: Allocator> OrderBook<A> {
 
     /// Returns the whole quantity and the number of the orders of a side at a price. `None` if no order of the side is at the price.
     ///
-    /// O(log n), plus O(1) for each order at the price.
+    /// O(log m).
     ///
     /// ```
     /// let mut trades = Vec::new(rt.alloc());
@@ -47,7 +47,7 @@ impl<A: Allocator> OrderBook<A> {
         self.side(side).level_at(price)
     }
 
-    /// Returns how much of a side rests at a price in all: 0 if no order is at the price. O(log n), plus O(1) for each order at the price.
+    /// Returns how much of a side rests at a price in all: 0 if no order is at the price. O(log m).
     ///
     /// ```
     /// let mut trades = Vec::new(rt.alloc());
@@ -62,7 +62,7 @@ impl<A: Allocator> OrderBook<A> {
         self.side(side).volume_at(price)
     }
 
-    /// Returns an iterator over the orders of a side at a price and at worse ones, first the one that trades first. O(log n), and O(1) a
+    /// Returns an iterator over the orders of a side at a price and at worse ones, first the one that trades first. O(log m), and O(1) a
     /// step.
     ///
     /// ```

@@ -20,7 +20,10 @@ impl<A: Allocator> PartialEq for OrderQueue<A> {
         }
         let (mut left, mut right) = (self.iter(), other.iter());
         while let Some(order) = left.next() {
-            if right.next() != Some(order) {
+            let Some(beside) = right.next() else {
+                return false;
+            };
+            if order != beside {
                 return false;
             }
         }

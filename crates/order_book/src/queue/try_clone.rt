@@ -19,7 +19,7 @@ impl<A: Allocator + Copy> OrderQueue<A> {
     {
         Ok(OrderQueue {
             side: self.side,
-            orders: self.orders.clone()?,
+            ladder: self.ladder.try_clone()?,
         })
     }
 }

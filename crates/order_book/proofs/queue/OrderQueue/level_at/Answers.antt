@@ -1,26 +1,29 @@
-use Rattle.std.proofs.Common.{◌∙◌, sym, ap, subst}
-use Rattle.order_book.specs.Queue.{AreSummable, orders_at, summed}
-use Rattle.order_book.proofs.AtPrice.{at-from, from-summable, level-none, level-some}
+use Rattle.std.proofs.Common.{◌≤◌, ◌∙◌, sym, ap, arith}
+use Rattle.order_book.specs.QueueLayout.{most_price}
+use Rattle.order_book.specs.Queue.{Queue, levels_of}
+use Rattle.order_book.proofs.Summing.{ladder-levels, lawful-levels}
+use Rattle.order_book.proofs.AtPrice.{level_where, level-found, none-at, some-at}
 use Rattle.order_book.proofs.queue.OrderQueue.level_at.Goals as goal
 
-pub returns-in_err-first : goal.returns-in_err-first
-returns-in_err-first g c =
+pub returns-in-Some : goal.returns-in-Some
+returns-in-Some g c =
     let q = c.args.self.now in
-    c.from_residual.ensures ∙ ap (λ xs. summed c.args.price (orders_at c.args.price xs)) (sym c.in_err-first.ensures.steps.0 ∙ c.iter_from-rest.ensures.orders)
-    ∙ ap (summed c.args.price) (at-from q.side c.args.price q.orders)
+    let l = c.ladder.result.now in
+    let ladder = c.ladder.ensures.ladder in
+    let bounded : c.args.price ≤ most_price = omega (arith, c.ranges.price) in
+    let finds = rw (c.ranked-rank.ensures, c.side.ensures) at c.in-Some.ensures.finds.value in
+    rw (c.level_of.ensures, c.side-in-Some.ensures) (sym (some-at q.side c.args.price bounded l.levels.entries (lawful-levels l.levels.entries l.orders.entries ladder.laid ladder.lawful)
+    c.in-Some.ensures.finds.sound.distinct c.in-Some.field-0-0 finds (c.in-Some.rank.now, c.in-Some.totals.now) c.in-Some.ensures.item)
+    ∙ ap (level_where c.args.price) (sym (ladder-levels q.side l.levels.entries l.orders.entries ladder.laid ladder.rising ladder.lawful) ∙ ap (λ (r : Queue). levels_of r.orders) (sym c.ladder.ensures.view))
+    ∙ level-found q.side c.args.price q.orders c.len.ensures.sound.in_order)
 
-pub returns-then-first-price : goal.returns-then-first-price
-returns-then-first-price g c =
+pub returns-in-None : goal.returns-in-None
+returns-in-None g c =
     let q = c.args.self.now in
-    level-none q.side c.args.price c.in_ok-first.first c.next.new.self q.orders c.iter_from-rest.ensures.sound.in_order (sym c.in_ok-first.ensures.steps ∙ c.iter_from-rest.ensures.orders) c.if-first-price.true
-
-pub level_from-requires : goal.level_from-requires
-level_from-requires g c =
-    let q = c.args.self.now in
-    subst AreSummable (sym (sym c.in_ok-first.ensures.steps ∙ c.iter_from-rest.ensures.orders)) (from-summable q.side c.args.price q.orders c.iter_from-rest.ensures.sound.summable)
-
-pub returns : goal.returns
-returns g c =
-    let q = c.args.self.now in
-    level-some q.side c.args.price c.in_ok-first.first c.next.new.self q.orders c.level_from.result.0 _ c.iter_from-rest.ensures.sound.in_order
-    (sym c.in_ok-first.ensures.steps ∙ c.iter_from-rest.ensures.orders) c.if-first-price.false c.level_from.ensures.level
+    let l = c.ladder.result.now in
+    let ladder = c.ladder.ensures.ladder in
+    let bounded : c.args.price ≤ most_price = omega (arith, c.ranges.price) in
+    let finds = rw (c.ranked-rank.ensures, c.side.ensures) at c.in-None.ensures.finds.value in
+    sym (none-at q.side c.args.price bounded l.levels.entries (lawful-levels l.levels.entries l.orders.entries ladder.laid ladder.lawful) finds)
+    ∙ ap (level_where c.args.price) (sym (ladder-levels q.side l.levels.entries l.orders.entries ladder.laid ladder.rising ladder.lawful) ∙ ap (λ (r : Queue). levels_of r.orders) (sym c.ladder.ensures.view))
+    ∙ level-found q.side c.args.price q.orders c.len.ensures.sound.in_order

@@ -1,6 +1,7 @@
 use Rattle.std.proofs.Common.{◌≡◌, ◌<◌, List, [], ◌∷◌, ◌++◌, length, take, true, false, Result, Ok, Err, OnErr, is_ok, is_err, if◌then◌else◌, sym, ap, ◌∙◌, arith, rules}
 use Rattle.order_book.specs.{QueueLayout.queue_of, Queue.Queue, Queue.meets, Queue.trade_with}
 use Rattle.order_book.proofs.Trading.{IsOffering, offering-start, offering-next, offer-done, done-ended, done-filled, done-missed, room-wanted, front-kept}
+use Rattle.order_book.specs.Ladder.{rows_of}
 use Rattle.order_book.proofs.queue.OrderQueue.offer.Goals as goal
 
 -- what a push leaves that went well or was refused
@@ -38,7 +39,7 @@ returns-then-left-eq0 g c =
 
 pub returns-then-not-meets : goal.returns-then-not-meets
 returns-then-not-meets g c =
-    let q : Queue = queue_of c.self.inside.side c.self.inside.orders in
+    let q : Queue = queue_of c.self.inside.side (rows_of c.self.inside.ladder.orders) in
     let x = c.in-Some.order in
     let now : IsOffering q c.args.limit c.args.quantity c.args.trades.now.items c.loop-order.left c.loop-order.trades.items (x ∷ c.next.new.self) =
     rw (c.self.view_is, ← c.in-Some.ensures.steps) c.loop-order.invariant.offering in
@@ -48,7 +49,7 @@ returns-then-not-meets g c =
 
 pub loop-order-preserved : goal.loop-order-preserved
 loop-order-preserved g c =
-    let q : Queue = queue_of c.self.inside.side c.self.inside.orders in
+    let q : Queue = queue_of c.self.inside.side (rows_of c.self.inside.ladder.orders) in
     let x = c.in-Some.order in
     let now : IsOffering q c.args.limit c.args.quantity c.args.trades.now.items c.loop-order.left c.loop-order.trades.items (x ∷ c.next.new.self) =
     rw (c.self.view_is, ← c.in-Some.ensures.steps) c.loop-order.invariant.offering in
@@ -64,7 +65,7 @@ loop-order-preserved g c =
 
 pub returns-then-is_err-clause-memory : goal.returns-then-is_err-clause-memory
 returns-then-is_err-clause-memory g c =
-    let q : Queue = queue_of c.self.inside.side c.self.inside.orders in
+    let q : Queue = queue_of c.self.inside.side (rows_of c.self.inside.ladder.orders) in
     let x = c.in-Some.order in
     let now : IsOffering q c.args.limit c.args.quantity c.args.trades.now.items c.loop-order.left c.loop-order.trades.items (x ∷ c.next.new.self) =
     rw (c.self.view_is, ← c.in-Some.ensures.steps) c.loop-order.invariant.offering in
