@@ -10,7 +10,7 @@ use Rattle.triple_ord.proofs.Words.{NotWithinCapacity, common_steps}
 use Rattle.triple_ord.specs.declared.prepared.InsertPlace.{InsertPlace, TheVariants.New, TheVariants.Replacing}
 use Rattle.triple_ord.specs.Prepared.{Keeps, IsFoundPlace, IsPlaceBeside, IsPlaceFor, HasRoomAt, order_on, side_by, place_at, kind_by, kind_near}
 use Rattle.ord_tree.specs.Tree.{CanInsertAt}
-use Rattle.triple_ord.specs.Insertion.{PutsBeside}
+use Rattle.triple_ord.specs.Insertion.{PutsBeside, PutsAlone}
 use Rattle.triple_ord.specs.{declared.error.OrdInsertionError.TheVariants.BeyondMaxCapacity, declared.error.OrdInsertionError.TheVariants.AllocError, EntryVisits.HasSeen}
 
 pub item_here : {T : Type 0} (t : Tree T) (i : ℕ) (x : ℕ × T) → entry_at t.list.entries i ≡ Some x → IsSome (item_of t (i, x.0))
@@ -260,3 +260,28 @@ module _ {T : Type 0} (most : ℕ) (old new : Tree T) (item : T) (i : ℕ) where
       beside-refused (Ok x) none = absurd none
       beside-refused (Err e) is =
           record { refused = gap-refused (λ item. tt {0}) (λ k l. Equal) most (beside i (order_on side)) old on.gap on.at Reallocating e (rw is lacks); after = same }
+
+-- an insertion as the only entry
+module _ {T : Type 0} (most : ℕ) (old new : Tree T) (item : T) (empty : old.list.entries ≡ []) where
+  pub record IsPutAlone (p : ℕ × ℕ) : Type 0 where
+    pub inserts : PutsAlone most old item p new
+    pub updates : Updates old new p (Some item)
+    pub counted : count new ≡ 1
+    pub capacity : new.list.capacity ≡ old.list.capacity
+
+  abbrev only : Gap old.list.entries
+  only = record { front = []; back = []; cut = empty }
+
+  pub alone-reserved : (p : ℕ × ℕ) → IsInsertion old.list new.list (λ e. e ∷ old.list.entries) item p.0 p.1
+      → IsGrown old.shape new.shape → IsPutAlone p
+  alone-reserved p inserted grown =
+      let there : IsInsertion old.list new.list (with_between only) item p.0 p.1 =
+      IsInsertion-same old.list new.list _ (with_between only) item p.0 p.1 (λ e. ap (λ (es : List (Entry T)). e ∷ es) empty) inserted in
+      let done = inserted-new old new old.list refl only item p there in
+      let after = after-insertion old.list new.list (λ e. e ∷ old.list.entries) item p.0 p.1 inserted in
+      record {
+        inserts = record { gap = only; place = empty; inserted = there; grown = grown };
+        updates = done.1;
+        counted = omega (arith, done.2, ap length empty);
+        capacity = ap (λ (c : Chain T). c.capacity) after.1;
+      }

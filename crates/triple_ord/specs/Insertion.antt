@@ -5,7 +5,7 @@ use Rattle.triple_ord.specs.declared.error.OrdInsertionError.TheVariants.{Failed
 use Rattle.triple_ord.specs.{declared.growth.Growth.Growth, declared.growth.Growth.TheVariants.Within, declared.growth.Growth.TheVariants.Reallocating}
 use Rattle.triple_ord.specs.{declared.entry_kind.OrdEntryKind.OrdEntryKind, declared.entry_kind.OrdEntryKind.TheVariants.New, declared.entry_kind.OrdEntryKind.TheVariants.Replacing, declared.error.OrdInsertionError.OrdInsertionError}
 use Rattle.triple_ord.specs.Arena.{item_of, count, Updates}
-use Rattle.triple_ord.specs.{Place.Aim, Place.at_key, Place.beside, Place.into, Place.over, Place.nowhere, Place.IsPlace, Gap.Gap, Gap.with_between, Search.pointer}
+use Rattle.triple_ord.specs.{Place.Aim, Place.alone, Place.at_key, Place.beside, Place.into, Place.over, Place.nowhere, Place.IsPlace, Gap.Gap, Gap.with_between, Search.pointer}
 
 module _ {T : Type 0} where
   -- the list before an insertion that needs a slot: grown, if that is allowed and no slot is vacant
@@ -100,3 +100,7 @@ module _ {T : Type 0} (most : ℕ) (i : ℕ) (order : Ordering) where
   -- An insertion directly before or after that entry, under the pointer p. A slot is vacant, so the arena doesn't grow.
   abbrev pub PutsBeside : Tree T → T → ℕ × ℕ → Tree T → Type 0
   PutsBeside old item p new = InsertsNew keyless alike most Within (beside i order) old item p new
+
+-- An insertion as the only entry, under the pointer p. A slot is vacant, so the arena doesn't grow.
+abbrev pub PutsAlone : {T : Type 0} → ℕ → Tree T → T → ℕ × ℕ → Tree T → Type 0
+PutsAlone most old item p new = InsertsNew keyless alike most Within alone old item p new

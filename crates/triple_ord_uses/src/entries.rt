@@ -1,6 +1,6 @@
 //! Jobs that are returned if their insertion fails, several jobs with the same deadline, and jobs next to a given job.
 
-ghost use Rattle.std.specs.Prelude.{◌≡◌, ◌≢◌, ◌+◌, ◌<◌, ℕ, Some, None, IfOk, IfErr, OnErr, IsSome, if◌then◌else◌};
+ghost use Rattle.std.specs.Prelude.{◌≡◌, ◌≢◌, [], ◌+◌, ◌<◌, ℕ, Some, None, IfOk, IfErr, OnErr, IsSome, if◌then◌else◌};
 ghost use Rattle.triple_ord.specs.Arena.{item_of, count, FindSame, Updates};
 
 use crate::scheduler::Jobs;
@@ -127,6 +127,17 @@ pub fn put_reserved_behind(jobs: &mut Jobs, p: P0, job: OrdPair<u64, u64>) -> P0
     ensures capacity { jobs.new.list.capacity ≡ jobs.old.list.capacity }
 {
     jobs.insert_beside(p.inx(), Ordering::Greater, job)
+}
+
+/// Puts the first job, in a slot that was reserved. Returns its pointer.
+pub fn put_reserved_first(jobs: &mut Jobs, job: OrdPair<u64, u64>) -> P0
+    requires empty { jobs.old.list.entries ≡ [] }
+    requires vacant { 0 < jobs.old.list.capacity }
+    ensures updates { Updates jobs.old jobs.new result (Some job) }
+    ensures count { count jobs.new ≡ 1 }
+    ensures capacity { jobs.new.list.capacity ≡ jobs.old.list.capacity }
+{
+    jobs.insert_first(job)
 }
 
 /// Puts a job directly behind another, whatever their deadlines. Returns whether there is a job at the pointer's index.

@@ -1,12 +1,12 @@
 //! Inserting entries by key, and beside an entry.
-ghost use Rattle.std.specs.Prelude.{◌≡◌, ◌≢◌, ◌+◌, ◌<◌, ℕ, Ok, Some, None, IfOk, OnOk, IfErr, OnErr, is_some, if◌then◌else◌};
+ghost use Rattle.std.specs.Prelude.{◌≡◌, ◌≢◌, [], ◌+◌, ◌<◌, ℕ, Ok, Some, None, IfOk, OnOk, IfErr, OnErr, is_some, if◌then◌else◌};
 ghost use Rattle.std.specs.Option.{option_map};
 ghost use Rattle.std.specs.declared.cmp.Ordering.TheVariants.{Equal};
 ghost use Rattle.ord_tree.specs.Chain.{IsOccupied};
 ghost use Rattle.triple_ord.specs.Arena.{entry_at, count, Updates};
 ghost use Rattle.ord_tree.specs.Insert.{IsInsertion};
 ghost use Rattle.ord_tree.specs.Tree.{CanInsertAt, IsGrown, insert_at};
-ghost use Rattle.triple_ord.specs.Insertion.{with_room_by, LacksSlot, InsertsByKey, InsertsBeside, PutsBeside};
+ghost use Rattle.triple_ord.specs.Insertion.{with_room_by, LacksSlot, InsertsByKey, InsertsBeside, PutsBeside, PutsAlone};
 ghost use Rattle.triple_ord.specs.declared.growth.Growth.TheVariants.{Within, Reallocating};
 
 use super::SimpleOrdArena;
@@ -153,5 +153,20 @@ impl<P: BasePtr, T, A: Allocator> SimpleOrdArena<P, T, A> {
         ensures capacity { self.new.list.capacity ≡ self.old.list.capacity }
     {
         self.tree.insert_reserved(Some((p, direction)), t)
+    }
+
+    /// Inserts an item into an arena without entries, and returns its pointer.
+    ///
+    /// A slot must be there, as after [`reserve`](Self::reserve), so the call can't fail and takes no memory. The new entry has the
+    /// arena's generation and takes the slot freed last, or else the least one never used. O(1).
+    pub fn insert_first(&mut self, t: T) -> P
+        requires empty { self.old.list.entries ≡ [] }
+        requires vacant { 0 < self.old.list.capacity }
+        ensures inserts { PutsAlone P.Inx.most self.old t (P.numbers result) self.new }
+        ensures updates { Updates self.old self.new (P.numbers result) (Some t) }
+        ensures count { count self.new ≡ 1 }
+        ensures capacity { self.new.list.capacity ≡ self.old.list.capacity }
+    {
+        self.tree.insert_reserved(None, t)
     }
 }
