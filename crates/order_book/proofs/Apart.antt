@@ -11,7 +11,7 @@ use Rattle.order_book.specs.Book.{RestsOrNot}
 
 -- what is true of the prices of orders is true of those that are left
 module _ (P : ℕ → Type 0) where
-  all-behind : (n : ℕ) (xs : List Order) → AllByRecursion (λ x. P x.price) xs → AllByRecursion (λ x. P x.price) (behind n xs)
+  pub all-behind : (n : ℕ) (xs : List Order) → AllByRecursion (λ x. P x.price) xs → AllByRecursion (λ x. P x.price) (behind n xs)
   all-behind n [] all = tt
   all-behind n (x ∷ xs) all = elim (leb_tells x.quantity n) [
     | inl whole ↦ rw (le-ltb n x.quantity whole.1) (all-behind (n - x.quantity) xs all.1)

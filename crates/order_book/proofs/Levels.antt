@@ -64,7 +64,7 @@ joined-no_worse side p x (l ∷ ls) here all = elim (l.price == x.price) as (λ 
       | false ↦ (here, all)
     ]
 
-levels-no_worse : (side : Side) (p : ℕ) (xs : List Order) → AllByRecursion (λ (x : Order). IsNoWorse side p x.price) xs → AllByRecursion (λ (m : Level). IsNoWorse side p m.price) (levels_of xs)
+pub levels-no_worse : (side : Side) (p : ℕ) (xs : List Order) → AllByRecursion (λ (x : Order). IsNoWorse side p x.price) xs → AllByRecursion (λ (m : Level). IsNoWorse side p m.price) (levels_of xs)
 levels-no_worse side p [] all = tt
 levels-no_worse side p (x ∷ xs) all = joined-no_worse side p x (levels_of xs) all.0 (levels-no_worse side p xs all.1)
 

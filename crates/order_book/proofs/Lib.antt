@@ -23,6 +23,10 @@ pub mod AtPrice
 pub mod Cancelling
 pub mod Retaining
 pub mod Cloning
+-- An auction: the best one, how it is sought, and what it leaves.
+pub mod Preferring
+pub mod Seeking
+pub mod Filling
 -- A book of two sides.
 pub mod Volumes
 pub mod Rooms
@@ -30,4 +34,5 @@ pub mod Apart
 pub mod Crossing
 pub mod Pairs
 pub mod Deals
+pub mod Uncrossing
 pub mod Names

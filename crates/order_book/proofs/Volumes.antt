@@ -13,7 +13,7 @@ traded-most : (q : Queue) (limit quantity : ℕ) → traded q limit quantity ≤
 traded-most q limit quantity = omega arith
 
 -- the trades of the first n units come to n
-volume-first : (n : ℕ) (xs : List Order) → n ≤ total xs → volume (trades_of_first n xs) ≡ n
+pub volume-first : (n : ℕ) (xs : List Order) → n ≤ total xs → volume (trades_of_first n xs) ≡ n
 volume-first n [] most = omega (arith, most)
 volume-first n (x ∷ xs) most = elim (eqb_tells n 0) [
   | inl none ↦ rw none.0 (sym none.1)

@@ -3,8 +3,10 @@ pub mod Queue
 pub mod Id
 pub mod Book
 pub mod Names
+pub mod Auction
 pub mod Words
 -- How a queue lies in its arena, how a book is made of two queues, and what an order does to them. No public clause cites these files.
 pub mod QueueLayout
 pub mod Ladder
 pub mod Layout
+pub mod AuctionSteps

@@ -10,6 +10,7 @@ ghost use Rattle.order_book.specs.Book.{opposite, queue, empty_queue, named, lim
 ghost use Rattle.order_book.specs.Names.{IsStep, ChangesOrder, StepsOrRefuses};
 ghost use Rattle.order_book.specs.Book.{trades_for, trades_of, untraded, rest_of, AreWithin, IsBook, IsFull, IsUncrossed, IsUntraded, LacksRoom, Places};
 
+mod auction;
 mod cancel_where;
 mod compare;
 mod debug;

@@ -1,6 +1,6 @@
 //! `Depth`: the orders of a side by price.
 
-ghost use Rattle.std.specs.Prelude.{◌≡◌};
+ghost use Rattle.std.specs.Prelude.{◌≡◌, reverse};
 ghost use Rattle.std.specs.Iterator.{YieldsFirst, item_count};
 ghost use Rattle.order_book.specs.Queue.{first_levels, levels_of, level_at, orders_at, top_of, total, IsSound};
 ghost use Rattle.order_book.specs.QueueLayout.{summed_level};
@@ -67,6 +67,30 @@ impl<A: Allocator> OrderQueue<A> {
         self.depth(usize::MAX)
     }
 
+    // An iterator over all price levels, the worst price first.
+    pub(crate) fn levels_from_worst(&self) -> WorstFirst<'_, A>
+        ensures levels { result ≡ reverse (levels_of self.now.orders) }
+        ensures sound { IsSound self.now }
+    {
+        // For the prover: what holds of every side.
+        let _ = self.len();
+        WorstFirst {
+            side: self.side(),
+            rest: self.ladder().levels.iter(),
+        }
+    }
+
+    // How much rests in all.
+    pub(crate) fn volume(&self) -> u128
+        ensures { result ≡ total self.now.orders }
+    {
+        let mut volume = 0;
+        for level in self.levels() {
+            volume += level.quantity;
+        }
+        volume
+    }
+
     /// Returns the best price with its whole quantity and its number of orders. `None` if there are no orders. O(1).
     pub fn top(&self) -> Option<Level>
         ensures { result ≡ top_of self.now.orders }
@@ -94,6 +118,38 @@ impl<A: Allocator> OrderQueue<A> {
         match self.level_at(price) {
             Some(level) => level.quantity,
             None => 0,
+        }
+    }
+}
+
+// The price levels of a side that are left, the worst price first. In contracts it is their list.
+#[derive(Drop)]
+pub(crate) struct WorstFirst<'a, A: Allocator> {
+    side: Side,
+    rest: Range<'a, u64, Totals, P0, A>,
+}
+
+impl<'a, A: Allocator> Model for WorstFirst<'a, A> {
+    ghost use Rattle.std.specs.Prelude.{List, map, reverse};
+    ghost use Rattle.order_book.specs.declared.level.Level.{Level};
+    ghost use Rattle.order_book.specs.QueueLayout.{level_in};
+
+    ghost Value = { List Level };
+
+    ghost view = { λ w. reverse (map (level_in w.side) w.rest) };
+}
+
+impl<'a, A: Allocator> Iterator for WorstFirst<'a, A> {
+    type Item = Level;
+
+    ghost next_gives = { YieldsFirst (λ left. left) };
+
+    ghost remaining = { item_count (λ left. left) };
+
+    fn next(&mut self) -> Option<Level> {
+        match self.rest.next_back() {
+            Some((_, rank, totals)) => Some(level_of(self.side, *rank, *totals)),
+            None => None,
         }
     }
 }

@@ -1,6 +1,7 @@
 //! An order book: limit orders that trade by price, and at equal prices by age.
 #![tactic(auto)]
 
+mod auction;
 mod book;
 mod error;
 mod ladder;
@@ -13,6 +14,7 @@ mod queue;
 mod settling;
 mod side;
 
+pub use auction::Auction;
 pub use book::OrderBook;
 pub use error::{AddingError, PlacingError, ReplacingError};
 pub use level::{Depth, Level};

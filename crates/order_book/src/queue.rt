@@ -9,6 +9,7 @@ ghost use Rattle.order_book.specs.Ladder.{rows_of, IsLadder};
 ghost use Rattle.order_book.specs.QueueLayout.{queue_of};
 ghost use Rattle.order_book.specs.Queue.{ChangesOrder, HasRoomFor, IsSound, Rests, Updates};
 
+mod auction;
 mod compare;
 mod debug;
 mod remove_where;
@@ -331,6 +332,15 @@ impl<A: Allocator> OrderQueue<A> {
         ensures side { self.new.side ≡ self.old.side }
         ensures room { (n : ℕ) → HasRoomFor n self.old → HasRoomFor n self.new }
     {
+        self.take_volume(u128::from(quantity));
+    }
+
+    // The same for a quantity of several orders.
+    pub(crate) fn take_volume(&mut self, quantity: u128)
+        ensures after { self.new ≡ taken quantity self.old }
+        ensures side { self.new.side ≡ self.old.side }
+        ensures room { (n : ℕ) → HasRoomFor n self.old → HasRoomFor n self.new }
+    {
         let mut left = quantity;
         while left > 0 {
             let taken = self.take_first(left);
@@ -344,7 +354,7 @@ impl<A: Allocator> OrderQueue<A> {
     }
 
     // Takes up to so many units off the first order, which leaves if nothing of it is left. Returns how many.
-    fn take_first(&mut self, quantity: u64) -> u64
+    fn take_first(&mut self, quantity: u128) -> u128
         requires { 0 < quantity }
         ensures most { result ≤ quantity }
         ensures rest { taken quantity self.old ≡ taken (quantity - result) self.new }
@@ -353,11 +363,12 @@ impl<A: Allocator> OrderQueue<A> {
         let Some(first) = self.first() else {
             return 0;
         };
-        if first.quantity <= quantity {
+        let left = rest_behind(first.quantity, quantity);
+        if left == 0 {
             let _ = self.remove(first.id.pointer());
-            return first.quantity;
+            return u128::from(first.quantity);
         }
-        self.write(first.id.pointer(), first.tag, first.quantity - quantity);
+        self.write(first.id.pointer(), first.tag, left);
         quantity
     }
 }

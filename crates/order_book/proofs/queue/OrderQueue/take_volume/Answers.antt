@@ -1,7 +1,7 @@
 use Rattle.std.proofs.Common.{◌∙◌, ap, sym}
 use Rattle.order_book.specs.Queue.{Queue}
 use Rattle.order_book.proofs.{Taking.taken-none, Taking.taken-empty, Lasting.taken-room}
-use Rattle.order_book.proofs.queue.OrderQueue.take.Goals as goal
+use Rattle.order_book.proofs.queue.OrderQueue.take_volume.Goals as goal
 
 pub returns-then-taken-eq0 : goal.returns-then-taken-eq0
 returns-then-taken-eq0 g c =

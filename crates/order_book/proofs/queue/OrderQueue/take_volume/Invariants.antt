@@ -1,6 +1,6 @@
 use Rattle.std.proofs.Common.{◌≡◌}
 use Rattle.order_book.specs.Queue.{taken}
-use Rattle.order_book.proofs.queue.OrderQueue.take.Given as goal
+use Rattle.order_book.proofs.queue.OrderQueue.take_volume.Given as goal
 
 -- what is left to take comes to the whole quantity taken of the queue as it was
 abbrev pub invariant-loop-left : goal.invariant-loop-left

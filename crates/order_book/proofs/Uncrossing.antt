@@ -1,0 +1,130 @@
+-- After an auction at the best price no bid is at or above an ask: else more would have traded at the price of one of the two.
+use Rattle.std.proofs.Common.{◌≡◌, ◌×◌, ⊥, ℕ, ◌+◌, ◌-◌, ◌≤◌, ◌<◌, min, map, true, false, List, [], ◌∷◌, refl, sym, ap, subst, ◌∙◌, inl, inr, arith, if◌then◌else◌}
+use Rattle.std.specs.Prelude.{◌⊎◌}
+use Rattle.std.proofs.{lemmas.Bool.Decides.leb_tells, lemmas.Bool.Decides.nat_tests, lemmas.Bool.lt-ltb, lemmas.Bool.le-ltb}
+use Rattle.std.specs.List.{AllByRecursion}
+use Rattle.sorted_arena.proofs.CallerLemmas.{all-both}
+use Rattle.sorted_arena.proofs.OrdLemmas.{recursion-map as all-weaker}
+use Rattle.order_book.specs.Queue.{Queue, IsNoWorse, IsInOrder, IsSound, meets, within, behind, total, orders_at, volume, trades_of_first}
+use Rattle.order_book.specs.Book.{Book, IsBook, IsUncrossed}
+use Rattle.order_book.specs.Auction.{auction_at, offered_at, at_price, fills, IsNoBetter, NoneIsBetter, IsBestAuction}
+use Rattle.order_book.specs.AuctionSteps.{IsOfOrder}
+use Rattle.order_book.specs.{declared.side.Side.TheVariants.Buy, declared.side.Side.TheVariants.Sell, declared.side.Side.Side, declared.order.Order.Order, declared.order.Trade.Trade, declared.auction.Auction.Auction}
+use Rattle.order_book.proofs.{Apart.AreApart, Apart.all-behind, Taking.behind-none, Levels.within-most, Volumes.volume-first}
+use Rattle.order_book.proofs.Preferring.{no_better-then, no_better-most, auction-turned}
+
+met-no_worse : (side : Side) (p q : ℕ) → IsNoWorse side p q → meets side p q ≡ true
+met-no_worse Buy p q no_worse = grind (arith, nat_tests, no_worse)
+met-no_worse Sell p q no_worse = grind (arith, nat_tests, no_worse)
+
+met-same : (side : Side) (p : ℕ) → meets side p p ≡ true
+met-same Buy p = grind (arith, nat_tests)
+met-same Sell p = grind (arith, nat_tests)
+
+-- behind the first n units, at the price of each order that is left more than n were offered
+more-offered : (side : Side) (n : ℕ) (xs : List Order) → IsInOrder side xs → AllByRecursion (λ (x : Order). 0 < x.quantity) xs
+    → AllByRecursion (λ (y : Order). n < within side y.price xs) (behind n xs)
+more-offered side n [] sorted some = tt
+more-offered side n (x ∷ xs) sorted some = elim (leb_tells x.quantity n) [
+  | inl whole ↦ rw (le-ltb n x.quantity whole.1) (all-both (λ (y : Order). n - x.quantity < within side y.price xs) (λ (y : Order). IsNoWorse side x.price y.price) (λ (y : Order). n < within side y.price (x ∷ xs))
+      (λ y more no_worse. let here : within side y.price (x ∷ xs) ≡ x.quantity + within side y.price xs = rw (met-no_worse side x.price y.price no_worse) refl in omega (arith, more, here, whole.1))
+      (behind (n - x.quantity) xs) (more-offered side (n - x.quantity) xs sorted.1 some.1) (all-behind (λ p. IsNoWorse side x.price p) (n - x.quantity) xs sorted.0))
+  | inr part ↦
+      let first : n < within side x.price (x ∷ xs) = rw (met-same side x.price) (omega (arith, part.1)) in
+      rw (lt-ltb n x.quantity part.1) (first, all-weaker (λ (y : Order). IsNoWorse side x.price y.price) (λ (y : Order). n < within side y.price (x ∷ xs))
+      (λ y no_worse. rw (met-no_worse side x.price y.price no_worse) (omega (arith, part.1))) xs sorted.0)
+]
+
+-- asks offer no less at a higher price
+rises : (p q : ℕ) → p ≤ q → (xs : List Order) → within Sell p xs ≤ within Sell q xs
+rises p q up [] = omega arith
+rises p q up (x ∷ xs) = elim (leb_tells x.price p) [
+  | inl low ↦ let high : meets Sell x.price q ≡ true = grind (arith, nat_tests, low.1, up) in rw (low.0, high) (omega (arith, rises p q up xs))
+  | inr above ↦ rw above.0 (omega (arith, rises p q up xs))
+]
+
+module _ (bids asks : List Order) (n : ℕ) (buys : IsInOrder Buy bids) (sells : IsInOrder Sell asks) (some_bids : AllByRecursion (λ (x : Order). 0 < x.quantity) bids)
+    (some_asks : AllByRecursion (λ (x : Order). 0 < x.quantity) asks) (most : AllByRecursion (λ (x : Order). min (within Buy x.price bids) (within Sell x.price asks) ≤ n) bids) where
+  -- where at the price of no bid more than n units trade, the orders behind the first n of both sides are apart
+  pub apart-behind : AreApart (behind n bids) (behind n asks)
+  apart-behind = all-both (λ (y : Order). n < within Buy y.price bids) (λ (y : Order). min (within Buy y.price bids) (within Sell y.price asks) ≤ n) (λ (y : Order). AllByRecursion (λ (z : Order). y.price < z.price) (behind n asks))
+      (λ y more least. all-weaker (λ (z : Order). n < within Sell z.price asks) (λ (z : Order). y.price < z.price) (λ z offered. above y z more least offered) (behind n asks) (more-offered Sell n asks sells some_asks))
+      (behind n bids) (more-offered Buy n bids buys some_bids) (all-behind (λ p. min (within Buy p bids) (within Sell p asks) ≤ n) n bids most)
+    where
+      above : (y z : Order) → n < within Buy y.price bids → min (within Buy y.price bids) (within Sell y.price asks) ≤ n → n < within Sell z.price asks → y.price < z.price
+      above y z more least offered = elim (leb_tells z.price y.price) [
+        | inl below ↦ absurd (omega (arith, more, least, offered, rises z.price y.price below.1 asks))
+        | inr h ↦ h.1
+      ]
+
+module _ (b : Book) (lawful : IsBook b) where
+  buys : IsInOrder Buy b.bids.orders
+  buys = subst (λ s. IsInOrder s b.bids.orders) lawful.buys lawful.bids.in_order
+
+  sells : IsInOrder Sell b.asks.orders
+  sells = subst (λ s. IsInOrder s b.asks.orders) lawful.sells lawful.asks.in_order
+
+  -- what both sides offer at a price
+  quantity-is : (p : ℕ) → (auction_at b.bids b.asks p).quantity ≡ min (within Buy p b.bids.orders) (within Sell p b.asks.orders)
+  quantity-is p = ap (λ s. min (within s p b.bids.orders) (offered_at b.asks p)) lawful.buys ∙ ap (λ s. min (within Buy p b.bids.orders) (within s p b.asks.orders)) lawful.sells
+
+  most-traded : (a : Auction) → NoneIsBetter b.bids b.asks a b.bids.orders → AllByRecursion (λ (x : Order). min (within Buy x.price b.bids.orders) (within Sell x.price b.asks.orders) ≤ a.quantity) b.bids.orders
+  most-traded a best = all-weaker (λ (x : Order). IsNoBetter (auction_at b.bids b.asks x.price) a) (λ (x : Order). min (within Buy x.price b.bids.orders) (within Sell x.price b.asks.orders) ≤ a.quantity)
+      (λ x no_better. omega (arith, quantity-is x.price, no_better-most (auction_at b.bids b.asks x.price) a no_better)) b.bids.orders best
+
+  pub uncrossed-behind : (a : Auction) → NoneIsBetter b.bids b.asks a b.bids.orders → AreApart (behind a.quantity b.bids.orders) (behind a.quantity b.asks.orders)
+  uncrossed-behind a best = apart-behind b.bids.orders b.asks.orders a.quantity buys sells lawful.bids.some_left lawful.asks.some_left (most-traded a best)
+
+  -- so if nothing trades at the price of any bid, the book is uncrossed
+  pub uncrossed-none : (a : Auction) → NoneIsBetter b.bids b.asks a b.bids.orders → a.quantity ≡ 0 → IsUncrossed b
+  uncrossed-none a best none = subst (λ xs. AreApart b.bids.orders xs) (behind-none b.asks.orders lawful.asks.some_left)
+      (subst (λ xs. AreApart xs (behind 0 b.asks.orders)) (behind-none b.bids.orders lawful.bids.some_left)
+      (subst (λ n. AreApart (behind n b.bids.orders) (behind n b.asks.orders)) none (uncrossed-behind a best)))
+
+  -- the best auction of a crossed book, found along its bids and then along its asks
+  pub best-found : (none first a : Auction) → (IsUncrossed b → ⊥) → none.quantity ≡ 0
+      → NoneIsBetter b.bids b.asks first b.bids.orders → (first ≡ none) ⊎ IsOfOrder b.bids b.asks first
+      → IsNoBetter first a → NoneIsBetter b.asks b.bids a b.asks.orders → (a ≡ first) ⊎ IsOfOrder b.asks b.bids a → IsBestAuction b a
+  best-found none first a crossed empty bids_best bids_found better asks_best asks_found = record {
+    is = (go asks_found).is;
+    some = some;
+    of_order = (go asks_found).of_order;
+    bids = bids;
+    asks = all-weaker (λ (x : Order). IsNoBetter (auction_at b.asks b.bids x.price) a) (λ (x : Order). IsNoBetter (auction_at b.bids b.asks x.price) a)
+        (λ x h. subst (λ c. IsNoBetter c a) (auction-turned b.asks b.bids x.price) h) b.asks.orders asks_best;
+  }
+    where
+      record IsOf (a : Auction) : Type 0 where
+        is : a ≡ auction_at b.bids b.asks a.price
+        of_order : 0 < total (orders_at a.price b.bids.orders) + total (orders_at a.price b.asks.orders)
+
+      bids : NoneIsBetter b.bids b.asks a b.bids.orders
+      bids = all-weaker (λ (x : Order). IsNoBetter (auction_at b.bids b.asks x.price) first) (λ (x : Order). IsNoBetter (auction_at b.bids b.asks x.price) a)
+          (λ x h. no_better-then (auction_at b.bids b.asks x.price) first a h better) b.bids.orders bids_best
+
+      some : 0 < a.quantity
+      some = elim (leb_tells a.quantity 0) [
+        | inl none ↦ absurd (crossed (uncrossed-none a bids (omega (arith, none.1))))
+        | inr h ↦ h.1
+      ]
+
+      of_first : a ≡ first → (first ≡ none) ⊎ IsOfOrder b.bids b.asks first → IsOf a
+      of_first same (inl nothing) = absurd (omega (arith, some, ap (λ (c : Auction). c.quantity) same, ap (λ (c : Auction). c.quantity) nothing, empty))
+      of_first same (inr found) = subst (λ c. IsOf c) (sym same) (record { is = found.is; of_order = omega (arith, found.of_order) })
+
+      go : (a ≡ first) ⊎ IsOfOrder b.asks b.bids a → IsOf a
+      go (inl same) = of_first same bids_found
+      go (inr found) = record { is = found.is ∙ auction-turned b.asks b.bids a.price; of_order = omega (arith, found.of_order) }
+
+-- the trades of an auction come to what it comes to
+volume-at : (price : ℕ) (ts : List Trade) → volume (map (at_price price) ts) ≡ volume ts
+volume-at price [] = refl
+volume-at price (t ∷ ts) = omega (arith, volume-at price ts)
+
+pub fills-volume : (a : Auction) (xs : List Order) → a.quantity ≤ total xs → volume (fills a xs) ≡ a.quantity
+fills-volume a xs most = volume-at a.price (trades_of_first a.quantity xs) ∙ volume-first a.quantity xs most
+
+pub best-within : (b : Book) (a : Auction) → IsBestAuction b a → (a.quantity ≤ total b.bids.orders) × (a.quantity ≤ total b.asks.orders)
+best-within b a best =
+    let is = ap (λ (c : Auction). c.quantity) best.is in
+    (omega (arith, is, within-most b.bids.side a.price b.bids.orders), omega (arith, is, within-most b.asks.side a.price b.asks.orders))
