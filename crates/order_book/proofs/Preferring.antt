@@ -1,6 +1,6 @@
 -- Which of two auctions is better.
 use Rattle.std.specs.Prelude.{◌⊎◌}
-use Rattle.std.proofs.Common.{◌≡◌, ℕ, ◌×◌, ◌-◌, ◌≤◌, ◌<◌, min, max, refl, inl, inr, arith}
+use Rattle.std.proofs.Common.{◌≡◌, ℕ, ◌-◌, ◌≤◌, ◌<◌, min, max, refl, inl, inr, arith}
 use Rattle.order_book.specs.Queue.{Queue}
 use Rattle.order_book.specs.Auction.{auction_at, offered_at, IsNoBetter}
 use Rattle.order_book.specs.declared.auction.Auction.{Auction}
@@ -35,3 +35,16 @@ same-auction price n m k l quantities surpluses = rw (quantities, surpluses) ref
 -- it doesn't matter which side is the first
 pub auction-turned : (q r : Queue) (price : ℕ) → auction_at q r price ≡ auction_at r q price
 auction-turned q r price = same-auction price _ _ _ _ (omega arith) (omega arith)
+
+-- of two of which neither is better the price is the same
+pub same-price : (a b : Auction) → IsNoBetter a b → IsNoBetter b a → a.price ≡ b.price
+same-price a b (inl h) (inl k) = absurd (omega (arith, h, k))
+same-price a b (inl h) (inr k) = absurd (omega (arith, h, k.0))
+same-price a b (inr h) (inl k) = absurd (omega (arith, h.0, k))
+same-price a b (inr h) (inr k) = go h.1 k.1
+  where
+    go : (b.surplus < a.surplus) ⊎ ((b.surplus ≡ a.surplus) × (b.price ≤ a.price)) → (a.surplus < b.surplus) ⊎ ((a.surplus ≡ b.surplus) × (a.price ≤ b.price)) → a.price ≡ b.price
+    go (inl i) (inl j) = absurd (omega (arith, i, j))
+    go (inl i) (inr j) = absurd (omega (arith, i, j.0))
+    go (inr i) (inl j) = absurd (omega (arith, i.0, j))
+    go (inr i) (inr j) = omega (arith, i.1, j.1)

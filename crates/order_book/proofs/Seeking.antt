@@ -90,20 +90,32 @@ unmet-narrower Sell Buy p q r is worse unmet = grind (arith, nat_tests, worse, u
 unmet-narrower Buy Buy p q r is worse unmet = absurd (cc)
 unmet-narrower Sell Sell p q r is worse unmet = absurd (cc)
 
+-- a step of an iterator gives the worst level that is left
+pub left-next : (old new : List Level) (r : Option Level) → YieldsFirst (λ left. left) old r new → left_of r new ≡ old
+left-next old new None steps = sym steps.0
+left-next old new (Some l) steps = sym steps
+
 -- levels from the worst one on, of which those that don't meet a limit are passed by
 module _ (side : Side) (limit : ℕ) where
   all-met : (p : ℕ) (ls : List Level) → meets side p limit ≡ true → AllByRecursion (λ (m : Level). IsNoWorse side m.price p) ls → offers side limit ls ≡ quantity_of ls
   all-met p [] met better = refl
   all-met p (m ∷ ms) met better = rw (met-better side p m.price limit better.0 met) (omega (arith, all-met p ms met better.1))
 
+  pub left-stays : (l : Level) (ls : List Level) → meets side l.price limit ≡ true → left_within side limit (l ∷ ls) ≡ l ∷ ls
+  left-stays l ls met = rw met refl
+
+  pub left-passes : (l : Level) (ls : List Level) → meets side l.price limit ≡ false → left_within side limit (l ∷ ls) ≡ left_within side limit ls
+  left-passes l ls unmet = rw unmet refl
+
   -- all that are left meet it
   left-met : (ls : List Level) → AreWorstFirst side ls → offers side limit (left_within side limit ls) ≡ quantity_of (left_within side limit ls)
   left-met [] sorted = refl
-  left-met (l ∷ ls) sorted = go (meets side l.price limit) refl
+  left-met (l ∷ ls) sorted = go (left-met ls sorted.1) (meets side l.price limit) refl
     where
-      go : (b : Bool) → meets side l.price limit ≡ b → offers side limit (left_within side limit (l ∷ ls)) ≡ quantity_of (left_within side limit (l ∷ ls))
-      go true met = rw (met, met) (omega (arith, all-met l.price ls met sorted.0))
-      go false unmet = rw unmet (left-met ls sorted.1)
+      go : offers side limit (left_within side limit ls) ≡ quantity_of (left_within side limit ls) → (b : Bool) → meets side l.price limit ≡ b
+          → offers side limit (left_within side limit (l ∷ ls)) ≡ quantity_of (left_within side limit (l ∷ ls))
+      go rest true met = rw (left-stays l ls met, met) (omega (arith, all-met l.price ls met sorted.0))
+      go rest false unmet = rw (left-passes l ls unmet) rest
 
   left-sorted : (ls : List Level) → AreWorstFirst side ls → AreWorstFirst side (left_within side limit ls)
   left-sorted [] sorted = tt
@@ -116,11 +128,12 @@ module _ (side : Side) (limit : ℕ) where
   left-narrower : (narrower : ℕ) → ((p : ℕ) → meets side p limit ≡ false → meets side p narrower ≡ false) → (ls : List Level)
       → offers side narrower (left_within side limit ls) ≡ offers side narrower ls
   left-narrower narrower less [] = refl
-  left-narrower narrower less (l ∷ ls) = go (meets side l.price limit) refl
+  left-narrower narrower less (l ∷ ls) = go (left-narrower narrower less ls) (meets side l.price limit) refl
     where
-      go : (b : Bool) → meets side l.price limit ≡ b → offers side narrower (left_within side limit (l ∷ ls)) ≡ offers side narrower (l ∷ ls)
-      go true met = rw met refl
-      go false unmet = rw (unmet, less l.price unmet) (left-narrower narrower less ls)
+      go : offers side narrower (left_within side limit ls) ≡ offers side narrower ls → (b : Bool) → meets side l.price limit ≡ b
+          → offers side narrower (left_within side limit (l ∷ ls)) ≡ offers side narrower (l ∷ ls)
+      go rest true met = rw (left-stays l ls met) refl
+      go rest false unmet = rw (left-passes l ls unmet, less l.price unmet) (omega (arith, rest))
 
 -- levels of which each is worse than the one before
 abbrev pub Worsen : Side → List Level → Type 0
@@ -151,9 +164,9 @@ levels-worsen side (x ∷ xs) sorted = go (levels_of xs) (levels-no_worse side x
 -- what holds of the prices of all levels holds of those of all orders
 by-joined : (P : ℕ → Type 0) (x : Order) (ls : List Level) → AllByRecursion (λ (l : Level). P l.price) (joined x ls) → P x.price × AllByRecursion (λ (l : Level). P l.price) ls
 by-joined P x [] all = (all.0, tt)
-by-joined P x (l ∷ ls) = elim (eqb_tells l.price x.price) as (λ w. AllByRecursion (λ (m : Level). P m.price) (joined x (l ∷ ls)) → P x.price × AllByRecursion (λ (m : Level). P m.price) (l ∷ ls)) [
-  | inl h ↦ λ all. let here = rw h.0 at all in (here.0, (subst P (sym h.1) here.0, here.1))
-  | inr h ↦ λ all. let here = rw h.0 at all in (here.0, here.1)
+by-joined P x (l ∷ ls) all = elim (eqb_tells l.price x.price) [
+  | inl h ↦ let here = rw h.0 at all in (here.0, (subst P (sym h.1) here.0, here.1))
+  | inr h ↦ let here = rw h.0 at all in (here.0, here.1)
 ]
 
 by-levels : (P : ℕ → Type 0) (xs : List Order) → AllByRecursion (λ (l : Level). P l.price) (levels_of xs) → AllByRecursion (λ (x : Order). P x.price) xs
@@ -209,7 +222,7 @@ module _ (own other : Queue) where
     seeking-start known = record {
       worsen = levels-worsen own.side own.orders own_sound.in_order;
       coming = all-weaker (λ (m : Level). 0 < total (orders_at m.price own.orders)) (IsComing 0 (levels_of own.orders) all_left) (λ m there. record {
-        own_sum = offers-within own.side m.price own.orders;
+        own_sum = omega (arith, offers-within own.side m.price own.orders);
         other_sum = offers-turned other.side m.price (levels_of other.orders) ∙ offers-within other.side m.price other.orders;
         there = there;
       }) (levels_of own.orders) (levels-there own.orders own_sound.some_left);

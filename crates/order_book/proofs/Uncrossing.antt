@@ -1,17 +1,19 @@
 -- After an auction at the best price no bid is at or above an ask: else more would have traded at the price of one of the two.
-use Rattle.std.proofs.Common.{◌≡◌, ◌×◌, ⊥, ℕ, ◌+◌, ◌-◌, ◌≤◌, ◌<◌, min, map, true, false, List, [], ◌∷◌, refl, sym, ap, subst, ◌∙◌, inl, inr, arith, if◌then◌else◌}
+use Rattle.std.proofs.Common.{◌≡◌, ℕ, ◌+◌, ◌-◌, ◌≤◌, ◌<◌, min, map, true, false, Ok, List, [], ◌∷◌, ◌++◌, append_assoc, refl, sym, ap, subst, ◌∙◌, inl, inr, arith, if◌then◌else◌}
 use Rattle.std.specs.Prelude.{◌⊎◌}
-use Rattle.std.proofs.{lemmas.Bool.Decides.leb_tells, lemmas.Bool.Decides.nat_tests, lemmas.Bool.lt-ltb, lemmas.Bool.le-ltb}
+use Rattle.std.proofs.{lemmas.Bool.Decides.eqb_tells, lemmas.Bool.Decides.leb_tells, lemmas.Bool.Decides.nat_tests, lemmas.Bool.lt-ltb, lemmas.Bool.le-ltb}
 use Rattle.std.specs.List.{AllByRecursion}
 use Rattle.sorted_arena.proofs.CallerLemmas.{all-both}
 use Rattle.sorted_arena.proofs.OrdLemmas.{recursion-map as all-weaker}
-use Rattle.order_book.specs.Queue.{Queue, IsNoWorse, IsInOrder, IsSound, meets, within, behind, total, orders_at, volume, trades_of_first}
+use Rattle.order_book.specs.Queue.{Queue, IsNoWorse, IsInOrder, meets, within, behind, taken, total, orders_at, volume, trades_of_first}
 use Rattle.order_book.specs.Book.{Book, IsBook, IsUncrossed}
-use Rattle.order_book.specs.Auction.{auction_at, offered_at, at_price, fills, IsNoBetter, NoneIsBetter, IsBestAuction}
+use Rattle.order_book.specs.Auction.{auction_at, offered_at, at_price, fills, IsNoBetter, NoneIsBetter, IsBestAuction, Auctions, BestAuctionLaw}
 use Rattle.order_book.specs.AuctionSteps.{IsOfOrder}
+use Rattle.order_book.specs.Names.{IsStep}
 use Rattle.order_book.specs.{declared.side.Side.TheVariants.Buy, declared.side.Side.TheVariants.Sell, declared.side.Side.Side, declared.order.Order.Order, declared.order.Trade.Trade, declared.auction.Auction.Auction}
 use Rattle.order_book.proofs.{Apart.AreApart, Apart.all-behind, Taking.behind-none, Levels.within-most, Volumes.volume-first}
-use Rattle.order_book.proofs.Preferring.{no_better-then, no_better-most, auction-turned}
+use Rattle.order_book.proofs.Preferring.{no_better-then, no_better-most, auction-turned, same-price}
+use Rattle.order_book.proofs.Names.{goes-other, step-of}
 
 met-no_worse : (side : Side) (p q : ℕ) → IsNoWorse side p q → meets side p q ≡ true
 met-no_worse Buy p q no_worse = grind (arith, nat_tests, no_worse)
@@ -57,6 +59,11 @@ module _ (bids asks : List Order) (n : ℕ) (buys : IsInOrder Buy bids) (sells :
         | inr h ↦ h.1
       ]
 
+-- an auction of a book at the price of one of its orders
+record IsOf (b : Book) (a : Auction) : Type 0 where
+  pub is : a ≡ auction_at b.bids b.asks a.price
+  pub of_order : 0 < total (orders_at a.price b.bids.orders) + total (orders_at a.price b.asks.orders)
+
 module _ (b : Book) (lawful : IsBook b) where
   buys : IsInOrder Buy b.bids.orders
   buys = subst (λ s. IsInOrder s b.bids.orders) lawful.buys lawful.bids.in_order
@@ -94,10 +101,6 @@ module _ (b : Book) (lawful : IsBook b) where
         (λ x h. subst (λ c. IsNoBetter c a) (auction-turned b.asks b.bids x.price) h) b.asks.orders asks_best;
   }
     where
-      record IsOf (a : Auction) : Type 0 where
-        is : a ≡ auction_at b.bids b.asks a.price
-        of_order : 0 < total (orders_at a.price b.bids.orders) + total (orders_at a.price b.asks.orders)
-
       bids : NoneIsBetter b.bids b.asks a b.bids.orders
       bids = all-weaker (λ (x : Order). IsNoBetter (auction_at b.bids b.asks x.price) first) (λ (x : Order). IsNoBetter (auction_at b.bids b.asks x.price) a)
           (λ x h. no_better-then (auction_at b.bids b.asks x.price) first a h better) b.bids.orders bids_best
@@ -108,13 +111,32 @@ module _ (b : Book) (lawful : IsBook b) where
         | inr h ↦ h.1
       ]
 
-      of_first : a ≡ first → (first ≡ none) ⊎ IsOfOrder b.bids b.asks first → IsOf a
+      of_first : a ≡ first → (first ≡ none) ⊎ IsOfOrder b.bids b.asks first → IsOf b a
       of_first same (inl nothing) = absurd (omega (arith, some, ap (λ (c : Auction). c.quantity) same, ap (λ (c : Auction). c.quantity) nothing, empty))
-      of_first same (inr found) = subst (λ c. IsOf c) (sym same) (record { is = found.is; of_order = omega (arith, found.of_order) })
+      of_first same (inr found) = subst (λ c. IsOf b c) (sym same) (record { is = found.is; of_order = omega (arith, found.of_order) })
 
-      go : (a ≡ first) ⊎ IsOfOrder b.asks b.bids a → IsOf a
+      go : (a ≡ first) ⊎ IsOfOrder b.asks b.bids a → IsOf b a
       go (inl same) = of_first same bids_found
       go (inr found) = record { is = found.is ∙ auction-turned b.asks b.bids a.price; of_order = omega (arith, found.of_order) }
+
+-- what holds at the prices of orders holds at a price at which something rests
+at-price : (P : ℕ → Type 0) (p : ℕ) (xs : List Order) → AllByRecursion (λ (x : Order). P x.price) xs → 0 < total (orders_at p xs) → P p
+at-price P p [] all some = absurd (omega (arith, some))
+at-price P p (x ∷ xs) all some = elim (eqb_tells x.price p) [
+  | inl h ↦ subst P h.1 all.0
+  | inr h ↦ at-price P p xs all.1 (rw h.0 at some)
+]
+
+-- so of two best auctions neither is better, and they are the same
+best-no_better : (b : Book) (a c : Auction) → IsBestAuction b a → IsBestAuction b c → IsNoBetter a c
+best-no_better b a c first second = subst (λ (d : Auction). IsNoBetter d c) (sym first.is) (elim (leb_tells (total (orders_at a.price b.bids.orders)) 0) [
+  | inl none ↦ at-price (λ p. IsNoBetter (auction_at b.bids b.asks p) c) a.price b.asks.orders second.asks (omega (arith, first.of_order, none.1))
+  | inr some ↦ at-price (λ p. IsNoBetter (auction_at b.bids b.asks p) c) a.price b.bids.orders second.bids some.1
+])
+
+pub best-same : BestAuctionLaw
+best-same b a c first second =
+    first.is ∙ ap (auction_at b.bids b.asks) (same-price a c (best-no_better b a c first second) (best-no_better b c a second first)) ∙ sym second.is
 
 -- the trades of an auction come to what it comes to
 volume-at : (price : ℕ) (ts : List Trade) → volume (map (at_price price) ts) ≡ volume ts
@@ -128,3 +150,34 @@ pub best-within : (b : Book) (a : Auction) → IsBestAuction b a → (a.quantity
 best-within b a best =
     let is = ap (λ (c : Auction). c.quantity) best.is in
     (omega (arith, is, within-most b.bids.side a.price b.bids.orders), omega (arith, is, within-most b.asks.side a.price b.asks.orders))
+
+-- both sides of a book trade in its auction
+module _ (bids asks bids_now asks_now : Queue) (old : Book) (is : record { bids = bids; asks = asks } ≡ old) (a : Auction) (best : IsBestAuction old a)
+    (bids_after : bids_now ≡ taken a.quantity bids) (asks_after : asks_now ≡ taken a.quantity asks) where
+  best-here : IsBestAuction (record { bids = bids; asks = asks }) a
+  best-here = subst (λ (b : Book). IsBestAuction b a) (sym is) best
+
+  pub auctioned : (before bought sold : List Trade) → bought ≡ before ++ fills a bids.orders → sold ≡ bought ++ fills a asks.orders
+      → Auctions old before a (record { bids = bids_now; asks = asks_now }) sold
+  auctioned before bought sold first second =
+      let most = best-within (record { bids = bids; asks = asks }) a best-here in
+      subst (λ (b : Book). Auctions b before a (record { bids = bids_now; asks = asks_now }) sold) is (record {
+        best = best-here;
+        trades = second ∙ ap (λ ts. ts ++ fills a asks.orders) first ∙ append_assoc before (fills a bids.orders) (fills a asks.orders);
+        bought = fills-volume a bids.orders most.0;
+        sold = fills-volume a asks.orders most.1;
+        bids = bids_after;
+        asks = asks_after;
+      })
+
+  pub uncrossed-auctioned : IsBook old → IsUncrossed (record { bids = bids_now; asks = asks_now })
+  uncrossed-auctioned lawful = subst (λ (q : Queue). IsUncrossed (record { bids = q; asks = asks_now })) (sym bids_after)
+      (subst (λ (q : Queue). IsUncrossed (record { bids = taken a.quantity bids; asks = q })) (sym asks_after)
+      (subst (λ (b : Book). AreApart (behind a.quantity b.bids.orders) (behind a.quantity b.asks.orders)) (sym is) (uncrossed-behind old lawful a best.bids)))
+
+  pub step-auctioned : IsBook old → IsStep old (record { bids = bids_now; asks = asks_now })
+  step-auctioned lawful =
+      let here : IsBook (record { bids = bids; asks = asks }) = subst (λ (b : Book). IsBook b) (sym is) lawful in
+      step-of bids asks bids_now asks_now old (record { bids = bids_now; asks = asks_now }) is refl
+      (λ counted. goes-other {X = Unit {0}} {E = Unit {0}} (Ok tt) bids bids_now tt a.quantity here.bids.summable.few bids_after counted)
+      (λ counted. goes-other {X = Unit {0}} {E = Unit {0}} (Ok tt) asks asks_now tt a.quantity here.asks.summable.few asks_after counted)

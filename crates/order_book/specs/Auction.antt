@@ -35,6 +35,10 @@ pub record IsBestAuction (b : Book) (a : Auction) : Type 0 where
   pub bids : NoneIsBetter b.bids b.asks a b.bids.orders
   pub asks : NoneIsBetter b.bids b.asks a b.asks.orders
 
+-- There is only one of a book.
+abbrev pub BestAuctionLaw : Type 0
+BestAuctionLaw = (b : Book) (a c : Auction) → IsBestAuction b a → IsBestAuction b c → a ≡ c
+
 -- the trades of an auction with the orders of a side: with the first ones, which have the best price and are at equal prices the oldest,
 -- as much of them as trades, all at the auction's price
 abbrev pub at_price : ℕ → Trade → Trade

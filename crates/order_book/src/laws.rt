@@ -1,6 +1,7 @@
 //! Laws of order books. The function here does nothing, and its contract is the law: a fact about every run of calls.
 
 ghost use Rattle.order_book.specs.Names.{EndedNameLaw};
+ghost use Rattle.order_book.specs.Auction.{BestAuctionLaw};
 
 /// The name of an order that has ended names no order again, however many calls follow, until the generations of its side overflow.
 ///
@@ -9,4 +10,9 @@ ghost use Rattle.order_book.specs.Names.{EndedNameLaw};
 /// changes a book has a clause `step`, to which the law applies.
 pub fn ended_name_law()
     ensures { EndedNameLaw }
+{}
+
+/// A book has at most one auction: what [`auction`](crate::OrderBook::auction) returns, [`uncross`](crate::OrderBook::uncross) trades.
+pub fn best_auction_law()
+    ensures { BestAuctionLaw }
 {}

@@ -1,0 +1,5 @@
+use Rattle.order_book.proofs.Uncrossing.{best-same}
+use Rattle.order_book.proofs.laws.best_auction_law.Goals as goal
+
+pub returns : goal.returns
+returns c = best-same
