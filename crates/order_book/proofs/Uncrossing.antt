@@ -33,8 +33,11 @@ more-offered side n (x ∷ xs) sorted some = elim (leb_tells x.quantity n) [
       (behind (n - x.quantity) xs) (more-offered side (n - x.quantity) xs sorted.1 some.1) (all-behind (λ p. IsNoWorse side x.price p) (n - x.quantity) xs sorted.0))
   | inr part ↦
       let first : n < within side x.price (x ∷ xs) = rw (met-same side x.price) (omega (arith, part.1)) in
-      rw (lt-ltb n x.quantity part.1) (first, all-weaker (λ (y : Order). IsNoWorse side x.price y.price) (λ (y : Order). n < within side y.price (x ∷ xs))
-      (λ y no_worse. rw (met-no_worse side x.price y.price no_worse) (omega (arith, part.1))) xs sorted.0)
+      rw (lt-ltb n x.quantity part.1) (
+        first,
+        all-weaker (λ (y : Order). IsNoWorse side x.price y.price) (λ (y : Order). n < within side y.price (x ∷ xs))
+            (λ y no_worse. rw (met-no_worse side x.price y.price no_worse) (omega (arith, part.1))) xs sorted.0,
+      )
 ]
 
 -- asks offer no less at a higher price

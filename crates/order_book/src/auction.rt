@@ -33,8 +33,11 @@ impl Auction {
 
     // The one at a price at which the two sides offer so much.
     fn new(price: u64, offered: u128, against: u128) -> Self
-        ensures { result ≡ record { price = price; quantity = min offered against;
-            surplus = max offered against - min offered against } }
+        ensures { result ≡ record {
+          price = price;
+          quantity = min offered against;
+          surplus = max offered against - min offered against;
+        } }
     {
         let quantity = offered.min(against);
         Auction {

@@ -53,6 +53,8 @@ pub struct Ladder<A: Allocator = Global> {
     pub orders: ChainArena<P0, Resting, A>,
     /// The levels by rank.
     pub levels: SortedArena<u64, Totals, P0, A>,
+    /// The level that an order joined last. Whether the next one joins it too is asked first.
+    pub recent: Option<P0>,
 }
 
 impl<A: Allocator> Ladder<A> {
@@ -67,6 +69,7 @@ impl<A: Allocator> Ladder<A> {
         Ladder {
             orders: ChainArena::new(alloc),
             levels: SortedArena::new(alloc),
+            recent: None,
         }
     }
 

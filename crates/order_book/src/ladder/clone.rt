@@ -24,7 +24,11 @@ impl<A: Allocator + Copy> Ladder<A> {
         let _orders = orders.len();
         let mut levels = self.levels.clone()?;
         match levels.reserve(orders.capacity() - levels.len()) {
-            Ok(()) => Ok(Ladder { orders, levels }),
+            Ok(()) => Ok(Ladder {
+                orders,
+                levels,
+                recent: None,
+            }),
             Err(_) => Err(AllocError),
         }
     }

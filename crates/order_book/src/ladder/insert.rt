@@ -1,6 +1,6 @@
 //! Orders that come to rest.
 
-ghost use Rattle.std.specs.Prelude.{◌≡◌, ◌↔◌, ◌<◌, Some, Err, IfOk, OnOk, OnErr, length, nat_lt, if◌then◌else◌};
+ghost use Rattle.std.specs.Prelude.{◌≡◌, ◌↔◌, ◌<◌, Some, Err, IfOk, IfSome, OnOk, OnErr, length, nat_lt, if◌then◌else◌};
 ghost use Rattle.std.specs.Option.{option_map};
 ghost use Rattle.sorted_arena.specs.PlainArena.{doubled_capacity};
 ghost use Rattle.sorted_arena.specs.Sorted.{get};
@@ -51,15 +51,29 @@ impl<A: Allocator> Ladder<A> {
     {
         // For the prover: what holds of the levels.
         let _ = self.levels.len();
+        if let Some(level) = self.recent_of(rank) {
+            return self.join_level(level, rank, lot);
+        }
         let Some(level) = self.level_until(rank) else {
             return self.begin_level(None, rank, lot);
         };
         let (key, totals) = self.levels.get(level).unwrap();
         if *key == rank {
+            self.recent = Some(level);
             return self.join_level(level, rank, lot);
         }
         let last = totals.last;
         self.begin_level(Some(last), rank, lot)
+    }
+
+    // The level of a rank, if it is the one that was found last.
+    fn recent_of(&self, rank: u64) -> Option<P0>
+        ensures { IfSome result
+            (λ level. option_map (λ l. l.0) (get self.now.levels level) ≡ Some rank) }
+    {
+        let level = self.recent?;
+        let (key, _) = self.levels.get(level)?;
+        if *key == rank { Some(level) } else { None }
     }
 
     // Puts an order behind the last one of its level.
