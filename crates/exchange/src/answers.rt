@@ -5,10 +5,11 @@ use crate::chart::write_chart;
 use crate::command::{Command, Fault, Question};
 use crate::exchange::Exchange;
 use crate::values::{
-    cancelled_value, executed_value, left_value, order_value, totals_value, value_of,
+    cancelled_value, executed_value, left_value, order_value, totals_value, uncrossed_value,
+    value_of,
 };
 use line_service::{Style, complaint, write_json};
-use order_book::{Level, Order, OrderKind, Side};
+use order_book::{Auction, Level, Order, OrderKind, Side};
 use std::alloc::Global;
 use std::io;
 use std::io::Write;
@@ -36,15 +37,26 @@ impl Figures {
     // Counts the trades of an incoming order.
     fn count(&mut self, exchange: &Exchange) {
         for trade in &exchange.trades {
-            self.traded = match self.traded {
-                Some(traded) => traded.checked_add(u128::from(trade.quantity)),
-                None => None,
-            };
+            self.count_units(u128::from(trade.quantity));
         }
+    }
+
+    // Counts what an auction traded: each unit once, though there is a trade of each side.
+    fn count_auction(&mut self, auction: Option<Auction>) {
+        if let Some(auction) = auction {
+            self.count_units(auction.quantity);
+        }
+    }
+
+    fn count_units(&mut self, quantity: u128) {
+        self.traded = match self.traded {
+            Some(traded) => traded.checked_add(quantity),
+            None => None,
+        };
     }
 }
 
-/// Writes the trades of an incoming order.
+/// Writes the trades of an incoming order or an auction.
 fn write_trades<W: Write>(writer: &mut W, exchange: &Exchange) -> io::Result<()> {
     for trade in &exchange.trades {
         let (price, quantity, number) = (trade.price, trade.quantity, trade.tag);
@@ -121,6 +133,17 @@ fn write_best<W: Write>(writer: &mut W, word: &str, best: Option<Order>) -> io::
     }
 }
 
+/// Writes what an auction comes to.
+fn write_auction<W: Write>(writer: &mut W, auction: Option<Auction>) -> io::Result<()> {
+    match auction {
+        Some(auction) => {
+            let (price, quantity, surplus) = (auction.price, auction.quantity, auction.surplus);
+            writeln!(writer, "auction {quantity} at {price}, surplus {surplus}")
+        }
+        None => writeln!(writer, "no auction"),
+    }
+}
+
 /// Writes the first levels of both sides, or that there is none.
 fn write_depths<W: Write>(writer: &mut W, exchange: &Exchange, levels: usize) -> io::Result<()> {
     if !exchange.has_levels(levels) {
@@ -161,6 +184,25 @@ fn write_order<W: Write>(
     }
     write_trades(writer, exchange)?;
     write_rest(writer, exchange, rests, quantity)
+}
+
+/// Trades as an auction does, and writes its trades and what it came to.
+fn uncross<W: Write>(
+    alloc: Global,
+    writer: &mut W,
+    style: Style,
+    exchange: &mut Exchange,
+    figures: &mut Figures,
+) -> Result<(), Fault> {
+    let auction = exchange.uncross()?;
+    figures.count_auction(auction);
+    if style.is_json {
+        write_json(alloc, writer, &uncrossed_value(alloc, exchange, auction)?)?;
+    } else {
+        write_trades(writer, exchange)?;
+        write_auction(writer, auction)?;
+    }
+    Ok(())
 }
 
 /// Changes a resting order, and writes what became of it.
@@ -225,6 +267,7 @@ fn tell<W: Write>(
         Question::Top(side) => write_top(writer, side, exchange.book.top(side))?,
         Question::Depth(levels) => write_depths(writer, exchange, levels)?,
         Question::Chart(levels) => write_chart(alloc, writer, exchange, levels)?,
+        Question::Auction => write_auction(writer, exchange.book.auction())?,
         Question::Help => writer.write_all(COMMANDS.as_bytes())?,
     }
     Ok(())
@@ -249,6 +292,7 @@ pub fn obey<W: Write>(
             let rests = exchange.add(side, price, quantity, tag)?;
             write_order(alloc, writer, style, exchange, rests, quantity)?;
         }
+        Command::Uncross => uncross(alloc, writer, style, exchange, figures)?,
         Command::Ask(question) if style.is_json => {
             let value = value_of(alloc, exchange, question)?;
             write_json(alloc, writer, &value)?;

@@ -18,6 +18,8 @@ pub enum Command {
     Execute(u64, u64),
     Reduce(u64, u64),
     Replace(u64, u64, u64),
+    /// All that can trade at one price does.
+    Uncross,
     Ask(Question),
 }
 
@@ -28,6 +30,7 @@ pub enum Question {
     Top(Side),
     Depth(usize),
     Chart(usize),
+    Auction,
     Help,
 }
 
@@ -99,6 +102,7 @@ fn read_other(name: &str, words: &mut SplitAsciiWhitespace) -> Result<Command, M
         "execute" => execute(words),
         "reduce" => reduce(words),
         "replace" => replace(words),
+        "uncross" => Ok(Command::Uncross),
         _ => Ok(Command::Ask(read_question(name, words)?)),
     }
 }
@@ -110,6 +114,7 @@ fn read_question(name: &str, words: &mut SplitAsciiWhitespace) -> Result<Questio
         "top" => Ok(Question::Top(side(words.next())?)),
         "depth" => Ok(Question::Depth(levels(words)?)),
         "chart" => Ok(Question::Chart(levels(words)?)),
+        "auction" => Ok(Question::Auction),
         "help" => Ok(Question::Help),
         _ => Err(Misread::UnknownCommand),
     }

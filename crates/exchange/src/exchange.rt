@@ -1,7 +1,7 @@
 //! `Exchange`: a book whose orders are numbered.
 
 use crate::command::Fault;
-use order_book::{NewOrder, OrderBook, OrderId, OrderKind, Side, Trade};
+use order_book::{Auction, NewOrder, OrderBook, OrderId, OrderKind, Side, Trade};
 use std::alloc::{AllocError, Global};
 use std::collections::HashMap;
 
@@ -16,11 +16,11 @@ struct Entry {
 
 /// A book whose orders are numbered as they come to rest, from 1 on. An order that is replaced keeps its number.
 ///
-/// On the book an order's tag is its number. The number of an order that was filled is forgotten when the next order comes in.
+/// On the book an order's tag is its number. The number of an order that was filled is forgotten when the next order or auction comes.
 #[derive(Drop)]
 pub struct Exchange {
     pub book: OrderBook,
-    /// The trades of the last incoming order; each has the number of the resting order as its tag.
+    /// The trades of the last incoming order or auction; each has the number of the resting order as its tag.
     pub trades: Vec<Trade>,
     // The resting orders by number.
     entries: HashMap<u64, Entry>,
@@ -100,7 +100,7 @@ impl Exchange {
     /// Executes this much of the order of this number, at most all of it; the trade is then the only one. Returns what is left of the order.
     pub fn execute(&mut self, number: u64, quantity: u64) -> Result<u64, Fault> {
         let entry = self.entry(number)?;
-        self.make_ready()?;
+        self.forget_filled();
         self.trades.reserve(1)?;
         let trade = self
             .book
@@ -120,7 +120,13 @@ impl Exchange {
         Ok(left)
     }
 
-    /// Returns the owner's tag of the order of this number, which rests or was filled by the last order: 0 if there is none.
+    /// Trades all that can trade at one price, as an auction does. Returns what it came to: `None` if nothing can trade.
+    pub fn uncross(&mut self) -> Result<Option<Auction>, AllocError> {
+        self.forget_filled();
+        self.book.uncross(&mut self.trades)
+    }
+
+    /// Returns the owner's tag of the order of this number, which rests or was filled by the last order or auction: 0 if there is none.
     pub fn tag(&self, number: u64) -> u64 {
         self.entries.get(&number).map_or(0, |entry| entry.tag)
     }
@@ -148,13 +154,18 @@ impl Exchange {
 
     // Forgets the orders that the last one filled, and makes room for another number.
     fn make_ready(&mut self) -> Result<(), AllocError> {
+        self.forget_filled();
+        self.entries.reserve(1)
+    }
+
+    // Forgets the orders that the last order or auction filled, and its trades.
+    fn forget_filled(&mut self) {
         for trade in &self.trades {
             if self.book.get(trade.order).is_none() {
                 let _ = self.entries.remove(&trade.tag);
             }
         }
         self.trades.clear();
-        self.entries.reserve(1)
     }
 
     // Enters an order that has come to rest. There is room for it.

@@ -37,10 +37,12 @@ const COMMANDS: &str = "  buy PRICE QUANTITY [TAG]            trades, and what r
   execute ORDER QUANTITY              trades so much of it, at its price
   reduce ORDER QUANTITY               takes so much off; the order keeps its place
   cancel ORDER
+  uncross                             trades all that can trade at one price
   best                                the best bid and ask
   top buy|sell                        the best price of a side: quantity and orders
   depth [LEVELS]                      price, quantity and orders of each level
   chart [LEVELS]                      price and quantity of each level, as bars
+  auction                             what uncross would come to: quantity, price, surplus
   help                                these commands
 Numbers are decimal digits, at most 18446744073709551615.
 ";

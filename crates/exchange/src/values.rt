@@ -4,7 +4,7 @@ use crate::COMMANDS;
 use crate::answers::{Figures, left_of};
 use crate::command::Question;
 use crate::exchange::Exchange;
-use order_book::{Level, Order, Side};
+use order_book::{Auction, Level, Order, Side};
 use serde_json::{Number, Value, json};
 use std::alloc::Global;
 use std::io;
@@ -17,7 +17,7 @@ fn quantity_value(alloc: Global, quantity: u128) -> io::Result<Value> {
     }
 }
 
-// Returns the trades of an incoming order.
+// Returns the trades of an incoming order or an auction.
 fn trades_value(alloc: Global, exchange: &Exchange) -> io::Result<Value> {
     let mut trades = Vec::new(alloc);
     for trade in &exchange.trades {
@@ -60,6 +60,31 @@ pub fn order_value(
 pub fn executed_value(alloc: Global, exchange: &Exchange, left: u64) -> io::Result<Value> {
     let trades = trades_value(alloc, exchange)?;
     Ok(json!(in alloc; {"trades": trades, "left": left})?)
+}
+
+// Returns what an auction comes to.
+fn auction_value(alloc: Global, auction: Option<Auction>) -> io::Result<Value> {
+    let Some(auction) = auction else {
+        return Ok(Value::Null);
+    };
+    let quantity = quantity_value(alloc, auction.quantity)?;
+    let surplus = quantity_value(alloc, auction.surplus)?;
+    Ok(json!(in alloc; {"quantity": quantity, "price": auction.price, "surplus": surplus})?)
+}
+
+/// Returns an auction: its trades, and what it came to.
+///
+/// # Errors
+///
+/// An allocation failed.
+pub fn uncrossed_value(
+    alloc: Global,
+    exchange: &Exchange,
+    auction: Option<Auction>,
+) -> io::Result<Value> {
+    let trades = trades_value(alloc, exchange)?;
+    let auction = auction_value(alloc, auction)?;
+    Ok(json!(in alloc; {"trades": trades, "auction": auction})?)
 }
 
 /// Returns what is left of a reduced order.
@@ -141,6 +166,10 @@ pub fn value_of(alloc: Global, exchange: &Exchange, question: Question) -> io::R
             Ok(json!(in alloc; {"top": top})?)
         }
         Question::Depth(levels) | Question::Chart(levels) => depth_value(alloc, exchange, levels),
+        Question::Auction => {
+            let auction = auction_value(alloc, exchange.book.auction())?;
+            Ok(json!(in alloc; {"auction": auction})?)
+        }
         Question::Help => Ok(json!(in alloc; {"help": COMMANDS})?),
     }
 }
