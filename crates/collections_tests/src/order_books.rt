@@ -1,6 +1,9 @@
-//! Order books: a trading day, every sequence of a few orders, and of a few reports of a feed; refused memory, and the texts of errors.
+//! Order books: a trading day, every sequence of a few orders, and of a few reports of a feed; auctions, refused memory, and the texts
+//! of errors.
+mod auctions;
 mod day;
 mod error;
 mod feed;
+mod lists;
 mod refused;
 mod sequences;

@@ -1,4 +1,6 @@
-//! A use of `order_book`, as a caller writes it: with the clauses that its user wants, proved from the contract alone.
+//! Uses of `order_book`, as a caller writes them: with the clauses that their users want, proved from the contracts alone.
 #![tactic(auto)]
 
 pub mod desk;
+pub mod feed;
+pub mod opening;

@@ -188,6 +188,41 @@ fn add_in(rt: &impl Abort, book: &mut OrderBook) -> Result<(), Fail> {
 }
 
 #[test]
+fn auction(rt: HostRuntime) -> Result<(), Fail> {
+    auction_in(&rt, &mut OrderBook::new(rt.alloc()))
+}
+
+fn auction_in(rt: &impl Abort, book: &mut OrderBook) -> Result<(), Fail> {
+    book.add(Side::Buy, 102, 10, 7)?;
+    book.add(Side::Sell, 101, 4, 8)?;
+    let auction = book.auction();
+    assert_eq!(rt;
+        auction.map(|auction| (auction.price, auction.quantity, auction.surplus)),
+        Some((101, 4, 6))
+    );
+    Ok(())
+}
+
+#[test]
+fn uncross(rt: HostRuntime) -> Result<(), Fail> {
+    uncross_in(&rt, &mut OrderBook::new(rt.alloc()))
+}
+
+fn uncross_in(rt: &(impl Abort + AllocGlobal), book: &mut OrderBook) -> Result<(), Fail> {
+    let mut trades = Vec::new(rt.alloc());
+    book.add(Side::Buy, 102, 10, 7)?;
+    book.add(Side::Sell, 101, 4, 8)?;
+    let auction = book.uncross(&mut trades)?;
+    assert_eq!(rt;
+        auction.map(|auction| (auction.price, auction.quantity)),
+        Some((101, 4))
+    );
+    assert_eq!(rt; trades.len(), 2);
+    assert_eq!(rt; book.best_bid().map(|bid| bid.quantity), Some(6));
+    Ok(())
+}
+
+#[test]
 fn try_clone(rt: HostRuntime) -> Result<(), Fail> {
     try_clone_in(&rt, &mut OrderBook::new(rt.alloc()))
 }

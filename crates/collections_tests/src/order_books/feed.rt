@@ -1,56 +1,10 @@
 //! Every sequence of four reports of a feed, compared with a plain list: additions, executions and mass cancels, each beside a clone.
+use super::lists::{self, Lists, insert};
 use order_book::{Order, OrderBook, OrderId, Side, Trade};
 use std::alloc::Global;
 
 /// The prices at which orders rest.
 const PRICES: [u64; 3] = [9, 10, 11];
-
-/// Returns the place in the list of an order at a price that was added later than every other one at that price, and so trades last.
-fn end_of(list: &[Order], side: Side, price: u64) -> usize {
-    let mut at = 0usize;
-    for order in list {
-        let is_ahead = match side {
-            Side::Buy => order.price >= price,
-            Side::Sell => order.price <= price,
-        };
-        if is_ahead {
-            at = at.wrapping_add(1);
-        }
-    }
-    at
-}
-
-/// The orders of both sides, each in the order in which they trade.
-#[derive(Drop)]
-struct Lists {
-    bids: Vec<Order>,
-    asks: Vec<Order>,
-}
-
-impl Lists {
-    /// Returns lists without orders.
-    fn new(alloc: Global) -> Lists {
-        Lists {
-            bids: Vec::new(alloc),
-            asks: Vec::new(alloc),
-        }
-    }
-
-    /// Returns the orders of a side.
-    fn side(&self, side: Side) -> &Vec<Order> {
-        match side {
-            Side::Buy => &self.bids,
-            Side::Sell => &self.asks,
-        }
-    }
-
-    fn side_mut(&mut self, side: Side) -> &mut Vec<Order> {
-        match side {
-            Side::Buy => &mut self.bids,
-            Side::Sell => &mut self.asks,
-        }
-    }
-}
 
 /// Returns an order of three units at a price, whose tag is the price.
 fn order_at(id: OrderId, price: u64) -> Order {
@@ -60,12 +14,6 @@ fn order_at(id: OrderId, price: u64) -> Order {
         quantity: 3,
         tag: price,
     }
-}
-
-/// Puts an order into the list. Returns whether there is memory.
-fn insert(orders: &mut Vec<Order>, side: Side, order: Order) -> bool {
-    let at = end_of(orders, side, order.price);
-    at <= orders.len() && orders.insert(at, order).is_ok()
 }
 
 /// Adds an order to the book and to the list. Returns whether it rests.
@@ -135,66 +83,9 @@ fn cancel_small(book: &mut OrderBook, lists: &mut Lists, side: Side) -> bool {
     cancelled == count.wrapping_sub(left) && calls == count
 }
 
-/// Returns whether the book shows the same orders at a price, and from it on, as the list.
-fn is_alike_at(book: &OrderBook, lists: &Lists, side: Side, price: u64) -> bool {
-    let (mut quantity, mut count) = (0u64, 0usize);
-    let mut from = book.iter_from(side, price);
-    for order in lists.side(side) {
-        let is_behind = match side {
-            Side::Buy => order.price <= price,
-            Side::Sell => order.price >= price,
-        };
-        if is_behind && from.next() != Some(*order) {
-            return false;
-        }
-        if order.price == price {
-            quantity = quantity.wrapping_add(order.quantity);
-            count = count.wrapping_add(1);
-        }
-    }
-    let level = book.level_at(side, price);
-    from.next().is_none()
-        && book.volume_at(side, price) == u128::from(quantity)
-        && level.map_or(0, |level| level.count) == count
-        && level.map_or(0, |level| level.quantity) == u128::from(quantity)
-}
-
-/// Returns whether the book and the list have the same orders on a side, and the same best level.
-fn is_alike_on(book: &OrderBook, lists: &Lists, side: Side) -> bool {
-    let mut orders = book.iter(side);
-    for order in lists.side(side) {
-        if orders.next() != Some(*order) {
-            return false;
-        }
-    }
-    let best = lists.side(side).first().map(|order| order.price);
-    orders.next().is_none() && book.top(side) == best.and_then(|price| book.level_at(side, price))
-}
-
-/// Returns whether a bid of the list is at or above an ask.
-fn is_crossed(lists: &Lists) -> bool {
-    for bid in &lists.bids {
-        for ask in &lists.asks {
-            if bid.price >= ask.price {
-                return true;
-            }
-        }
-    }
-    false
-}
-
 /// Returns whether the book and the list have the same orders.
 fn are_alike(book: &OrderBook, lists: &Lists) -> bool {
-    for price in PRICES {
-        if !is_alike_at(book, lists, Side::Buy, price)
-            || !is_alike_at(book, lists, Side::Sell, price)
-        {
-            return false;
-        }
-    }
-    is_alike_on(book, lists, Side::Buy)
-        && is_alike_on(book, lists, Side::Sell)
-        && book.is_crossed() == is_crossed(lists)
+    lists::are_alike(book, lists, &PRICES)
 }
 
 /// Does what one digit says. Returns whether the book and the list agree on it.
