@@ -1,10 +1,11 @@
 //! Measures an ordered arena beside std's `BTreeMap` and plain vectors, and its searches from a hint beside whole ones; and a sorted
 //! arena beside `BTreeMap`; an agenda beside std's `BinaryHeap` and `BTreeMap`; a timeline beside a `BTreeMap` of its changes; and an order
-//! book beside two `BTreeMap`s.
+//! book beside two `BTreeMap`s, or alone, for a comparison with a book in C++.
 #![tactic(auto)]
 
 mod arena;
 mod axes;
+mod book;
 mod curves;
 mod hints;
 mod keys;
@@ -54,6 +55,14 @@ fn measure_all(rt: &HostRuntime, numbers: &[usize]) -> Result<()> {
     Ok(())
 }
 
+/// Measures an order book alone at each of these numbers of orders.
+fn measure_books(rt: &HostRuntime, numbers: &[usize]) -> Result<()> {
+    for n in numbers {
+        book::run(rt, *n)?;
+    }
+    Ok(())
+}
+
 /// Draws what standard input says was measured.
 fn draw(rt: &HostRuntime, caches: &[usize]) -> Result<()> {
     let text = io::read_to_string(rt.alloc(), rt.reader())?;
@@ -72,6 +81,7 @@ fn work(rt: &HostRuntime, task: &Task) -> Result<()> {
             println!(rt; "entries,measure,structure,nanoseconds")?;
             measure_all(rt, numbers)
         }
+        Task::MeasureBook(numbers) => measure_books(rt, numbers),
         Task::Draw(caches) => draw(rt, caches),
     }
 }

@@ -1,5 +1,5 @@
 //! Books of limit orders, as they are measured: an order book, and two of std's `BTreeMap`.
-use order_book::{NewOrder, OrderBook, OrderId, Side, Trade};
+use order_book::{Level, NewOrder, OrderBook, OrderId, OrderKind, PlacingError, Side, Trade};
 use std::alloc::{AllocError, Global};
 use std::collections::BTreeMap;
 
@@ -45,6 +45,48 @@ fn worth(trades: &[Trade]) -> u64 {
     sum
 }
 
+// What a price level comes to.
+fn worth_of_level(level: Level) -> u64 {
+    let quantity = u64::try_from(level.quantity).unwrap_or(u64::MAX);
+    level.price.wrapping_mul(quantity)
+}
+
+impl Book {
+    /// Returns what the first price level of a side comes to, 0 where the side has no orders.
+    pub fn top(&self, side: Side) -> u64 {
+        match self.book.top(side) {
+            Some(level) => worth_of_level(level),
+            None => 0,
+        }
+    }
+
+    /// Places a market order for all that the other side has. Answers what its trades come to.
+    pub fn take_all(&mut self, side: Side) -> Result<u64, AllocError> {
+        self.trades.clear();
+        let order = NewOrder::market(side, u64::MAX);
+        match self.book.place(order, &mut self.trades) {
+            Ok(_) => Ok(worth(&self.trades)),
+            Err(_) => Err(AllocError),
+        }
+    }
+
+    /// Places an order that trades as a whole, at any price, or not at all. Answers whether it was killed.
+    pub fn is_killed(&mut self, side: Side, quantity: u64) -> Result<bool, AllocError> {
+        self.trades.clear();
+        let order = NewOrder {
+            side,
+            kind: OrderKind::FillOrKill(OrderKind::Market.limit(side)),
+            quantity,
+            tag: 0,
+        };
+        match self.book.place(order, &mut self.trades) {
+            Ok(_) => Ok(false),
+            Err(PlacingError::WouldNotFill) => Ok(true),
+            Err(_) => Err(AllocError),
+        }
+    }
+}
+
 impl Market for Book {
     type Id = OrderId;
 
@@ -74,8 +116,7 @@ impl Market for Book {
     fn depth(&self, side: Side, levels: usize) -> u64 {
         let mut sum = 0u64;
         for level in self.book.depth(side, levels) {
-            let quantity = u64::try_from(level.quantity).unwrap_or(u64::MAX);
-            sum = sum.wrapping_add(level.price.wrapping_mul(quantity));
+            sum = sum.wrapping_add(worth_of_level(level));
         }
         sum
     }

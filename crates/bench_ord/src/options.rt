@@ -21,6 +21,9 @@ const CSV: &str = "csv";
 /// The option by which curves are drawn.
 const SVG: &str = "svg";
 
+/// The option by which an order book is measured alone.
+const BOOK: &str = "book";
+
 const NUMBER: &str = "NUMBER";
 
 /// What is to be done.
@@ -30,6 +33,8 @@ pub enum Task {
     Measure(Vec<usize>),
     /// To measure so, and to print the times as comma-separated values.
     List(Vec<usize>),
+    /// To measure an order book alone, at each of these numbers of orders.
+    MeasureBook(Vec<usize>),
     /// To draw such values as curves, with a mark for a cache of each of these sizes in bytes.
     Draw(Vec<usize>),
 }
@@ -47,6 +52,13 @@ pub fn command<'a>(alloc: Global) -> Result<Command<'a>, AllocError> {
         "Draw such values, which are read from standard input, as curves; each NUMBER is the size of a cache in bytes",
     )
     .conflicts_with(CSV)?;
+    let book = flag(
+        alloc,
+        BOOK,
+        "Measure an order book alone, as tools/bench-book.cpp measures one in C++",
+    )
+    .conflicts_with(CSV)?
+    .conflicts_with(SVG)?;
     let numbers = Arg::new(alloc, NUMBER)
         .num_args(1..)
         .action(ArgAction::Append)
@@ -58,6 +70,7 @@ pub fn command<'a>(alloc: Global) -> Result<Command<'a>, AllocError> {
         .after_help(NOTES)
         .arg(csv)?
         .arg(svg)?
+        .arg(book)?
         .arg(numbers)
 }
 
@@ -81,6 +94,9 @@ impl Task {
         }
         if matches.get_flag(CSV) {
             return Ok(Task::List(numbers));
+        }
+        if matches.get_flag(BOOK) {
+            return Ok(Task::MeasureBook(numbers));
         }
         Ok(Task::Measure(numbers))
     }

@@ -13,6 +13,20 @@ pub struct Row<'a> {
     pub other_name: &'a str,
 }
 
+/// Prints a measure at n entries that stands beside none: its sum to standard output, and its time an operation to standard error.
+pub fn print_alone(
+    rt: &HostRuntime,
+    n: usize,
+    measure: &str,
+    lap: Lap,
+    operations: usize,
+) -> io::Result<()> {
+    let sum = lap.sum;
+    println!(rt; "{n} {measure}: {sum}")?;
+    let (whole, tenth) = in_tenths(per_operation(lap, operations));
+    eprintln!(rt; "{n} {measure}: {whole}.{tenth}")
+}
+
 /// Prints the sums to standard output, and the times to standard error; or, if `--csv` is an argument, the times to standard output.
 pub fn print(rt: &HostRuntime, row: Row) -> io::Result<()> {
     if env::args(rt)?.any(|word| word.as_str() == "--csv") {

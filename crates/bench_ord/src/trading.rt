@@ -71,7 +71,7 @@ fn round_of<M: Market>(rt: &HostRuntime, resting: &[u64], stream: &[u64]) -> Res
     let sum = go_on(&mut market, &mut ids, stream)?;
     let stream_lap = Lap::since(rt, start, sum)?;
     let start = Instant::now(rt)?;
-    let sum = go_on_watched(&mut market, &mut ids, resting)?;
+    let sum = go_on_watched(&mut market, &mut ids, resting, LEVELS)?;
     Ok(Round {
         rest,
         stream: stream_lap,
@@ -93,8 +93,8 @@ fn quantity_of(random: u64) -> u64 {
     (random >> 32) % 16 + 1
 }
 
-// An order that rests: a bid below 1,000,000, an ask above it, at one of a thousand prices each.
-fn resting_of(random: u64) -> Limit {
+/// Returns an order that rests: a bid below 1,000,000, an ask above it, at one of a thousand prices each.
+pub fn resting_of(random: u64) -> Limit {
     let (side, offset) = (side_of(random), (random >> 8) % 1000 + 1);
     let price = match side {
         Side::Buy => 1_000_000 - offset,
@@ -121,8 +121,12 @@ fn trading_of(random: u64) -> Limit {
     }
 }
 
-// Places an order, and keeps the name of what rests of it. Answers what its trades come to.
-fn place<M: Market>(market: &mut M, ids: &mut Vec<M::Id>, order: Limit) -> Result<u64, AllocError> {
+/// Places an order, and keeps the name of what rests of it. Answers what its trades come to.
+pub fn place<M: Market>(
+    market: &mut M,
+    ids: &mut Vec<M::Id>,
+    order: Limit,
+) -> Result<u64, AllocError> {
     let (worth, id) = market.place(order)?;
     if let Some(id) = id {
         ids.push(id)?;
@@ -130,8 +134,8 @@ fn place<M: Market>(market: &mut M, ids: &mut Vec<M::Id>, order: Limit) -> Resul
     Ok(worth)
 }
 
-// Cancels an order by one of the names, and forgets the name. Answers what was left of it.
-fn cancel<M: Market>(market: &mut M, ids: &mut Vec<M::Id>, random: u64) -> u64 {
+/// Cancels an order by one of the names, and forgets the name. Answers what was left of it.
+pub fn cancel<M: Market>(market: &mut M, ids: &mut Vec<M::Id>, random: u64) -> u64 {
     let named = ids.len();
     if named == 0 {
         return 0;
@@ -141,8 +145,12 @@ fn cancel<M: Market>(market: &mut M, ids: &mut Vec<M::Id>, random: u64) -> u64 {
     market.cancel(id)
 }
 
-// Takes a step of the stream. Of four steps two place an order at rest, one cancels, and one trades.
-fn step<M: Market>(market: &mut M, ids: &mut Vec<M::Id>, random: u64) -> Result<u64, AllocError> {
+/// Takes a step of the stream. Of four steps two place an order at rest, one cancels, and one trades.
+pub fn step<M: Market>(
+    market: &mut M,
+    ids: &mut Vec<M::Id>,
+    random: u64,
+) -> Result<u64, AllocError> {
     match (random >> 4) % 4 {
         0 => Ok(cancel(market, ids, random)),
         1 => place(market, ids, trading_of(random)),
@@ -150,8 +158,8 @@ fn step<M: Market>(market: &mut M, ids: &mut Vec<M::Id>, random: u64) -> Result<
     }
 }
 
-// Puts an order to rest for each number.
-fn fill<M: Market>(
+/// Puts an order to rest for each number.
+pub fn fill<M: Market>(
     market: &mut M,
     ids: &mut Vec<M::Id>,
     numbers: &[u64],
@@ -162,8 +170,8 @@ fn fill<M: Market>(
     Ok(())
 }
 
-// Takes a step for each number. Answers what was traded and cancelled.
-fn go_on<M: Market>(
+/// Takes a step for each number. Answers what was traded and cancelled.
+pub fn go_on<M: Market>(
     market: &mut M,
     ids: &mut Vec<M::Id>,
     numbers: &[u64],
@@ -175,16 +183,17 @@ fn go_on<M: Market>(
     Ok(sum)
 }
 
-// Takes a step for each number, and looks at the first levels of a side after it. Answers what was traded, cancelled and seen.
-fn go_on_watched<M: Market>(
+/// Takes a step for each number, and looks at the first levels of a side after it. Answers what was traded, cancelled and seen.
+pub fn go_on_watched<M: Market>(
     market: &mut M,
     ids: &mut Vec<M::Id>,
     numbers: &[u64],
+    levels: usize,
 ) -> Result<u64, AllocError> {
     let mut sum = 0u64;
     for random in numbers {
         sum = sum.wrapping_add(step(market, ids, *random)?);
-        sum = sum.wrapping_add(market.depth(side_of(*random), LEVELS));
+        sum = sum.wrapping_add(market.depth(side_of(*random), levels));
     }
     Ok(sum)
 }
