@@ -15,13 +15,6 @@ const MOST_ORDERS: usize = 100_000;
 /// The number of fill-or-kill orders in a round.
 const KILLS: usize = 10;
 
-/// What is done with a book of n orders, and the row that it is printed as.
-#[derive(Clone, Copy)]
-struct Measure {
-    name: &'static str,
-    work: Work,
-}
-
 /// What a round does with a book of n orders and a stream of n random numbers.
 #[derive(Clone, Copy)]
 enum Work {
@@ -40,35 +33,14 @@ enum Work {
 }
 
 /// The rows, in the order in which they are printed.
-const MEASURES: [Measure; 7] = [
-    Measure {
-        name: "place, cancel, trade",
-        work: Work::Steps,
-    },
-    Measure {
-        name: "place and cancel",
-        work: Work::Quotes,
-    },
-    Measure {
-        name: "the mix, and best",
-        work: Work::StepsAndTop,
-    },
-    Measure {
-        name: "the mix, and depth 1",
-        work: Work::StepsAndDepth(1),
-    },
-    Measure {
-        name: "the mix, and depth 5",
-        work: Work::StepsAndDepth(5),
-    },
-    Measure {
-        name: "fill or kill",
-        work: Work::Kills,
-    },
-    Measure {
-        name: "sweep",
-        work: Work::Sweep,
-    },
+const ROWS: [(&str, Work); 7] = [
+    ("place, cancel, trade", Work::Steps),
+    ("place and cancel", Work::Quotes),
+    ("the mix, and best", Work::StepsAndTop),
+    ("the mix, and depth 1", Work::StepsAndDepth(1)),
+    ("the mix, and depth 5", Work::StepsAndDepth(5)),
+    ("fill or kill", Work::Kills),
+    ("sweep", Work::Sweep),
 ];
 
 impl Work {
@@ -106,10 +78,10 @@ impl Work {
 /// Measures each row at n orders, and prints it.
 pub fn run(rt: &HostRuntime, n: usize) -> Result<()> {
     let keys = keys_of(rt.alloc(), n)?;
-    for measure in &MEASURES {
-        if measure.work.is_measured(n) {
-            let lap = best_of(rt, measure.work, &keys)?;
-            print_alone(rt, n, measure.name, lap, measure.work.operations(n))?;
+    for (measure, work) in &ROWS {
+        if work.is_measured(n) {
+            let lap = best_of(rt, *work, &keys)?;
+            print_alone(rt, n, measure, lap, work.operations(n))?;
         }
     }
     Ok(())
