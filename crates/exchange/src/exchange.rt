@@ -82,9 +82,10 @@ impl Exchange {
     ) -> Result<Option<u64>, Fault> {
         let entry = self.entry(number)?;
         self.make_ready()?;
+        let kind = OrderKind::Limit(price);
         let id = self
             .book
-            .replace(entry.id, price, quantity, &mut self.trades)?;
+            .replace(entry.id, kind, quantity, &mut self.trades)?;
         let _ = self.entries.remove(&number);
         Ok(self.enter(number, id, entry.tag))
     }

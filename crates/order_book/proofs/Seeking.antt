@@ -11,6 +11,7 @@ use Rattle.order_book.specs.Auction.{auction_at, offered_at, IsNoBetter, NoneIsB
 use Rattle.order_book.specs.AuctionSteps.{left_of, left_within, quantity_of, IsOfOrder}
 use Rattle.order_book.specs.{declared.side.Side.TheVariants.Buy, declared.side.Side.TheVariants.Sell, declared.side.Side.Side, declared.level.Level.Level, declared.order.Order.Order, declared.auction.Auction.Auction}
 use Rattle.order_book.proofs.{Levels.AreInOrder, Levels.offers, Levels.offers-within, Levels.levels-in_order, Levels.levels-no_worse}
+use Rattle.order_book.proofs.Meeting.{met-better, met-worse, unmet-better, met-own, unmet-narrower}
 use Rattle.order_book.proofs.Preferring.{no_better-same, no_better-then, same-auction}
 
 -- what holds of some is turned around with them
@@ -66,29 +67,6 @@ quantity-joined x (l ∷ ls) = elim (l.price == x.price) as (λ b. quantity_of
 pub quantity-levels : (xs : List Order) → quantity_of (levels_of xs) ≡ total xs
 quantity-levels [] = refl
 quantity-levels (x ∷ xs) = omega (arith, quantity-joined x (levels_of xs), quantity-levels xs)
-
--- a better price meets what a price meets; and what one side's worse price is met by, its better one is too
-met-better : (side : Side) (p q limit : ℕ) → IsNoWorse side q p → meets side p limit ≡ true → meets side q limit ≡ true
-met-better Buy p q limit no_worse met = grind (arith, nat_tests, no_worse, met)
-met-better Sell p q limit no_worse met = grind (arith, nat_tests, no_worse, met)
-
-met-worse : (side : Side) (p q : ℕ) → IsWorse side q p → meets side p q ≡ true
-met-worse Buy p q worse = grind (arith, nat_tests, worse)
-met-worse Sell p q worse = grind (arith, nat_tests, worse)
-
-unmet-better : (side : Side) (p q : ℕ) → IsWorse side q p → meets side q p ≡ false
-unmet-better Buy p q worse = grind (arith, nat_tests, worse)
-unmet-better Sell p q worse = grind (arith, nat_tests, worse)
-
-met-own : (side : Side) (p : ℕ) → meets side p p ≡ true
-met-own Buy p = grind (arith, nat_tests)
-met-own Sell p = grind (arith, nat_tests)
-
-unmet-narrower : (own other : Side) (p q r : ℕ) → other ≡ opposite own → IsWorse own q p → meets other r p ≡ false → meets other r q ≡ false
-unmet-narrower Buy Sell p q r is worse unmet = grind (arith, nat_tests, worse, unmet)
-unmet-narrower Sell Buy p q r is worse unmet = grind (arith, nat_tests, worse, unmet)
-unmet-narrower Buy Buy p q r is worse unmet = absurd (cc)
-unmet-narrower Sell Sell p q r is worse unmet = absurd (cc)
 
 -- a step of an iterator gives the worst level that is left
 pub left-next : (old new : List Level) (r : Option Level) → YieldsFirst (λ left. left) old r new → left_of r new ≡ old

@@ -1,10 +1,15 @@
 -- An offer goes along the queue: how much is traded with what is left of it, and what its trades are.
-use Rattle.std.proofs.Common.{◌≡◌, ℕ, ◌+◌, ◌-◌, ◌<◌, min, List, [], ◌∷◌, ◌++◌, take, length, length-append, append_assoc, true, false, refl, sym, ap, ◌∙◌, arith, inl, inr, if◌then◌else◌}
+use Rattle.std.proofs.Common.{◌≡◌, ℕ, ◌+◌, ◌-◌, ◌<◌, min, List, [], ◌∷◌, ◌++◌, take, length, length-append, append_assoc, true, false, Result, Ok, Err, OnErr, is_err, refl, sym, ap, ◌∙◌, arith, inl, inr, if◌then◌else◌}
 use Rattle.std.proofs.{lemmas.Bool.Decides.eqb_tells, Math.Seq.take-append_seam, lemmas.List.append-nil}
 use Rattle.std.specs.List.{AllByRecursion}
 use Rattle.order_book.specs.Queue.{Queue, IsNoWorse, IsInOrder, meets, within, traded, trade_with, trades_of_first}
 use Rattle.order_book.specs.{declared.order.Order.Order, declared.order.Trade.Trade, declared.side.Side.Side}
 use Rattle.order_book.proofs.Meeting.{unmet-worse}
+
+-- what a refusal owes
+pub owed : {X E P : Type 0} (r : Result X E) → true ≡ is_err r → OnErr r P → P
+owed (Ok x) refused fact = absurd (cc)
+owed (Err e) refused fact = fact
 
 -- orders of which none meets the limit offer nothing
 within-no_better : (side : Side) (limit p : ℕ) (xs : List Order) → meets side p limit ≡ false → AllByRecursion (λ x. IsNoWorse side p x.price) xs

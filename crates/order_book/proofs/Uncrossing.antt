@@ -13,15 +13,7 @@ use Rattle.order_book.specs.Names.{IsStep}
 use Rattle.order_book.specs.{declared.side.Side.TheVariants.Buy, declared.side.Side.TheVariants.Sell, declared.side.Side.Side, declared.order.Order.Order, declared.order.Trade.Trade, declared.auction.Auction.Auction}
 use Rattle.order_book.proofs.{Apart.AreApart, Apart.all-behind, Taking.behind-none, Levels.within-most, Volumes.volume-first}
 use Rattle.order_book.proofs.Preferring.{no_better-then, no_better-most, auction-turned, same-price}
-use Rattle.order_book.proofs.Names.{goes-other, step-of}
-
-met-no_worse : (side : Side) (p q : ℕ) → IsNoWorse side p q → meets side p q ≡ true
-met-no_worse Buy p q no_worse = grind (arith, nat_tests, no_worse)
-met-no_worse Sell p q no_worse = grind (arith, nat_tests, no_worse)
-
-met-same : (side : Side) (p : ℕ) → meets side p p ≡ true
-met-same Buy p = grind (arith, nat_tests)
-met-same Sell p = grind (arith, nat_tests)
+use Rattle.order_book.proofs.{Names.goes-other, Names.step-of, Meeting.met-own, Meeting.met-no_worse}
 
 -- behind the first n units, at the price of each order that is left more than n were offered
 more-offered : (side : Side) (n : ℕ) (xs : List Order) → IsInOrder side xs → AllByRecursion (λ (x : Order). 0 < x.quantity) xs
@@ -32,7 +24,7 @@ more-offered side n (x ∷ xs) sorted some = elim (leb_tells x.quantity n) [
       (λ y more no_worse. let here : within side y.price (x ∷ xs) ≡ x.quantity + within side y.price xs = rw (met-no_worse side x.price y.price no_worse) refl in omega (arith, more, here, whole.1))
       (behind (n - x.quantity) xs) (more-offered side (n - x.quantity) xs sorted.1 some.1) (all-behind (λ p. IsNoWorse side x.price p) (n - x.quantity) xs sorted.0))
   | inr part ↦
-      let first : n < within side x.price (x ∷ xs) = rw (met-same side x.price) (omega (arith, part.1)) in
+      let first : n < within side x.price (x ∷ xs) = rw (met-own side x.price) (omega (arith, part.1)) in
       rw (lt-ltb n x.quantity part.1) (
         first,
         all-weaker (λ (y : Order). IsNoWorse side x.price y.price) (λ (y : Order). n < within side y.price (x ∷ xs))

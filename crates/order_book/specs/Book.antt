@@ -130,13 +130,13 @@ without b id = with_queue b id.side (with_left (queue b id.side) id.pointer)
 abbrev pub with_less : Book → Id → ℕ → Book
 with_less b id left = with_queue b id.side (reduced (queue b id.side) id.pointer left)
 
--- the order that replaces one: a limit order of its side with its tag
+-- the order that replaces one: of its side, with its tag
 abbrev pub tag_of : Option Order → ℕ
 tag_of None = 0
 tag_of (Some x) = x.tag
 
-abbrev pub replacement : Book → Id → ℕ → ℕ → NewOrder
-replacement b id price quantity = record { side = id.side; kind = Limit price; quantity = quantity; tag = tag_of (named b id) }
+abbrev pub replacement : Book → Id → OrderKind → ℕ → NewOrder
+replacement b id kind quantity = record { side = id.side; kind = kind; quantity = quantity; tag = tag_of (named b id) }
 
 -- there is no room for one order more, unless the queue grows
 abbrev pub IsFull : Queue → Type 0

@@ -422,14 +422,14 @@ impl<A: Allocator> OrderBook<A> {
         }
     }
 
-    /// Removes an order, and places a limit order of its side with its tag and another price and quantity. That counts as new, also at the
-    /// same price, and gets a new id. Returns what [`place`](Self::place) returns, at the same cost.
+    /// Removes an order, and places one of its side with its tag, of this kind and quantity. That counts as new, also at the same price, and
+    /// gets a new id. Returns what [`place`](Self::place) returns, at the same cost.
     ///
     /// ```
     /// let mut trades = Vec::new(rt.alloc());
     /// let ask = book.place(NewOrder::limit(Side::Sell, 101, 10), &mut trades)?;
     /// if let Some(ask) = ask {
-    ///     book.replace(ask, 103, 5, &mut trades)?;
+    ///     book.replace(ask, OrderKind::Limit(103), 5, &mut trades)?;
     /// }
     /// assert_eq!(rt; book.best_ask().map(|ask| (ask.price, ask.quantity)), Some((103, 5)));
     /// ```
@@ -439,34 +439,41 @@ impl<A: Allocator> OrderBook<A> {
     /// The book and the list are unchanged.
     /// - `NoQuantity`: the quantity is 0.
     /// - `NoOrder`: the id names no order.
+    /// - `WouldTrade`: the new order is post-only, and would trade.
+    /// - `WouldNotFill`: the new order is fill-or-kill, and would not trade as a whole.
     /// - `AllocError`: memory is refused to the list of trades.
     pub fn replace<B: Allocator>(
         &mut self,
         id: OrderId,
-        price: u64,
+        kind: OrderKind,
         quantity: u64,
         trades: &mut Vec<Trade, B>,
     ) -> Result<Option<OrderId>, ReplacingError>
         ensures placed { IfOk result (λ new. Places (without self.old id)
-            (replacement self.old id price quantity) new self.new) }
+            (replacement self.old id kind quantity) new self.new) }
         ensures trades { OnOk result (trades.new.items ≡ trades.old.items
-            ++ trades_of (without self.old id) (replacement self.old id price quantity)) }
+            ++ trades_of (without self.old id) (replacement self.old id kind quantity)) }
         ensures named { IfOk result (λ new. IfSome new (λ i. named self.new i
-            ≡ Some (resting id.side i.pointer price
-            (rest_of (without self.old id) (replacement self.old id price quantity))
-            (replacement self.old id price quantity).tag))) }
+            ≡ Some (resting id.side i.pointer (limit_of id.side kind)
+            (rest_of (without self.old id) (replacement self.old id kind quantity))
+            (replacement self.old id kind quantity).tag))) }
         ensures bought { OnOk result (volume (trades_of (without self.old id)
-            (replacement self.old id price quantity)) + untraded (without self.old id)
-            (replacement self.old id price quantity) ≡ quantity) }
+            (replacement self.old id kind quantity)) + untraded (without self.old id)
+            (replacement self.old id kind quantity) ≡ quantity) }
         ensures sold { OnOk result (total (queue self.new (opposite id.side)).orders
-            + volume (trades_of (without self.old id) (replacement self.old id price quantity))
+            + volume (trades_of (without self.old id) (replacement self.old id kind quantity))
             ≡ total (queue self.old (opposite id.side)).orders) }
-        ensures limited { OnOk result (AreWithin (opposite id.side) price
-            (trades_of (without self.old id) (replacement self.old id price quantity))) }
+        ensures limited { OnOk result (AreWithin (opposite id.side) (limit_of id.side kind)
+            (trades_of (without self.old id) (replacement self.old id kind quantity))) }
         ensures others { IfOk result (λ new. (other : _) → Some other ≢ new → other ≢ id
             → IsUntraded other (trades_of (without self.old id)
-            (replacement self.old id price quantity))
+            (replacement self.old id kind quantity))
             → named self.new other ≡ named self.old other) }
+        ensures at_once { can_rest kind ≡ false → IfOk result (λ new. new ≡ None) }
+        ensures posted { only_rests kind ≡ true → OnOk result
+            (trades.new.items ≡ trades.old.items) }
+        ensures whole { is_whole kind ≡ true → OnOk result (volume (trades_of
+            (without self.old id) (replacement self.old id kind quantity)) ≡ quantity) }
         ensures room { OnOk result ((n : ℕ) → HasRoomFor n (queue self.old id.side)
             → HasRoomFor n (queue self.new id.side)) }
         ensures other_room { OnOk result ((n : ℕ)
@@ -476,9 +483,15 @@ impl<A: Allocator> OrderBook<A> {
         ensures nothing { (result ≡ Err ReplacingError.NoQuantity) ↔ (quantity ≡ 0) }
         ensures unknown { (result ≡ Err ReplacingError.NoOrder)
             ↔ ((quantity ≢ 0) × (named self.old id ≡ None)) }
+        ensures would_trade { (result ≡ Err ReplacingError.WouldTrade)
+            ↔ ((quantity ≢ 0) × (named self.old id ≢ None) × (only_rests kind ≡ true)
+            × (0 < trades_for self.old (replacement self.old id kind quantity))) }
+        ensures would_not_fill { (result ≡ Err ReplacingError.WouldNotFill)
+            ↔ ((quantity ≢ 0) × (named self.old id ≢ None) × (is_whole kind ≡ true)
+            × (0 < untraded self.old (replacement self.old id kind quantity))) }
         ensures memory { result ≡ Err ReplacingError.AllocError
             → LacksRoom (vec_capacity trades.old) (length trades.old.items)
-            (trades_of (without self.old id) (replacement self.old id price quantity)) }
+            (trades_of (without self.old id) (replacement self.old id kind quantity)) }
         ensures steps { StepsOrRefuses self.old trades.old.items result
             self.new trades.new.items }
         ensures uncrossed { IsUncrossed self.old → IsUncrossed self.new }
@@ -489,14 +502,17 @@ impl<A: Allocator> OrderBook<A> {
         let Some(old) = self.get(id) else {
             return Err(ReplacingError::NoOrder);
         };
-        // For the prover: what holds of every book.
-        let _ = self.count(id.side());
         let order = NewOrder {
             side: id.side(),
-            kind: OrderKind::Limit(price),
+            kind,
             quantity,
             tag: old.tag,
         };
+        if let Some(refusal) = self.refusal(order) {
+            return Err(refused_anew(refusal));
+        }
+        // For the prover: what holds of every book.
+        let _ = self.count(id.side());
         let pointer = id.pointer();
         let settled = match id.side() {
             Side::Buy => settle_anew(&mut self.bids, &mut self.asks, pointer, order, trades),
@@ -506,5 +522,23 @@ impl<A: Allocator> OrderBook<A> {
             Ok(new) => Ok(new),
             Err(_) => Err(ReplacingError::AllocError),
         }
+    }
+}
+
+// Why an order is not replaced by one that is refused for its kind.
+fn refused_anew(refusal: PlacingError) -> ReplacingError
+    ensures nothing { (result ≡ ReplacingError.NoQuantity) ↔ (refusal ≡ PlacingError.NoQuantity) }
+    ensures trade { (result ≡ ReplacingError.WouldTrade) ↔ (refusal ≡ PlacingError.WouldTrade) }
+    ensures part { (result ≡ ReplacingError.WouldNotFill)
+        ↔ (refusal ≡ PlacingError.WouldNotFill) }
+    ensures order { result ≢ ReplacingError.NoOrder }
+    ensures memory { result ≡ ReplacingError.AllocError
+        → (refusal ≡ PlacingError.BeyondMaxCapacity) ⊎ (refusal ≡ PlacingError.AllocError) }
+{
+    match refusal {
+        PlacingError::NoQuantity => ReplacingError::NoQuantity,
+        PlacingError::WouldTrade => ReplacingError::WouldTrade,
+        PlacingError::WouldNotFill => ReplacingError::WouldNotFill,
+        PlacingError::BeyondMaxCapacity | PlacingError::AllocError => ReplacingError::AllocError,
     }
 }

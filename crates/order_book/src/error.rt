@@ -45,6 +45,12 @@ pub enum ReplacingError {
     /// The id names no order: it was filled or cancelled, or never existed.
     #[error("no such order")]
     NoOrder,
+    /// The new order may only rest, and would trade at once.
+    #[error("the order would trade")]
+    WouldTrade,
+    /// The new order is to trade as a whole at once, and can't.
+    #[error("the order would not be filled")]
+    WouldNotFill,
     /// There is no memory for the trades.
     #[error("out of memory")]
     AllocError,

@@ -114,6 +114,8 @@ pub(crate) fn settle_anew<A: Allocator, B: Allocator>(
         own.new other.new trades.new.items }
     ensures memory { OnErr result (LacksRoom (vec_capacity trades.old)
         (length trades.old.items) (deals other.old order)) }
+    ensures quiet { dealt other.old order ≡ 0
+        → OnOk result (trades.new.items ≡ trades.old.items) }
     ensures own_others { IfOk result (λ id. (p : ℕ × ℕ)
         → Some (record { side = own.old.side; pointer = p }) ≢ id → p ≢ pointer
         → order_of own.new.orders p ≡ order_of own.old.orders p) }

@@ -1,6 +1,6 @@
 //! The examples in the text of `OrderBook`'s calls.
 
-use order_book::{NewOrder, OrderBook, Side};
+use order_book::{NewOrder, OrderBook, OrderKind, Side};
 use std::process::Abort;
 use std::test::Fail;
 
@@ -28,7 +28,7 @@ fn replace_in(rt: &(impl Abort + AllocGlobal), book: &mut OrderBook) -> Result<(
     let mut trades = Vec::new(rt.alloc());
     let ask = book.place(NewOrder::limit(Side::Sell, 101, 10), &mut trades)?;
     if let Some(ask) = ask {
-        book.replace(ask, 103, 5, &mut trades)?;
+        book.replace(ask, OrderKind::Limit(103), 5, &mut trades)?;
     }
     assert_eq!(rt;
         book.best_ask().map(|ask| (ask.price, ask.quantity)),

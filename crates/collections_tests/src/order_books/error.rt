@@ -54,6 +54,14 @@ fn each_replacing_error_is_printed_in_words_and_by_its_name(rt: HostRuntime) {
             "an order for nothing, NoQuantity",
         ),
         (ReplacingError::NoOrder, "no such order, NoOrder"),
+        (
+            ReplacingError::WouldTrade,
+            "the order would trade, WouldTrade",
+        ),
+        (
+            ReplacingError::WouldNotFill,
+            "the order would not be filled, WouldNotFill",
+        ),
         (ReplacingError::AllocError, "out of memory, AllocError"),
     ];
     for (refusal, wanted) in &texts {

@@ -1,6 +1,8 @@
 //! Books on a heap with little memory left: a refused call changes nothing, and the same call succeeds once there is memory.
 use linked_list_allocator::LocalHeap;
-use order_book::{NewOrder, OrderBook, OrderId, PlacingError, ReplacingError, Side, Trade};
+use order_book::{
+    NewOrder, OrderBook, OrderId, OrderKind, PlacingError, ReplacingError, Side, Trade,
+};
 use std::alloc::{AllocError, Global};
 
 /// A book on a heap.
@@ -130,7 +132,8 @@ fn place(market: &mut Market, side: Side) -> Option<bool> {
 /// Replaces the first ask. Returns false if memory was refused; `None` on any other error.
 fn replace(market: &mut Market) -> Option<bool> {
     let ask = *market.asks.first()?;
-    match market.book.replace(ask, 5, 10, &mut market.trades) {
+    let kind = OrderKind::Limit(5);
+    match market.book.replace(ask, kind, 10, &mut market.trades) {
         Ok(_) => Some(true),
         Err(ReplacingError::AllocError) => Some(false),
         Err(_) => None,

@@ -1,5 +1,4 @@
 use Rattle.order_book.specs.{Queue.with_left, declared.new_order.NewOrder.NewOrder}
-use Rattle.order_book.specs.declared.new_order.OrderKind.TheVariants.{Limit}
 use Rattle.std.proofs.Common.{sym, subst, ap, ◌∙◌}
 use Rattle.order_book.specs.declared.side.Side.TheVariants.{Buy, Sell}
 use Rattle.order_book.specs.Book.{Book, IsBook, opposite}
@@ -14,7 +13,7 @@ returns-in-Ok-clause-uncrossed g c = λ uncrossed.
     let bids = c.self.inside.bids in
     let asks = c.self.inside.asks in
     let p = c.pointer-pointer.result in
-    let order : NewOrder = record { side = c.side-2.result; kind = Limit c.args.price; quantity = c.args.quantity; tag = c.in-Some.old.tag } in
+    let order : NewOrder = record { side = c.side.result; kind = c.args.kind; quantity = c.args.quantity; tag = c.in-Some.old.tag } in
     let lawful : IsBook (record { bids = bids; asks = asks }) = subst (λ (b : Book). IsBook b) (sym c.self.view_is) c.count.ensures.lawful in
     let apart = apart-of bids asks c.args.self.now c.self.invariant c.self.view_is uncrossed in
     elim c.match-side.branch [

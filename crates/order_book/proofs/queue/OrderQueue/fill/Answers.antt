@@ -1,10 +1,6 @@
-use Rattle.std.proofs.Common.{◌≡◌, ◌<◌, ◌∷◌, true, Result, Ok, Err, OnErr, is_err, subst, arith}
-use Rattle.order_book.proofs.Filling.{IsFilling, filling-room}
+use Rattle.std.proofs.Common.{◌<◌, ◌∷◌, subst, arith}
+use Rattle.order_book.proofs.{Filling.IsFilling, Filling.filling-room, Trading.owed}
 use Rattle.order_book.proofs.queue.OrderQueue.fill.Goals as goal
-
-owed : {X E P : Type 0} (r : Result X E) → true ≡ is_err r → OnErr r P → P
-owed (Ok x) refused fact = absurd (cc)
-owed (Err e) refused fact = fact
 
 pub returns-then-is_err-clause-memory : goal.returns-then-is_err-clause-memory
 returns-then-is_err-clause-memory g c =

@@ -1,6 +1,6 @@
-use Rattle.std.proofs.Common.{◌≡◌, ◌<◌, List, [], ◌∷◌, ◌++◌, length, take, true, false, Result, Ok, Err, OnErr, is_ok, is_err, if◌then◌else◌, sym, ap, ◌∙◌, arith, rules}
+use Rattle.std.proofs.Common.{◌≡◌, ◌<◌, List, [], ◌∷◌, ◌++◌, length, take, true, false, Result, Ok, Err, is_ok, is_err, if◌then◌else◌, sym, ap, ◌∙◌, arith, rules}
 use Rattle.order_book.specs.{QueueLayout.queue_of, Queue.Queue, Queue.meets, Queue.trade_with}
-use Rattle.order_book.proofs.Trading.{IsOffering, offering-start, offering-next, offer-done, done-ended, done-filled, done-missed, room-wanted, front-kept}
+use Rattle.order_book.proofs.Trading.{IsOffering, offering-start, offering-next, offer-done, done-ended, done-filled, done-missed, room-wanted, front-kept, owed}
 use Rattle.order_book.specs.Ladder.{rows_of}
 use Rattle.order_book.proofs.queue.OrderQueue.offer.Goals as goal
 
@@ -12,10 +12,6 @@ pushed (Err e) items more same well after = absurd (cc)
 unpushed : {X E T : Type 0} (r : Result X E) (items more same : List T) → true ≡ is_err r → items ≡ (if is_ok r then more else same) → items ≡ same
 unpushed (Ok x) items more same refused after = absurd (cc)
 unpushed (Err e) items more same refused after = after
-
-owed : {X E P : Type 0} (r : Result X E) → true ≡ is_err r → OnErr r P → P
-owed (Ok x) refused fact = absurd (cc)
-owed (Err e) refused fact = fact
 
 pub loop-order-init : goal.loop-order-init
 loop-order-init g c =
