@@ -35,4 +35,5 @@ pub mod Crossing
 pub mod Pairs
 pub mod Deals
 pub mod Uncrossing
+pub mod Restoring
 pub mod Names

@@ -16,6 +16,7 @@ mod compare;
 mod debug;
 mod feed;
 mod look;
+mod snapshot;
 mod try_clone;
 
 use crate::error::{PlacingError, ReplacingError};

@@ -9,6 +9,7 @@ ghost use Rattle.order_book.specs.Ladder.{rows_of, IsLadder};
 ghost use Rattle.order_book.specs.QueueLayout.{queue_of};
 ghost use Rattle.order_book.specs.Queue.{ChangesOrder, HasRoomFor, IsSound, Rests, Updates};
 
+mod append;
 mod auction;
 mod compare;
 mod debug;
