@@ -1,5 +1,5 @@
-//! Order books: a trading day, every sequence of a few orders, and of a few reports of a feed; auctions, refused memory, and the texts
-//! of errors.
+//! Order books: a trading day, every sequence of a few orders, and of a few reports of a feed; auctions, snapshots, refused memory, and
+//! the texts of errors.
 mod auctions;
 mod day;
 mod error;
@@ -7,3 +7,4 @@ mod feed;
 mod lists;
 mod refused;
 mod sequences;
+mod snapshots;

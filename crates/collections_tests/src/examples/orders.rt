@@ -223,6 +223,26 @@ fn uncross_in(rt: &(impl Abort + AllocGlobal), book: &mut OrderBook) -> Result<(
 }
 
 #[test]
+fn snapshot(rt: HostRuntime) -> Result<(), Fail> {
+    snapshot_in(&rt, &mut OrderBook::new(rt.alloc()))
+}
+
+fn snapshot_in(rt: &(impl Abort + AllocGlobal), book: &mut OrderBook) -> Result<(), Fail> {
+    book.add(Side::Buy, 99, 10, 7)?;
+    book.add(Side::Sell, 101, 4, 8)?;
+    let mut orders = Vec::new(rt.alloc());
+    book.snapshot(&mut orders)?;
+    let restored = OrderBook::restored(&orders, rt.alloc())?;
+    assert_eq!(rt;
+        restored
+            .best_ask()
+            .map(|ask| (ask.price, ask.quantity, ask.tag)),
+        Some((101, 4, 8))
+    );
+    Ok(())
+}
+
+#[test]
 fn try_clone(rt: HostRuntime) -> Result<(), Fail> {
     try_clone_in(&rt, &mut OrderBook::new(rt.alloc()))
 }
