@@ -56,14 +56,9 @@ fn are_same(orders: &[Order], others: &[Order]) -> bool {
     rest.next().is_none()
 }
 
-/// Returns whether a snapshot has the orders of both sides behind what was in the list.
-fn shows_all(book: &OrderBook, orders: &[Order], before: &[Order]) -> bool {
+/// Returns whether a snapshot has the orders of both sides.
+fn shows_all(book: &OrderBook, orders: &[Order]) -> bool {
     let mut rest = orders.iter();
-    for order in before {
-        if rest.next() != Some(order) {
-            return false;
-        }
-    }
     for side in [Side::Buy, Side::Sell] {
         for order in book.iter(side) {
             if rest.next() != Some(&order) {
@@ -82,14 +77,8 @@ fn comes_back(alloc: Global, seed: u64) -> Option<bool> {
     let restored = OrderBook::restored(&orders, alloc).ok()?;
     let mut again = Vec::new(alloc);
     restored.snapshot(&mut again).ok()?;
-    let is_whole = shows_all(&book, &orders, &[]) && shows_all(&restored, &again, &[]);
-    let first = orders.len();
-    book.snapshot(&mut orders).ok()?;
-    Some(
-        is_whole
-            && are_same(&orders[..first], &again)
-            && shows_all(&book, &orders, &orders[..first]),
-    )
+    let is_whole = shows_all(&book, &orders) && shows_all(&restored, &again);
+    Some(is_whole && are_same(&orders, &again))
 }
 
 #[test]
