@@ -17,8 +17,8 @@ auction_at q r price = record {
   surplus = max (offered_at q price) (offered_at r price) - min (offered_at q price) (offered_at r price);
 }
 
--- One auction is no better than another: less trades in it; or as much, and its surplus is greater; or that is the same too, and its
--- price is no lower.
+-- One auction is no better than another if it trades less; or as much, with a greater surplus; or as much with the same surplus, at a
+-- price that is no lower.
 abbrev pub IsNoBetter : Auction → Auction → Type 0
 IsNoBetter a b = (a.quantity < b.quantity)
     ⊎ ((a.quantity ≡ b.quantity) × ((b.surplus < a.surplus) ⊎ ((b.surplus ≡ a.surplus) × (b.price ≤ a.price))))

@@ -24,7 +24,7 @@ pub struct Auction {
 }
 
 impl Auction {
-    /// The one in which nothing trades. None of these is better.
+    /// No auction: any in which something trades is better.
     pub(crate) const NONE: Auction = Auction {
         price: 0,
         quantity: 0,
@@ -75,8 +75,8 @@ impl Auction {
     }
 }
 
-// Passes by the worst levels of a side that don't meet a limit, of levels that hold this quantity in all. Returns the worst of those that
-// are left, and how much they hold.
+// Passes by the worst levels of a side as long as they don't meet a limit. The levels hold this quantity in all. Returns the worst one
+// that is left, and how much those that are left hold.
 fn pass_unmet<A: Allocator>(
     side: Side,
     limit: u64,

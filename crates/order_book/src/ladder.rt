@@ -53,7 +53,7 @@ pub struct Ladder<A: Allocator = Global> {
     pub orders: ChainArena<P0, Resting, A>,
     /// The levels by rank.
     pub levels: SortedArena<u64, Totals, P0, A>,
-    /// The level that an order joined last. Whether the next one joins it too is asked first.
+    /// The level that an order joined last, which is tried first for the next order.
     pub recent: Option<P0>,
 }
 

@@ -336,7 +336,7 @@ impl<A: Allocator> OrderQueue<A> {
         self.take_volume(u128::from(quantity));
     }
 
-    // The same for a quantity of several orders.
+    // The same for a quantity that 64 bits may not hold.
     pub(crate) fn take_volume(&mut self, quantity: u128)
         ensures after { self.new ≡ taken quantity self.old }
         ensures side { self.new.side ≡ self.old.side }

@@ -4,3 +4,5 @@
 pub mod desk;
 pub mod feed;
 pub mod opening;
+pub mod quote;
+pub mod saving;

@@ -1,9 +1,11 @@
 //! The opening of a market: its orders are collected without trading, and then trade at one price.
 
-ghost use Rattle.std.specs.Prelude.{◌≡◌, true, false, Ok, OnErr};
+ghost use Rattle.std.specs.Prelude.{◌≡◌, true, false, Ok, OnErr, IfOk, IfSome};
+ghost use Rattle.order_book.specs.Auction.{IsBestAuction};
 ghost use Rattle.order_book.specs.Book.{IsUncrossed};
 
-use order_book::{OrderBook, Trade};
+use order_book::laws::best_auction_law;
+use order_book::{Auction, OrderBook, Trade};
 use std::alloc::AllocError;
 
 /// Opens a market whose orders were collected by `add`: what can trade at one price does. It waits for more orders if the price would be outside
@@ -26,4 +28,18 @@ pub fn open_market(
     }
     book.uncross(trades)?;
     Ok(true)
+}
+
+/// Holds an auction that was looked at before. It comes to what the look said.
+pub fn hold_auction(
+    book: &mut OrderBook,
+    seen: Auction,
+    trades: &mut Vec<Trade>,
+) -> Result<Option<Auction>, AllocError>
+    requires { IsBestAuction book.old seen }
+    ensures same { IfOk result (λ held. IfSome held (λ auction. auction ≡ seen)) }
+{
+    // For the prover: there is one auction.
+    best_auction_law();
+    book.uncross(trades)
 }

@@ -48,8 +48,8 @@ impl<A: Allocator> OrderBook<A> {
 
     /// Makes a book of orders, each of which rests behind those of its price that are before it in the list. None of them trades.
     ///
-    /// Of a [`snapshot`](Self::snapshot) it makes a book with the same orders in the same order. They get new ids: who keeps ids finds
-    /// the new ones by the tags.
+    /// Of a [`snapshot`](Self::snapshot) it makes a book with the same orders in the same order. They get new ids; the tags
+    /// tell which is which.
     ///
     /// # Errors
     ///

@@ -66,7 +66,7 @@ impl<A: Allocator> Ladder<A> {
         self.begin_level(Some(last), rank, lot)
     }
 
-    // The level of a rank, if it is the one that was found last.
+    // The level that an order joined last, if it has this rank.
     fn recent_of(&self, rank: u64) -> Option<P0>
         ensures { IfSome result
             (λ level. option_map (λ l. l.0) (get self.now.levels level) ≡ Some rank) }
