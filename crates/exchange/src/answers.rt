@@ -3,7 +3,7 @@
 use crate::COMMANDS;
 use crate::chart::write_chart;
 use crate::command::{Command, Fault, Question};
-use crate::exchange::Exchange;
+use crate::exchange::{Exchange, Label};
 use crate::values::{
     cancelled_value, executed_value, left_value, order_value, totals_value, uncrossed_value,
     value_of,
@@ -59,8 +59,9 @@ impl Figures {
 /// Writes the trades of an incoming order or an auction.
 fn write_trades<W: Write>(writer: &mut W, exchange: &Exchange) -> io::Result<()> {
     for trade in &exchange.trades {
-        let (price, quantity, number) = (trade.price, trade.quantity, trade.tag);
-        match exchange.tag(number) {
+        let (price, quantity) = (trade.price, trade.quantity);
+        let Label { number, tag } = trade.tag;
+        match tag {
             0 => writeln!(writer, "trade {quantity} at {price} with {number}")?,
             tag => writeln!(
                 writer,
@@ -123,10 +124,10 @@ fn write_left<W: Write>(writer: &mut W, number: u64, left: u64) -> io::Result<()
 }
 
 /// Writes the best order of a side.
-fn write_best<W: Write>(writer: &mut W, word: &str, best: Option<Order>) -> io::Result<()> {
+fn write_best<W: Write>(writer: &mut W, word: &str, best: Option<Order<Label>>) -> io::Result<()> {
     match best {
         Some(order) => {
-            let (price, quantity, number) = (order.price, order.quantity, order.tag);
+            let (price, quantity, number) = (order.price, order.quantity, order.tag.number);
             writeln!(writer, "{word} {quantity} at {price}, order {number}")
         }
         None => writeln!(writer, "no {word}"),

@@ -1,29 +1,29 @@
 //! `Exchange`: a book whose orders are numbered.
 
 use crate::command::Fault;
-use order_book::{Auction, NewOrder, OrderBook, OrderId, OrderKind, Side, Trade};
+use order_book::{Auction, NewOrder, Order, OrderBook, OrderId, OrderKind, Side, Trade};
 use std::alloc::{AllocError, Global};
 use std::collections::HashMap;
 
-/// A resting order as the exchange keeps it.
+/// What the exchange knows of an order beside what the book does.
 #[derive(Clone, Copy)]
-struct Entry {
-    // its name on the book
-    id: OrderId,
-    // its owner's tag
-    tag: u64,
+pub struct Label {
+    /// Its number.
+    pub number: u64,
+    /// What its owner calls it; 0 if the owner gave no tag.
+    pub tag: u64,
 }
 
 /// A book whose orders are numbered as they come to rest, from 1 on. An order that is replaced keeps its number.
 ///
-/// On the book an order's tag is its number. The number of an order that was filled is forgotten when the next order or auction comes.
+/// The number of an order that was filled is forgotten when the next order or auction comes.
 #[derive(Drop)]
 pub struct Exchange {
-    pub book: OrderBook,
-    /// The trades of the last incoming order or auction; each has the number of the resting order as its tag.
-    pub trades: Vec<Trade>,
-    // The resting orders by number.
-    entries: HashMap<u64, Entry>,
+    pub book: OrderBook<Label>,
+    /// The trades of the last incoming order or auction, each with the label of the resting order.
+    pub trades: Vec<Trade<Label>>,
+    // The names of the resting orders on the book, by number.
+    ids: HashMap<u64, OrderId>,
     // The last number that was given.
     last: u64,
 }
@@ -34,7 +34,7 @@ impl Exchange {
         Exchange {
             book: OrderBook::new(alloc),
             trades: Vec::new(alloc),
-            entries: HashMap::new(alloc),
+            ids: HashMap::new(alloc),
             last: 0,
         }
     }
@@ -53,10 +53,10 @@ impl Exchange {
             side,
             kind,
             quantity,
-            tag: number,
+            tag: Label { number, tag },
         };
         let id = self.book.place(order, &mut self.trades)?;
-        Ok(self.enter(number, id, tag))
+        Ok(self.enter(number, id))
     }
 
     /// Puts an order at rest without trading. Returns its number.
@@ -69,8 +69,9 @@ impl Exchange {
     ) -> Result<Option<u64>, Fault> {
         self.make_ready()?;
         let number = self.last.wrapping_add(1);
-        let id = self.book.add(side, price, quantity, number)?;
-        Ok(self.enter(number, Some(id), tag))
+        let label = Label { number, tag };
+        let id = self.book.add(side, price, quantity, label)?;
+        Ok(self.enter(number, Some(id)))
     }
 
     /// Replaces the order of this number. Returns the number if something of it rests again.
@@ -80,43 +81,38 @@ impl Exchange {
         price: u64,
         quantity: u64,
     ) -> Result<Option<u64>, Fault> {
-        let entry = self.entry(number)?;
+        let old = self.id_of(number)?;
         self.make_ready()?;
         let kind = OrderKind::Limit(price);
-        let id = self
-            .book
-            .replace(entry.id, kind, quantity, &mut self.trades)?;
-        let _ = self.entries.remove(&number);
-        Ok(self.enter(number, id, entry.tag))
+        let id = self.book.replace(old, kind, quantity, &mut self.trades)?;
+        let _ = self.ids.remove(&number);
+        Ok(self.enter(number, id))
     }
 
     /// Removes the order of this number. Returns its price and what was left of it.
     pub fn cancel(&mut self, number: u64) -> Result<(u64, u64), Fault> {
-        let entry = self.entry(number)?;
-        let order = self.book.cancel(entry.id).ok_or(Fault::NoOrder)?;
-        let _ = self.entries.remove(&number);
+        let id = self.id_of(number)?;
+        let order = self.book.cancel(id).ok_or(Fault::NoOrder)?;
+        let _ = self.ids.remove(&number);
         Ok((order.price, order.quantity))
     }
 
     /// Executes this much of the order of this number, at most all of it; the trade is then the only one. Returns what is left of the order.
     pub fn execute(&mut self, number: u64, quantity: u64) -> Result<u64, Fault> {
-        let entry = self.entry(number)?;
+        let id = self.id_of(number)?;
         self.forget_filled();
         self.trades.reserve(1)?;
-        let trade = self
-            .book
-            .execute(entry.id, quantity)
-            .ok_or(Fault::NoExecution)?;
+        let trade = self.book.execute(id, quantity).ok_or(Fault::NoExecution)?;
         self.trades.push(trade)?;
         Ok(self.left(number))
     }
 
     /// Takes this much off the order of this number. Returns what is left of it.
     pub fn reduce(&mut self, number: u64, quantity: u64) -> Result<u64, Fault> {
-        let entry = self.entry(number)?;
-        let left = self.book.reduce(entry.id, quantity).ok_or(Fault::NoOrder)?;
+        let id = self.id_of(number)?;
+        let left = self.book.reduce(id, quantity).ok_or(Fault::NoOrder)?;
         if left == 0 {
-            let _ = self.entries.remove(&number);
+            let _ = self.ids.remove(&number);
         }
         Ok(left)
     }
@@ -127,11 +123,6 @@ impl Exchange {
         self.book.uncross(&mut self.trades)
     }
 
-    /// Returns the owner's tag of the order of this number, which rests or was filled by the last order or auction: 0 if there is none.
-    pub fn tag(&self, number: u64) -> u64 {
-        self.entries.get(&number).map_or(0, |entry| entry.tag)
-    }
-
     /// Returns whether there are any levels among so many first ones.
     pub fn has_levels(&self, levels: usize) -> bool {
         levels > 0 && (self.book.best_bid().is_some() || self.book.best_ask().is_some())
@@ -139,40 +130,41 @@ impl Exchange {
 
     /// Returns what is left of the order of this number.
     pub fn left(&self, number: u64) -> u64 {
-        let Some(entry) = self.entries.get(&number) else {
-            return 0;
-        };
-        self.book.get(entry.id).map_or(0, |order| order.quantity)
+        self.order(number).map_or(0, |order| order.quantity)
     }
 
     // The order of a number, if it rests.
-    fn entry(&self, number: u64) -> Result<Entry, Fault> {
-        match self.entries.get(&number) {
-            Some(entry) if self.book.get(entry.id).is_some() => Ok(*entry),
-            _ => Err(Fault::NoOrder),
+    fn order(&self, number: u64) -> Option<Order<Label>> {
+        self.book.get(*self.ids.get(&number)?)
+    }
+
+    // Its name on the book.
+    fn id_of(&self, number: u64) -> Result<OrderId, Fault> {
+        match self.order(number) {
+            Some(order) => Ok(order.id),
+            None => Err(Fault::NoOrder),
         }
     }
 
     // Forgets the orders that the last one filled, and makes room for another number.
     fn make_ready(&mut self) -> Result<(), AllocError> {
         self.forget_filled();
-        self.entries.reserve(1)
+        self.ids.reserve(1)
     }
 
     // Forgets the orders that the last order or auction filled, and its trades.
     fn forget_filled(&mut self) {
         for trade in &self.trades {
             if self.book.get(trade.order).is_none() {
-                let _ = self.entries.remove(&trade.tag);
+                let _ = self.ids.remove(&trade.tag.number);
             }
         }
         self.trades.clear();
     }
 
     // Enters an order that has come to rest. There is room for it.
-    fn enter(&mut self, number: u64, id: Option<OrderId>, tag: u64) -> Option<u64> {
-        let id = id?;
-        let _ = self.entries.insert(number, Entry { id, tag });
+    fn enter(&mut self, number: u64, id: Option<OrderId>) -> Option<u64> {
+        let _ = self.ids.insert(number, id?);
         self.last = self.last.max(number);
         Some(number)
     }

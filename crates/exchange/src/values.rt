@@ -3,7 +3,7 @@
 use crate::COMMANDS;
 use crate::answers::{Figures, left_of};
 use crate::command::Question;
-use crate::exchange::Exchange;
+use crate::exchange::{Exchange, Label};
 use order_book::{Auction, Level, Order, Side};
 use serde_json::{Number, Value, json};
 use std::alloc::Global;
@@ -21,8 +21,8 @@ fn quantity_value(alloc: Global, quantity: u128) -> io::Result<Value> {
 fn trades_value(alloc: Global, exchange: &Exchange) -> io::Result<Value> {
     let mut trades = Vec::new(alloc);
     for trade in &exchange.trades {
-        let (price, quantity, number) = (trade.price, trade.quantity, trade.tag);
-        let tag = exchange.tag(number);
+        let (price, quantity) = (trade.price, trade.quantity);
+        let Label { number, tag } = trade.tag;
         trades.push(
             json!(in alloc; {"quantity": quantity, "price": price, "order": number, "tag": tag})?,
         )?;
@@ -106,11 +106,11 @@ pub fn cancelled_value(alloc: Global, price: u64, quantity: u64) -> io::Result<V
 }
 
 // Returns the best order of a side.
-fn best_value(alloc: Global, best: Option<Order>) -> io::Result<Value> {
+fn best_value(alloc: Global, best: Option<Order<Label>>) -> io::Result<Value> {
     let Some(order) = best else {
         return Ok(Value::Null);
     };
-    let (price, quantity, number) = (order.price, order.quantity, order.tag);
+    let (price, quantity, number) = (order.price, order.quantity, order.tag.number);
     Ok(json!(in alloc; {"quantity": quantity, "price": price, "order": number})?)
 }
 

@@ -20,108 +20,111 @@ apart-worse : (side : Side) (p q r : ℕ) → IsNoWorse side p q → IsNoWorse s
 apart-worse Buy p q r worse further other = grind (arith, nat_tests, worse, further, other)
 apart-worse Sell p q r worse further other = grind (arith, nat_tests, worse, further, other)
 
--- none of the orders behind one of a worse price is at the price
-at-behind : (side : Side) (price : ℕ) (x : Order) (xs : List Order) → IsInOrder side (x ∷ xs) → IsNoWorse side price x.price → (x.price == price) ≡ false → orders_at price (x ∷ xs) ≡ []
-at-behind side price x xs sorted worse other = filter-none (λ (y : Order). y.price == price) (x ∷ xs)
-    (other, all-weaker _ _ (λ y further. apart-worse side price x.price y.price worse further other) xs sorted.0)
+module _ {T : Type 0} where
+  -- none of the orders behind one of a worse price is at the price
+  at-behind : (side : Side) (price : ℕ) (x : Order T) (xs : List (Order T)) → IsInOrder side (x ∷ xs) → IsNoWorse side price x.price → (x.price == price) ≡ false → orders_at price (x ∷ xs) ≡ []
+  at-behind side price x xs sorted worse other = filter-none (λ (y : Order T). y.price == price) (x ∷ xs)
+      (other, all-weaker _ _ (λ y further. apart-worse side price x.price y.price worse further other) xs sorted.0)
 
--- the level of these orders
-abbrev sum_of : ℕ → List Order → Level
-sum_of price xs = record { price = price; quantity = total xs; count = length xs }
+  -- the level of these orders
+  abbrev sum_of : ℕ → List (Order T) → Level
+  sum_of price xs = record { price = price; quantity = total xs; count = length xs }
 
-own-price : (x : Order) → (x.price == x.price) ≡ true
-own-price x = grind (arith, nat_tests)
+  own-price : (x : Order T) → (x.price == x.price) ≡ true
+  own-price x = grind (arith, nat_tests)
 
 same-sum : (price n m i j : ℕ) (ls : List Level) → n ≡ m → i ≡ j
     → ◌≡◌ {A = List Level} (record { price = price; quantity = n; count = i } ∷ ls) (record { price = price; quantity = m; count = j } ∷ ls)
 same-sum price n m i j ls quantities counts = rw (quantities, counts) refl
 
--- an order in front of a level of the same price, and of another one, behind which none has its price
-joins-level : (x : Order) (price : ℕ) (ys : List Order) (ls : List Level) → price ≡ x.price
-    → joined x (sum_of price (orders_at price ys) ∷ ls) ≡ sum_of x.price (orders_at x.price (x ∷ ys)) ∷ ls
-joins-level x price ys ls same = rw (same, own-price x) (same-sum x.price _ _ _ _ ls (omega arith) (omega arith))
+module _ {T : Type 0} where
+  -- an order in front of a level of the same price, and of another one, behind which none has its price
+  joins-level : (x : Order T) (price : ℕ) (ys : List (Order T)) (ls : List Level) → price ≡ x.price
+      → joined x (sum_of price (orders_at price ys) ∷ ls) ≡ sum_of x.price (orders_at x.price (x ∷ ys)) ∷ ls
+  joins-level x price ys ls same = rw (same, own-price x) (same-sum x.price _ _ _ _ ls (omega arith) (omega arith))
 
-begins-level : (x : Order) (l : Level) (ys : List Order) (ls : List Level) → (l.price == x.price) ≡ false → orders_at x.price ys ≡ []
-    → joined x (l ∷ ls) ≡ sum_of x.price (orders_at x.price (x ∷ ys)) ∷ l ∷ ls
-begins-level x l ys ls other none = rw (other, own-price x, none) (same-sum x.price _ _ _ _ (l ∷ ls) (omega arith) (omega arith))
+  begins-level : (x : Order T) (l : Level) (ys : List (Order T)) (ls : List Level) → (l.price == x.price) ≡ false → orders_at x.price ys ≡ []
+      → joined x (l ∷ ls) ≡ sum_of x.price (orders_at x.price (x ∷ ys)) ∷ l ∷ ls
+  begins-level x l ys ls other none = rw (other, own-price x, none) (same-sum x.price _ _ _ _ (l ∷ ls) (omega arith) (omega arith))
 
--- the first level of orders in order sums up all that are at the first one's price
-first-level : (side : Side) (x : Order) (xs : List Order) → IsInOrder side (x ∷ xs) → (ls : List Level) × (levels_of (x ∷ xs) ≡ sum_of x.price (orders_at x.price (x ∷ xs)) ∷ ls)
-first-level side x [] sorted = ([], rw (own-price x) (same-sum x.price _ _ _ _ [] (omega arith) (omega arith)))
-first-level side x (y ∷ ys) sorted =
-    let more = first-level side y ys sorted.1 in
-    let l : Level = sum_of y.price (orders_at y.price (y ∷ ys)) in
-    elim (eqb_tells y.price x.price) [
-      | inl h ↦ (more.0, ap (joined x) more.1 ∙ joins-level x y.price (y ∷ ys) more.0 h.1)
-      | inr h ↦ (l ∷ more.0, ap (joined x) more.1 ∙ begins-level x l (y ∷ ys) more.0 h.0 (at-behind side x.price y ys sorted.1 sorted.0.0 h.0))
-    ]
+  -- the first level of orders in order sums up all that are at the first one's price
+  first-level : (side : Side) (x : Order T) (xs : List (Order T)) → IsInOrder side (x ∷ xs) → (ls : List Level) × (levels_of (x ∷ xs) ≡ sum_of x.price (orders_at x.price (x ∷ xs)) ∷ ls)
+  first-level side x [] sorted = ([], rw (own-price x) (same-sum x.price _ _ _ _ [] (omega arith) (omega arith)))
+  first-level side x (y ∷ ys) sorted =
+      let more = first-level side y ys sorted.1 in
+      let l : Level = sum_of y.price (orders_at y.price (y ∷ ys)) in
+      elim (eqb_tells y.price x.price) [
+        | inl h ↦ (more.0, ap (joined x) more.1 ∙ joins-level x y.price (y ∷ ys) more.0 h.1)
+        | inr h ↦ (l ∷ more.0, ap (joined x) more.1 ∙ begins-level x l (y ∷ ys) more.0 h.0 (at-behind side x.price y ys sorted.1 sorted.0.0 h.0))
+      ]
 
--- which is their level at that price
-pub first-summed : (side : Side) (x : Order) (xs : List Order) (l : Level) (ls : List Level) → IsInOrder side (x ∷ xs) → levels_of (x ∷ xs) ≡ l ∷ ls → Some l ≡ level_at x.price (x ∷ xs)
-first-summed side x xs l ls sorted is =
-    let first = first-level side x xs sorted in
-    let both : l ∷ ls ≡ sum_of x.price (orders_at x.price (x ∷ xs)) ∷ first.0 = sym is ∙ first.1 in
-    let same : l ≡ sum_of x.price (orders_at x.price (x ∷ xs)) = cc in
-    let here : orders_at x.price (x ∷ xs) ≡ x ∷ orders_at x.price xs = rw (own-price x) refl in
-    ap (λ (m : Level). Some m) same ∙ rw here refl
+  -- which is their level at that price
+  pub first-summed : (side : Side) (x : Order T) (xs : List (Order T)) (l : Level) (ls : List Level) → IsInOrder side (x ∷ xs) → levels_of (x ∷ xs) ≡ l ∷ ls → Some l ≡ level_at x.price (x ∷ xs)
+  first-summed side x xs l ls sorted is =
+      let first = first-level side x xs sorted in
+      let both : l ∷ ls ≡ sum_of x.price (orders_at x.price (x ∷ xs)) ∷ first.0 = sym is ∙ first.1 in
+      let same : l ≡ sum_of x.price (orders_at x.price (x ∷ xs)) = cc in
+      let here : orders_at x.price (x ∷ xs) ≡ x ∷ orders_at x.price xs = rw (own-price x) refl in
+      ap (λ (m : Level). Some m) same ∙ rw here refl
 
 -- the level of a price among others
 abbrev pub level_where : ℕ → List Level → Option Level
 level_where price [] = None
 level_where price (l ∷ ls) = if l.price == price then Some l else level_where price ls
 
--- an order of another price in front changes none of them
-skips-order : (price : ℕ) (x : Order) (ls : List Level) → (x.price == price) ≡ false → level_where price (joined x ls) ≡ level_where price ls
-skips-order price x [] other = rw other refl
-skips-order price x (l ∷ ls) other = elim (eqb_tells l.price x.price) [
-  | inl h ↦ let apart : (l.price == price) ≡ false = rw h.1 other in rw (h.0, other, apart) refl
-  | inr h ↦ rw (h.0, other) refl
-]
+met-ranked : (side : Side) (price rank : ℕ) → price ≤ most_price → rank ≤ most_price → leb (ranked side price) rank ≡ meets side price (ranked side rank)
+met-ranked Buy price rank bounded lawful = grind (arith, nat_tests, lawful, bounded)
+met-ranked Sell price rank bounded lawful = grind (arith, nat_tests, lawful, bounded)
 
--- in the levels of orders in order it sums up those at the price
-pub level-found : (side : Side) (price : ℕ) (xs : List Order) → IsInOrder side xs → level_where price (levels_of xs) ≡ level_at price xs
-level-found side price [] sorted = refl
-level-found side price (x ∷ xs) sorted = elim (eqb_tells x.price price) [
-  | inl h ↦
-      let first = first-level side x xs sorted in
-      let here : level_where x.price (sum_of x.price (orders_at x.price (x ∷ xs)) ∷ first.0) ≡ Some (sum_of x.price (orders_at x.price (x ∷ xs))) = rw (own-price x) refl in
-      ap (λ (p : ℕ). level_where p (levels_of (x ∷ xs))) (sym h.1) ∙ ap (level_where x.price) first.1 ∙ here
-      ∙ first-summed side x xs (sum_of x.price (orders_at x.price (x ∷ xs))) first.0 sorted first.1 ∙ ap (λ (p : ℕ). level_at p (x ∷ xs)) h.1
-  | inr h ↦
-      let same : level_at price (x ∷ xs) ≡ level_at price xs = rw h.0 refl in
-      skips-order price x (levels_of xs) h.0 ∙ level-found side price xs sorted.1 ∙ sym same
-]
+module _ {T : Type 0} where
+  -- an order of another price in front changes none of them
+  skips-order : (price : ℕ) (x : Order T) (ls : List Level) → (x.price == price) ≡ false → level_where price (joined x ls) ≡ level_where price ls
+  skips-order price x [] other = rw other refl
+  skips-order price x (l ∷ ls) other = elim (eqb_tells l.price x.price) [
+    | inl h ↦ let apart : (l.price == price) ≡ false = rw h.1 other in rw (h.0, other, apart) refl
+    | inr h ↦ rw (h.0, other) refl
+  ]
 
--- the first level that an iterator gives, if it gives one, is the best
-pub top-first : (side : Side) (xs : List Order) → IsInOrder side xs → (o : Option Level) (left new : List Level) → left ≡ levels_of xs → YieldsFirst (λ left. left) left o new → o ≡ top_of xs
-top-first side [] sorted None left new is steps = refl
-top-first side [] sorted (Some l) left new is steps = absurd (let both : [] ≡ l ∷ new = sym is ∙ steps in cc)
-top-first side (x ∷ xs) sorted None left new is steps = absurd (let both = sym (first-level side x xs sorted).1 ∙ sym is ∙ steps.0 in cc)
-top-first side (x ∷ xs) sorted (Some l) left new is steps = first-summed side x xs l new sorted (sym is ∙ steps)
+  -- in the levels of orders in order it sums up those at the price
+  pub level-found : (side : Side) (price : ℕ) (xs : List (Order T)) → IsInOrder side xs → level_where price (levels_of xs) ≡ level_at price xs
+  level-found side price [] sorted = refl
+  level-found side price (x ∷ xs) sorted = elim (eqb_tells x.price price) [
+    | inl h ↦
+        let first = first-level side x xs sorted in
+        let here : level_where x.price (sum_of x.price (orders_at x.price (x ∷ xs)) ∷ first.0) ≡ Some (sum_of x.price (orders_at x.price (x ∷ xs))) = rw (own-price x) refl in
+        ap (λ (p : ℕ). level_where p (levels_of (x ∷ xs))) (sym h.1) ∙ ap (level_where x.price) first.1 ∙ here
+        ∙ first-summed side x xs (sum_of x.price (orders_at x.price (x ∷ xs))) first.0 sorted first.1 ∙ ap (λ (p : ℕ). level_at p (x ∷ xs)) h.1
+    | inr h ↦
+        let same : level_at price (x ∷ xs) ≡ level_at price xs = rw h.0 refl in
+        skips-order price x (levels_of xs) h.0 ∙ level-found side price xs sorted.1 ∙ sym same
+  ]
 
--- the quantity of a level
-pub summed-some : (price : ℕ) (xs : List Order) (l : Level) → Some l ≡ summed price xs → l.quantity ≡ total xs
-summed-some price [] l is = absurd (cc)
-summed-some price (x ∷ xs) l is = let same : l ≡ sum_of price (x ∷ xs) = cc in ap (λ (m : Level). m.quantity) same
+  -- the first level that an iterator gives, if it gives one, is the best
+  pub top-first : (side : Side) (xs : List (Order T)) → IsInOrder side xs → (o : Option Level) (left new : List Level) → left ≡ levels_of xs → YieldsFirst (λ left. left) left o new → o ≡ top_of xs
+  top-first side [] sorted None left new is steps = refl
+  top-first side [] sorted (Some l) left new is steps = absurd (let both : [] ≡ l ∷ new = sym is ∙ steps in cc)
+  top-first side (x ∷ xs) sorted None left new is steps = absurd (let both = sym (first-level side x xs sorted).1 ∙ sym is ∙ steps.0 in cc)
+  top-first side (x ∷ xs) sorted (Some l) left new is steps = first-summed side x xs l new sorted (sym is ∙ steps)
 
-pub summed-none : (price : ℕ) (xs : List Order) → None ≡ summed price xs → 0 ≡ total xs
-summed-none price [] is = refl
-summed-none price (x ∷ xs) is = absurd (cc)
+  -- the quantity of a level
+  pub summed-some : (price : ℕ) (xs : List (Order T)) (l : Level) → Some l ≡ summed price xs → l.quantity ≡ total xs
+  summed-some price [] l is = absurd (cc)
+  summed-some price (x ∷ xs) l is = let same : l ≡ sum_of price (x ∷ xs) = cc in ap (λ (m : Level). m.quantity) same
 
--- the rows from the rank of a price on are the orders from the price on
-module _ (side : Side) (price : ℕ) (bounded : price ≤ most_price) where
-  met-ranked : (s : Side) (rank : ℕ) → rank ≤ most_price → leb (ranked s price) rank ≡ meets s price (ranked s rank)
-  met-ranked Buy rank lawful = grind (arith, nat_tests, lawful, bounded)
-  met-ranked Sell rank lawful = grind (arith, nat_tests, lawful, bounded)
+  pub summed-none : (price : ℕ) (xs : List (Order T)) → None ≡ summed price xs → 0 ≡ total xs
+  summed-none price [] is = refl
+  summed-none price (x ∷ xs) is = absurd (cc)
 
-  pub from-ranked : (es : Entries) → AreLawful es → map (order_in side) (filter (is_from (ranked side price)) es) ≡ orders_from side price (map (order_in side) es)
-  from-ranked [] lawful = refl
-  from-ranked (e ∷ es) lawful = go (meets side price (ranked side e.item.0)) refl (from-ranked es lawful.1)
-    where
-      go : (b : Bool) → meets side price (ranked side e.item.0) ≡ b → map (order_in side) (filter (is_from (ranked side price)) es) ≡ orders_from side price (map (order_in side) es)
-          → map (order_in side) (filter (is_from (ranked side price)) (e ∷ es)) ≡ orders_from side price (map (order_in side) (e ∷ es))
-      go true met rest = rw (met-ranked side e.item.0 lawful.0.price, met, rest) refl
-      go false unmet rest = rw (met-ranked side e.item.0 lawful.0.price, unmet) rest
+  -- the rows from the rank of a price on are the orders from the price on
+  module _ (side : Side) (price : ℕ) (bounded : price ≤ most_price) where
+    pub from-ranked : (es : Entries T) → AreLawful es → map (order_in side) (filter (is_from (ranked side price)) es) ≡ orders_from side price (map (order_in side) es)
+    from-ranked [] lawful = refl
+    from-ranked (e ∷ es) lawful = go (meets side price (ranked side e.item.0)) refl (from-ranked es lawful.1)
+      where
+        go : (b : Bool) → meets side price (ranked side e.item.0) ≡ b → map (order_in side) (filter (is_from (ranked side price)) es) ≡ orders_from side price (map (order_in side) es)
+            → map (order_in side) (filter (is_from (ranked side price)) (e ∷ es)) ≡ orders_from side price (map (order_in side) (e ∷ es))
+        go true met rest = rw (met-ranked side price e.item.0 bounded lawful.0.price, met, rest) refl
+        go false unmet rest = rw (met-ranked side price e.item.0 bounded lawful.0.price, unmet) rest
 
 -- The level of a price among the levels of a ladder, by the rank of the price.
 module _ (side : Side) (price : ℕ) (bounded : price ≤ most_price) where

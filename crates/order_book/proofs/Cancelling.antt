@@ -32,30 +32,31 @@ module _ {X : Type 0} where
   kept-all (true ∷ bs) (x ∷ xs) all = ap (λ ys. x ∷ ys) (kept-all bs xs (omega (arith, all)))
   kept-all (false ∷ bs) (x ∷ xs) all = absurd (omega (arith, all, kept-fewer bs xs))
 
--- a pointer that names an order is its own
-pub pointer-own : (p : ℕ × ℕ) (x : Order) → is_named_by p x ≡ true → p ≡ x.id.pointer
-pointer-own p x = elim (eqb_tells x.id.pointer.0 p.0) [
-  | inl h ↦ elim (eqb_tells x.id.pointer.1 p.1) [
-    | inl k ↦ λ own. sym (rw (h.1, k.1) refl)
-    | inr k ↦ λ own. absurd (let wrong : false ≡ true = sym (rw (h.0, k.0) refl) ∙ own in cc)
+module _ {T : Type 0} where
+  -- a pointer that names an order is its own
+  pub pointer-own : (p : ℕ × ℕ) (x : Order T) → is_named_by p x ≡ true → p ≡ x.id.pointer
+  pointer-own p x = elim (eqb_tells x.id.pointer.0 p.0) [
+    | inl h ↦ elim (eqb_tells x.id.pointer.1 p.1) [
+      | inl k ↦ λ own. sym (rw (h.1, k.1) refl)
+      | inr k ↦ λ own. absurd (let wrong : false ≡ true = sym (rw (h.0, k.0) refl) ∙ own in cc)
+    ]
+    | inr h ↦ λ own. absurd (let wrong : false ≡ true = sym (rw h.0 refl) ∙ own in cc)
   ]
-  | inr h ↦ λ own. absurd (let wrong : false ≡ true = sym (rw h.0 refl) ∙ own in cc)
-]
 
--- what is named among those that are left, was named so
-pub named-kept : (bs : List Bool) (xs : List Order) (p : ℕ × ℕ) → IsDistinct xs → IsSome (order_of (items_where_true bs xs) p) → order_of (items_where_true bs xs) p ≡ order_of xs p
-named-kept [] xs p distinct = λ there. absurd (cc)
-named-kept (b ∷ bs) [] p distinct = λ there. absurd (cc)
-named-kept (true ∷ bs) (x ∷ xs) p distinct = elim (is_named_by p x) as (λ b. IsSome (if b then Some x else order_of (items_where_true bs xs) p) → (if b then Some x else order_of (items_where_true bs xs) p) ≡ (if b then Some x else order_of xs p)) [
-  | true ↦ λ there. refl
-  | false ↦ λ there. named-kept bs xs p distinct.1 there
-]
-named-kept (false ∷ bs) (x ∷ xs) p distinct = λ there. go (is_named_by p x) refl there (named-kept bs xs p distinct.1 there)
-  where
-    go : (b : Bool) → is_named_by p x ≡ b → IsSome (order_of (items_where_true bs xs) p) → order_of (items_where_true bs xs) p ≡ order_of xs p
-        → order_of (items_where_true bs xs) p ≡ order_of (x ∷ xs) p
-    go false other there same = same ∙ rw other refl
-    go true own there same = absurd (some-none _ (subst (λ (o : Option Order). IsSome o) (same ∙ ap (order_of xs) (pointer-own p x own)) there) distinct.0)
+  -- what is named among those that are left, was named so
+  pub named-kept : (bs : List Bool) (xs : List (Order T)) (p : ℕ × ℕ) → IsDistinct xs → IsSome (order_of (items_where_true bs xs) p) → order_of (items_where_true bs xs) p ≡ order_of xs p
+  named-kept [] xs p distinct = λ there. absurd (cc)
+  named-kept (b ∷ bs) [] p distinct = λ there. absurd (cc)
+  named-kept (true ∷ bs) (x ∷ xs) p distinct = elim (is_named_by p x) as (λ b. IsSome (if b then Some x else order_of (items_where_true bs xs) p) → (if b then Some x else order_of (items_where_true bs xs) p) ≡ (if b then Some x else order_of xs p)) [
+    | true ↦ λ there. refl
+    | false ↦ λ there. named-kept bs xs p distinct.1 there
+  ]
+  named-kept (false ∷ bs) (x ∷ xs) p distinct = λ there. go (is_named_by p x) refl there (named-kept bs xs p distinct.1 there)
+    where
+      go : (b : Bool) → is_named_by p x ≡ b → IsSome (order_of (items_where_true bs xs) p) → order_of (items_where_true bs xs) p ≡ order_of xs p
+          → order_of (items_where_true bs xs) p ≡ order_of (x ∷ xs) p
+      go false other there same = same ∙ rw other refl
+      go true own there same = absurd (some-none _ (subst (λ (o : Option (Order T)). IsSome o) (same ∙ ap (order_of xs) (pointer-own p x own)) there) distinct.0)
 
 -- so a name of an order that has left names nothing: generations rise, unless they begin again
 past-is : (n g : ℕ) → (generation_after_many greatest_generation n g ≡ g + n) ⊎ ((generation_after_many greatest_generation n g ≤ 1 + n) × (18446744073709551615 < g + n))
@@ -77,37 +78,38 @@ past-rises n g some few counted = elim (past-is n g) [
   | inr again ↦ absurd (omega (arith, few, counted, again.0, again.1))
 ]
 
-module _ (q : Queue) (bs : List Bool) (distinct : IsDistinct q.orders) (few : length q.orders ≤ most_entries) where
-  pub goes-kept : q.generation ≤ (with_kept q (items_where_true bs q.orders)).generation → GoesOn q (with_kept q (items_where_true bs q.orders))
-  goes-kept counted = record {
-    known = λ p there. inl (subst (λ (o : Option Order). IsSome o) (named-kept bs q.orders p distinct there) there);
-    ended = λ p was none. past-rises gone q.generation (some-left p was none) (omega arith) counted;
-  }
+module _ {T : Type 0} where
+  module _ (q : Queue T) (bs : List Bool) (distinct : IsDistinct q.orders) (few : length q.orders ≤ most_entries) where
+    pub goes-kept : q.generation ≤ (with_kept q (items_where_true bs q.orders)).generation → GoesOn q (with_kept q (items_where_true bs q.orders))
+    goes-kept counted = record {
+      known = λ p there. inl (subst (λ (o : Option (Order T)). IsSome o) (named-kept bs q.orders p distinct there) there);
+      ended = λ p was none. past-rises gone q.generation (some-left p was none) (omega arith) counted;
+    }
+      where
+        gone : ℕ
+        gone = length q.orders - length (items_where_true bs q.orders)
+
+        some-left : (p : ℕ × ℕ) → IsSome (order_of q.orders p) → order_of (items_where_true bs q.orders) p ≡ None → 0 < gone
+        some-left p was none = elim (leb_tells (length q.orders) (length (items_where_true bs q.orders))) [
+          | inl all ↦ absurd (some-none _ was (ap (λ xs. order_of xs p) (sym (kept-all bs q.orders all.1)) ∙ none))
+          | inr fewer ↦ omega (arith, fewer.1)
+        ]
+
+  -- a name of a side, of which some orders have left while the other side stayed as it was
+  pub name-kept : (side : Side) (old new : Book T) → queue new (opposite side) ≡ queue old (opposite side)
+      → ((p : ℕ × ℕ) → IsSome (order_of (queue new side).orders p) → order_of (queue new side).orders p ≡ order_of (queue old side).orders p)
+      → (id : Id) → IsSome (named new id) → named new id ≡ named old id
+  name-kept side old new same kept id = go side id.side same kept
     where
-      gone : ℕ
-      gone = length q.orders - length (items_where_true bs q.orders)
+      go : (s t : Side) → queue new (opposite s) ≡ queue old (opposite s) → ((p : ℕ × ℕ) → IsSome (order_of (queue new s).orders p) → order_of (queue new s).orders p ≡ order_of (queue old s).orders p)
+          → IsSome (order_of (queue new t).orders id.pointer) → order_of (queue new t).orders id.pointer ≡ order_of (queue old t).orders id.pointer
+      go Buy Buy other kept = kept id.pointer
+      go Sell Sell other kept = kept id.pointer
+      go Buy Sell other kept = λ there. ap (λ (q : Queue T). order_of q.orders id.pointer) other
+      go Sell Buy other kept = λ there. ap (λ (q : Queue T). order_of q.orders id.pointer) other
 
-      some-left : (p : ℕ × ℕ) → IsSome (order_of q.orders p) → order_of (items_where_true bs q.orders) p ≡ None → 0 < gone
-      some-left p was none = elim (leb_tells (length q.orders) (length (items_where_true bs q.orders))) [
-        | inl all ↦ absurd (some-none _ was (ap (λ xs. order_of xs p) (sym (kept-all bs q.orders all.1)) ∙ none))
-        | inr fewer ↦ omega (arith, fewer.1)
-      ]
-
--- a name of a side, of which some orders have left while the other side stayed as it was
-pub name-kept : (side : Side) (old new : Book) → queue new (opposite side) ≡ queue old (opposite side)
-    → ((p : ℕ × ℕ) → IsSome (order_of (queue new side).orders p) → order_of (queue new side).orders p ≡ order_of (queue old side).orders p)
-    → (id : Id) → IsSome (named new id) → named new id ≡ named old id
-name-kept side old new same kept id = go side id.side same kept
-  where
-    go : (s t : Side) → queue new (opposite s) ≡ queue old (opposite s) → ((p : ℕ × ℕ) → IsSome (order_of (queue new s).orders p) → order_of (queue new s).orders p ≡ order_of (queue old s).orders p)
-        → IsSome (order_of (queue new t).orders id.pointer) → order_of (queue new t).orders id.pointer ≡ order_of (queue old t).orders id.pointer
-    go Buy Buy other kept = kept id.pointer
-    go Sell Sell other kept = kept id.pointer
-    go Buy Sell other kept = λ there. ap (λ (q : Queue). order_of q.orders id.pointer) other
-    go Sell Buy other kept = λ there. ap (λ (q : Queue). order_of q.orders id.pointer) other
-
--- how names go on when a closure was asked, which may have cancelled some orders
-pub goes-cancelled : {F : Type 0} (m : Mut F (Order × Unit {0}) Bool) (f : F) (q new : Queue) → IsDistinct q.orders → length q.orders ≤ most_entries → Cancels m f q new → q.generation ≤ new.generation → GoesOn q new
-goes-cancelled m f q new distinct few cancels counted =
-    let left : new ≡ with_kept q (items_where_true cancels.filtered.0 q.orders) = cancels.after ∙ ap (with_kept q) cancels.filtered.4 in
-    subst (λ (r : Queue). GoesOn q r) (sym left) (goes-kept q cancels.filtered.0 distinct few (subst (λ (r : Queue). q.generation ≤ r.generation) left counted))
+  -- how names go on when a closure was asked, which may have cancelled some orders
+  pub goes-cancelled : {F : Type 0} (m : Mut F ((Order T) × Unit {0}) Bool) (f : F) (q new : Queue T) → IsDistinct q.orders → length q.orders ≤ most_entries → Cancels m f q new → q.generation ≤ new.generation → GoesOn q new
+  goes-cancelled m f q new distinct few cancels counted =
+      let left : new ≡ with_kept q (items_where_true cancels.filtered.0 q.orders) = cancels.after ∙ ap (with_kept q) cancels.filtered.4 in
+      subst (λ (r : Queue T). GoesOn q r) (sym left) (goes-kept q cancels.filtered.0 distinct few (subst (λ (r : Queue T). q.generation ≤ r.generation) left counted))

@@ -12,36 +12,37 @@ use Rattle.order_book.specs.QueueLayout.{AreLawful}
 use Rattle.order_book.specs.Ladder.{row_of, rows_of, AreLaid, Rise, IsCloneOf, IsLadder}
 use Rattle.order_book.proofs.Rows.{Orders, Levels, greatest-rows}
 
-module _ (orders : Chain Resting) (levels : Sorted ℕ Totals) (ladder : IsLadder orders levels) where
-  pub ladder-grown : (new : Chain Resting) (after : Sorted ℕ Totals) → new.entries ≡ orders.entries → new.maximum ≡ orders.maximum → after.entries ≡ levels.entries → new.capacity ≤ after.capacity
-      → IsLadder new after
-  ladder-grown new after entries maximum same room = record {
-    laid = subst (λ (ls : Levels). AreLaid ls new.entries) (sym same) (subst (λ (es : Orders). AreLaid levels.entries es) (sym entries) ladder.laid);
-    rising = subst Rise (sym same) ladder.rising;
-    distinct = subst (λ (es : Orders). IsDistinct (map row_of es)) (sym entries) ladder.distinct;
-    lawful = subst (λ (es : Orders). AreLawful (map row_of es)) (sym entries) ladder.lawful;
-    unlimited = maximum ∙ ladder.unlimited;
-    room = room;
-  }
+module _ {T : Type 0} where
+  module _ (orders : Chain (Resting T)) (levels : Sorted ℕ Totals) (ladder : IsLadder orders levels) where
+    pub ladder-grown : (new : Chain (Resting T)) (after : Sorted ℕ Totals) → new.entries ≡ orders.entries → new.maximum ≡ orders.maximum → after.entries ≡ levels.entries → new.capacity ≤ after.capacity
+        → IsLadder new after
+    ladder-grown new after entries maximum same room = record {
+      laid = subst (λ (ls : Levels). AreLaid ls new.entries) (sym same) (subst (λ (es : Orders T). AreLaid levels.entries es) (sym entries) ladder.laid);
+      rising = subst Rise (sym same) ladder.rising;
+      distinct = subst (λ (es : Orders T). IsDistinct (map row_of es)) (sym entries) ladder.distinct;
+      lawful = subst (λ (es : Orders T). AreLawful (map row_of es)) (sym entries) ladder.lawful;
+      unlimited = maximum ∙ ladder.unlimited;
+      room = room;
+    }
 
-  -- the list grows to a capacity, if it is not refused
-  module _ (capacity : ℕ) (more : orders.capacity ≤ capacity) (within : greatest_index orders.entries ≤ orders.capacity) {X E : Type 0} (r : Result X E) (new : Chain Resting)
-      (ok : OnOk r (new ≡ with_capacity orders (max capacity (greatest_index orders.entries)))) (err : OnErr r (new ≡ orders)) where
-    pub reallocated-ladder : (after : Sorted ℕ Totals) → after.entries ≡ levels.entries → capacity ≤ after.capacity → IsLadder new after
-    reallocated-ladder after same room = go r ok err
-      where
-        go : (r : Result X E) → OnOk r (new ≡ with_capacity orders (max capacity (greatest_index orders.entries))) → OnErr r (new ≡ orders) → IsLadder new after
-        go (Ok x) is none = ladder-grown new after (ap (λ (c : Chain Resting). c.entries) is) (ap (λ (c : Chain Resting). c.maximum) is) same
-            (omega (arith, ap (λ (c : Chain Resting). c.capacity) is, room, more, within))
-        go (Err e) none is = ladder-grown new after (ap (λ (c : Chain Resting). c.entries) is) (ap (λ (c : Chain Resting). c.maximum) is) same
-            (omega (arith, ap (λ (c : Chain Resting). c.capacity) is, room, more))
+    -- the list grows to a capacity, if it is not refused
+    module _ (capacity : ℕ) (more : orders.capacity ≤ capacity) (within : greatest_index orders.entries ≤ orders.capacity) {X E : Type 0} (r : Result X E) (new : Chain (Resting T))
+        (ok : OnOk r (new ≡ with_capacity orders (max capacity (greatest_index orders.entries)))) (err : OnErr r (new ≡ orders)) where
+      pub reallocated-ladder : (after : Sorted ℕ Totals) → after.entries ≡ levels.entries → capacity ≤ after.capacity → IsLadder new after
+      reallocated-ladder after same room = go r ok err
+        where
+          go : (r : Result X E) → OnOk r (new ≡ with_capacity orders (max capacity (greatest_index orders.entries))) → OnErr r (new ≡ orders) → IsLadder new after
+          go (Ok x) is none = ladder-grown new after (ap (λ (c : Chain (Resting T)). c.entries) is) (ap (λ (c : Chain (Resting T)). c.maximum) is) same
+              (omega (arith, ap (λ (c : Chain (Resting T)). c.capacity) is, room, more, within))
+          go (Err e) none is = ladder-grown new after (ap (λ (c : Chain (Resting T)). c.entries) is) (ap (λ (c : Chain (Resting T)). c.maximum) is) same
+              (omega (arith, ap (λ (c : Chain (Resting T)). c.capacity) is, room, more))
 
-    pub reallocated-capacity : OnOk r (new.capacity ≡ capacity)
-    reallocated-capacity = go r ok
-      where
-        go : (r : Result X E) → OnOk r (new ≡ with_capacity orders (max capacity (greatest_index orders.entries))) → OnOk r (new.capacity ≡ capacity)
-        go (Ok x) is = let at : new.capacity ≡ max capacity (greatest_index orders.entries) = ap (λ (c : Chain Resting). c.capacity) is in omega (arith, at, more, within)
-        go (Err e) none = tt
+      pub reallocated-capacity : OnOk r (new.capacity ≡ capacity)
+      reallocated-capacity = go r ok
+        where
+          go : (r : Result X E) → OnOk r (new ≡ with_capacity orders (max capacity (greatest_index orders.entries))) → OnOk r (new.capacity ≡ capacity)
+          go (Ok x) is = let at : new.capacity ≡ max capacity (greatest_index orders.entries) = ap (λ (c : Chain (Resting T)). c.capacity) is in omega (arith, at, more, within)
+          go (Err e) none = tt
 
 -- a refusal told of another call
 pub refusal-retold : {X Y : Type 0} (e f : ReallocationError) → ◌≡◌ {A = Result X ReallocationError} (Err e) (Err f) → ◌≡◌ {A = Result Y ReallocationError} (Err e) (Err f)
@@ -61,17 +62,18 @@ capacity-one capacity count within limited = elim (leb_tells capacity count) [
   | inr room ↦ rw (le-ltb capacity (count + 1) (omega (arith, room.1)), lt-ltb count capacity (omega (arith, room.1))) refl
 ]
 
--- a clone of a list, made by calls that return the item that they are shown
-pub list-cloned : (greatest : Option ℕ) (source old new : Chain Resting) → old ≡ new_chain greatest → new ≡ taken_over source old source.entries → IsCloneOf source new
-list-cloned greatest source old new was is = record {
-  entries = ap (λ (c : Chain Resting). c.entries) is;
-  generation = ap (λ (c : Chain Resting). c.generation) is;
-  capacity = ap (λ (c : Chain Resting). c.capacity) is ∙ (let none : old.capacity ≡ 0 = ap (λ (c : Chain Resting). c.capacity) was in let at : max old.capacity (greatest_index source.entries) ≡ greatest_index source.entries = omega (arith, none) in at);
-  unlimited = ap (λ (c : Chain Resting). c.maximum) is ∙ ap (λ (c : Chain Resting). c.maximum) was;
-}
+module _ {T : Type 0} where
+  -- a clone of a list, made by calls that return the item that they are shown
+  pub list-cloned : (greatest : Option ℕ) (source old new : Chain (Resting T)) → old ≡ new_chain greatest → new ≡ taken_over source old source.entries → IsCloneOf source new
+  list-cloned greatest source old new was is = record {
+    entries = ap (λ (c : Chain (Resting T)). c.entries) is;
+    generation = ap (λ (c : Chain (Resting T)). c.generation) is;
+    capacity = ap (λ (c : Chain (Resting T)). c.capacity) is ∙ (let none : old.capacity ≡ 0 = ap (λ (c : Chain (Resting T)). c.capacity) was in let at : max old.capacity (greatest_index source.entries) ≡ greatest_index source.entries = omega (arith, none) in at);
+    unlimited = ap (λ (c : Chain (Resting T)). c.maximum) is ∙ ap (λ (c : Chain (Resting T)). c.maximum) was;
+  }
 
-pub cloned-rows : (source new : Chain Resting) → IsCloneOf source new → rows_of new ≡ record (rows_of source) { capacity = greatest_index (map row_of source.entries) }
-cloned-rows source new clone = rw (clone.entries, clone.generation, clone.capacity) (ap (λ (n : ℕ). record (rows_of source) { capacity = n }) (sym (greatest-rows source.entries)))
+  pub cloned-rows : (source new : Chain (Resting T)) → IsCloneOf source new → rows_of new ≡ record (rows_of source) { capacity = greatest_index (map row_of source.entries) }
+  cloned-rows source new clone = rw (clone.entries, clone.generation, clone.capacity) (ap (λ (n : ℕ). record (rows_of source) { capacity = n }) (sym (greatest-rows source.entries)))
 
 -- a clone of no orders is not refused
 pub clone-granted : {X : Type 0} (e : ReallocationError) (limit capacity needed : ℕ) → (◌≡◌ {A = Result X ReallocationError} (Err e) (Err BeyondMaxCapacity) → limit < needed)

@@ -173,44 +173,45 @@ module _ {T : Type 0} (old new : Listing T) (p : ℕ × ℕ) (item : T) (front b
             rw kept refl
       ]
 
--- What an insertion makes of a list that is cut at its place.
-pub record Inserted (old new : Chain Resting) (p : ℕ × ℕ) (r : Resting) (front back : Orders) : Type 0 where
-  pub before : old.entries ≡ front ++ back
-  pub after : new.entries ≡ front ++ record { index = p.0; generation = p.1; item = r } ∷ back
-  pub capacity : new.capacity ≡ old.capacity
-  pub generation : new.generation ≡ old.generation
-  pub maximum : new.maximum ≡ old.maximum
-  pub of_generation : p.1 ≡ old.generation
-  pub unused : times p.0 old.entries ≡ 0
+module _ {T : Type 0} where
+  -- What an insertion makes of a list that is cut at its place.
+  pub record Inserted (old new : Chain (Resting T)) (p : ℕ × ℕ) (r : Resting T) (front back : Orders T) : Type 0 where
+    pub before : old.entries ≡ front ++ back
+    pub after : new.entries ≡ front ++ record { index = p.0; generation = p.1; item = r } ∷ back
+    pub capacity : new.capacity ≡ old.capacity
+    pub generation : new.generation ≡ old.generation
+    pub maximum : new.maximum ≡ old.maximum
+    pub of_generation : p.1 ≡ old.generation
+    pub unused : times p.0 old.entries ≡ 0
 
-pub inserted-cut : (old new : Chain Resting) (place : OrderEntry → Orders) (r : Resting) (p : ℕ × ℕ) (front back : Orders) → IsInsertion old new place r p.0 p.1
-    → old.entries ≡ front ++ back → ((e : OrderEntry) → place e ≡ front ++ e ∷ back) → Inserted old new p r front back
-inserted-cut old new place r p front back inserts cut placed =
-    let after = after-insertion old new place r p.0 p.1 inserts in
-    record {
-      before = cut;
-      after = ap (λ (c : Chain Resting). c.entries) after.1 ∙ placed _;
-      capacity = ap (λ (c : Chain Resting). c.capacity) after.1;
-      generation = ap (λ (c : Chain Resting). c.generation) after.1;
-      maximum = ap (λ (c : Chain Resting). c.maximum) after.1;
-      of_generation = inserts.generation;
-      unused = inserts.vacant.free;
-    }
+  pub inserted-cut : (old new : Chain (Resting T)) (place : OrderEntry T → Orders T) (r : Resting T) (p : ℕ × ℕ) (front back : Orders T) → IsInsertion old new place r p.0 p.1
+      → old.entries ≡ front ++ back → ((e : OrderEntry T) → place e ≡ front ++ e ∷ back) → Inserted old new p r front back
+  inserted-cut old new place r p front back inserts cut placed =
+      let after = after-insertion old new place r p.0 p.1 inserts in
+      record {
+        before = cut;
+        after = ap (λ (c : Chain (Resting T)). c.entries) after.1 ∙ placed _;
+        capacity = ap (λ (c : Chain (Resting T)). c.capacity) after.1;
+        generation = ap (λ (c : Chain (Resting T)). c.generation) after.1;
+        maximum = ap (λ (c : Chain (Resting T)). c.maximum) after.1;
+        of_generation = inserts.generation;
+        unused = inserts.vacant.free;
+      }
 
--- indexes stay distinct
-pub distinct-inserted : (old new : Chain Resting) (p : ℕ × ℕ) (r : Resting) (front back : Orders) → Inserted old new p r front back → IsDistinct old.entries → IsDistinct new.entries
-distinct-inserted old new p r front back inserts distinct i =
-    let once : times i (front ++ back) ≤ 1 = subst (λ (es : Orders). times i es ≤ 1) inserts.before (distinct i) in
-    let none : times p.0 (front ++ back) ≡ 0 = subst (λ (es : Orders). times p.0 es ≡ 0) inserts.before inserts.unused in
-    subst (λ (es : Orders). times i es ≤ 1) (sym inserts.after) (go once none)
-  where
-    go : times i (front ++ back) ≤ 1 → times p.0 (front ++ back) ≡ 0 → times i (front ++ record { index = p.0; generation = p.1; item = r } ∷ back) ≤ 1
-    go once none = elim (eqb_tells p.0 i) [
-      | inl h ↦
-          let zero : times i (front ++ back) ≡ 0 = subst (λ (j : ℕ). times j (front ++ back) ≡ 0) h.1 none in
-          let here : times i (record { index = p.0; generation = p.1; item = r } ∷ back) ≡ 1 + times i back = rw h.0 refl in
-          omega (arith, zero, here, times-append i front back, times-append i front (record { index = p.0; generation = p.1; item = r } ∷ back))
-      | inr h ↦
-          let here : times i (record { index = p.0; generation = p.1; item = r } ∷ back) ≡ 0 + times i back = rw h.0 refl in
-          omega (arith, once, here, times-append i front back, times-append i front (record { index = p.0; generation = p.1; item = r } ∷ back))
-    ]
+  -- indexes stay distinct
+  pub distinct-inserted : (old new : Chain (Resting T)) (p : ℕ × ℕ) (r : Resting T) (front back : Orders T) → Inserted old new p r front back → IsDistinct old.entries → IsDistinct new.entries
+  distinct-inserted old new p r front back inserts distinct i =
+      let once : times i (front ++ back) ≤ 1 = subst (λ (es : Orders T). times i es ≤ 1) inserts.before (distinct i) in
+      let none : times p.0 (front ++ back) ≡ 0 = subst (λ (es : Orders T). times p.0 es ≡ 0) inserts.before inserts.unused in
+      subst (λ (es : Orders T). times i es ≤ 1) (sym inserts.after) (go once none)
+    where
+      go : times i (front ++ back) ≤ 1 → times p.0 (front ++ back) ≡ 0 → times i (front ++ record { index = p.0; generation = p.1; item = r } ∷ back) ≤ 1
+      go once none = elim (eqb_tells p.0 i) [
+        | inl h ↦
+            let zero : times i (front ++ back) ≡ 0 = subst (λ (j : ℕ). times j (front ++ back) ≡ 0) h.1 none in
+            let here : times i (record { index = p.0; generation = p.1; item = r } ∷ back) ≡ 1 + times i back = rw h.0 refl in
+            omega (arith, zero, here, times-append i front back, times-append i front (record { index = p.0; generation = p.1; item = r } ∷ back))
+        | inr h ↦
+            let here : times i (record { index = p.0; generation = p.1; item = r } ∷ back) ≡ 0 + times i back = rw h.0 refl in
+            omega (arith, once, here, times-append i front back, times-append i front (record { index = p.0; generation = p.1; item = r } ∷ back))
+      ]

@@ -32,9 +32,10 @@ pub same-auction : (price : ℕ) (n m k l : ℕ) → n ≡ m → k ≡ l
     → ◌≡◌ {A = Auction} (record { price = price; quantity = n; surplus = k }) (record { price = price; quantity = m; surplus = l })
 same-auction price n m k l quantities surpluses = rw (quantities, surpluses) refl
 
--- it doesn't matter which side is the first
-pub auction-turned : (q r : Queue) (price : ℕ) → auction_at q r price ≡ auction_at r q price
-auction-turned q r price = same-auction price _ _ _ _ (omega arith) (omega arith)
+module _ {T : Type 0} where
+  -- it doesn't matter which side is the first
+  pub auction-turned : (q r : Queue T) (price : ℕ) → auction_at q r price ≡ auction_at r q price
+  auction-turned q r price = same-auction price _ _ _ _ (omega arith) (omega arith)
 
 -- of two of which neither is better the price is the same
 pub same-price : (a b : Auction) → IsNoBetter a b → IsNoBetter b a → a.price ≡ b.price

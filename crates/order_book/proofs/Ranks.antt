@@ -33,14 +33,15 @@ module _ {X : Type 0} where
   recursion-map f P Q follows (x ∷ xs) all = (follows x all.0, recursion-map f P Q follows xs all.1)
 
 -- entries of orders, by the ranks of their prices
-abbrev pub Entries : Type 0
-Entries = List (Entry (ℕ × Lot))
+abbrev pub Entries : Type 0 → Type 0
+Entries T = List (Entry (ℕ × Lot T))
 
--- entries in the order of their ranks are orders in order
-pub in_order-sorted : (side : Side) (es : Entries) → AreSorted nat_cmp es → IsInOrder side (map (order_in side) es)
-in_order-sorted side [] sorted = tt
-in_order-sorted side (e ∷ es) sorted = (
-  recursion-map (order_in side) (λ (f : Entry (ℕ × Lot)). nat_cmp e.item.0 f.item.0 ≢ Greater) (λ y. IsNoWorse side (ranked side e.item.0) y.price)
-      (λ f least. no_worse-ranked side e.item.0 f.item.0 least) es (recursion_from_All _ es sorted.0),
-  in_order-sorted side es sorted.1,
-)
+module _ {T : Type 0} where
+  -- entries in the order of their ranks are orders in order
+  pub in_order-sorted : (side : Side) (es : Entries T) → AreSorted nat_cmp es → IsInOrder side (map (order_in side) es)
+  in_order-sorted side [] sorted = tt
+  in_order-sorted side (e ∷ es) sorted = (
+    recursion-map (order_in side) (λ (f : Entry (ℕ × Lot T)). nat_cmp e.item.0 f.item.0 ≢ Greater) (λ y. IsNoWorse side (ranked side e.item.0) y.price)
+        (λ f least. no_worse-ranked side e.item.0 f.item.0 least) es (recursion_from_All _ es sorted.0),
+    in_order-sorted side es sorted.1,
+  )

@@ -13,9 +13,10 @@ pub granted-of : {X E : Type 0} (P : X → Type 0) (r : Result X E) (x : X) → 
 granted-of P (Ok y) x is fact = subst P (let same : y ≡ x = cc in same) fact
 granted-of P (Err e) x is fact = absurd (cc)
 
--- what keeps its room keeps it as a side of a book
-pub room-on : (side at : Side) (old new : Book) (before after : Queue) → side ≡ at → queue old at ≡ before → queue new at ≡ after
-    → ((n : ℕ) → HasRoomFor n before → HasRoomFor n after) → (n : ℕ) → HasRoomFor n (queue old side) → HasRoomFor n (queue new side)
-room-on side at old new before after here was is fact =
-    subst (λ (s : Side). (n : ℕ) → HasRoomFor n (queue old s) → HasRoomFor n (queue new s)) (sym here)
-    (λ n room. subst (HasRoomFor n) (sym is) (fact n (subst (HasRoomFor n) was room)))
+module _ {T : Type 0} where
+  -- what keeps its room keeps it as a side of a book
+  pub room-on : (side at : Side) (old new : Book T) (before after : Queue T) → side ≡ at → queue old at ≡ before → queue new at ≡ after
+      → ((n : ℕ) → HasRoomFor n before → HasRoomFor n after) → (n : ℕ) → HasRoomFor n (queue old side) → HasRoomFor n (queue new side)
+  room-on side at old new before after here was is fact =
+      subst (λ (s : Side). (n : ℕ) → HasRoomFor n (queue old s) → HasRoomFor n (queue new s)) (sym here)
+      (λ n room. subst (HasRoomFor n) (sym is) (fact n (subst (HasRoomFor n) was room)))

@@ -19,7 +19,8 @@ abbrev pub left_within : Side → ℕ → List Level → List Level
 left_within side limit [] = []
 left_within side limit (l ∷ ls) = if meets side l.price limit then l ∷ ls else left_within side limit ls
 
--- the auction of two sides at the price of an order of the first
-pub record IsOfOrder (own other : Queue) (a : Auction) : Type 0 where
-  pub is : a ≡ auction_at own other a.price
-  pub of_order : 0 < total (orders_at a.price own.orders)
+module _ {T : Type 0} where
+  -- the auction of two sides at the price of an order of the first
+  pub record IsOfOrder (own other : Queue T) (a : Auction) : Type 0 where
+    pub is : a ≡ auction_at own other a.price
+    pub of_order : 0 < total (orders_at a.price own.orders)

@@ -5,6 +5,7 @@ pub mod Book
 pub mod Names
 pub mod Auction
 pub mod Snapshot
+pub mod Price
 pub mod Words
 -- How a queue lies in its arena, how a book is made of two queues, and what an order does to them. No public clause cites these files.
 pub mod QueueLayout

@@ -102,9 +102,9 @@ fn pass_unmet<A: Allocator>(
 }
 
 /// Returns the best of an auction and those at the prices of one side's orders. O(m).
-pub(crate) fn best_auction<A: Allocator>(
-    own: &OrderQueue<A>,
-    other: &OrderQueue<A>,
+pub(crate) fn best_auction<T: Copy, A: Allocator>(
+    own: &OrderQueue<T, A>,
+    other: &OrderQueue<T, A>,
     known: Auction,
 ) -> Auction
     requires { other.now.side ≡ opposite own.now.side }

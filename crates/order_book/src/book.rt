@@ -1,7 +1,7 @@
 //! `OrderBook`: bids and asks.
 
 ghost use Rattle.std.specs.Prelude.{◌≡◌, ◌≢◌, ◌↔◌, ◌+◌, ◌-◌, ◌≤◌, ◌<◌, ◌++◌, ◌⊎◌, ℕ, true, false, Ok, Err, Some, None, length, vec_capacity};
-ghost use Rattle.std.specs.Prelude.{IfOk, OnOk, OnErr, OnSome, IfSome, IfNone};
+ghost use Rattle.std.specs.Prelude.{IfOk, OnOk, OnErr, OnSome, IfSome, IfNone, IsSomeAnd};
 ghost use Rattle.std.specs.Option.{option_map};
 ghost use Rattle.sorted_arena.specs.PlainArena.{capacity_for};
 ghost use Rattle.order_book.specs.Queue.{most_entries, first_of, first_levels, resting, traded, within, reduced_order, total, volume, HasRoomFor};
@@ -31,7 +31,7 @@ use sorted_arena::ReallocationError;
 use std::alloc::{Allocator, Global};
 use std::marker::Model;
 
-/// A price-time order book.
+/// A price-time order book, whose orders carry what their owners keep with them: a number, an account, or whatever is `Copy`.
 ///
 /// An incoming order trades with the other side as far as its limit allows: the best price first, at equal prices the oldest order first,
 /// at the price of the resting order. What is left of it rests on its own side under an id, if its kind rests.
@@ -40,18 +40,18 @@ use std::marker::Model;
 /// rest without trading.
 ///
 /// In contracts a book is two queues, bids and asks, each a list of orders in the order in which they trade. [`count`](Self::count)
-/// promises what holds of every book. In the docs n is the number of orders on a side, m that of its price levels, and
+/// promises what holds of every book, and `T` is the type of the orders' tags. In the docs n is the number of orders on a side, m that of its price levels, and
 /// k that of the orders that are filled. In the examples of the calls `book` is an empty book, as `OrderBook::new(rt.alloc())` makes it.
 #[derive(Drop)]
-pub struct OrderBook<A: Allocator = Global> {
-    bids: OrderQueue<A>,
-    asks: OrderQueue<A>,
+pub struct OrderBook<T: Copy = u64, A: Allocator = Global> {
+    bids: OrderQueue<T, A>,
+    asks: OrderQueue<T, A>,
 }
 
-impl<A: Allocator> Model for OrderBook<A> {
+impl<T: Copy, A: Allocator> Model for OrderBook<T, A> {
     ghost use Rattle.order_book.specs.Book.{Book};
 
-    ghost Value = { Book };
+    ghost Value = { Book T };
 
     ghost use Rattle.order_book.specs.Layout.{IsPairOfQueues};
 
@@ -60,7 +60,7 @@ impl<A: Allocator> Model for OrderBook<A> {
     ghost invariant = { λ b. IsPairOfQueues b.bids b.asks };
 }
 
-impl<A: Allocator> OrderBook<A> {
+impl<T: Copy, A: Allocator> OrderBook<T, A> {
     /// Creates a book without orders. It takes no memory until an order rests.
     pub fn new(alloc: A) -> Self
     where
@@ -75,7 +75,7 @@ impl<A: Allocator> OrderBook<A> {
     }
 
     // The orders of a side.
-    fn side(&self, side: Side) -> &OrderQueue<A>
+    fn side(&self, side: Side) -> &OrderQueue<T, A>
         ensures { result.now ≡ queue self.now side }
     {
         match side {
@@ -123,6 +123,8 @@ impl<A: Allocator> OrderBook<A> {
         ensures asks { self.new.asks.orders ≡ self.old.asks.orders }
         ensures capacity { OnOk result ((queue self.new side).capacity ≡ capacity_for most_entries
             (queue self.old side).capacity (length (queue self.old side).orders + additional)) }
+        ensures generation { (queue self.new side).generation
+            ≡ (queue self.old side).generation }
         ensures room { OnOk result (HasRoomFor additional (queue self.new side)) }
         ensures other_side { queue self.new (opposite side) ≡ queue self.old (opposite side) }
         ensures full { (result ≡ Err ReallocationError.BeyondMaxCapacity)
@@ -140,7 +142,7 @@ impl<A: Allocator> OrderBook<A> {
     }
 
     /// Returns the bid that trades first, the oldest at the highest price, in O(1).
-    pub fn best_bid(&self) -> Option<Order>
+    pub fn best_bid(&self) -> Option<Order<T>>
         ensures { result ≡ first_of self.now.bids.orders }
     {
         self.bids.first()
@@ -155,7 +157,7 @@ impl<A: Allocator> OrderBook<A> {
     /// assert_eq!(rt; book.best_ask().map(|ask| ask.price), Some(101));
     /// ```
     #[tactic(auto, using(crate::proofs::Apart::first_above))]
-    pub fn best_ask(&self) -> Option<Order>
+    pub fn best_ask(&self) -> Option<Order<T>>
         ensures value { result ≡ first_of self.now.asks.orders }
         ensures above_bids { IsUncrossed self.now → IfSome result
             (λ ask. IfSome (first_of self.now.bids.orders) (λ bid. bid.price < ask.price)) }
@@ -175,7 +177,7 @@ impl<A: Allocator> OrderBook<A> {
     /// }
     /// assert_eq!(rt; prices.as_slice(), [101, 103].as_slice());
     /// ```
-    pub fn iter(&self, side: Side) -> Orders<'_, A>
+    pub fn iter(&self, side: Side) -> Orders<'_, T, A>
         ensures { result ≡ (queue self.now side).orders }
     {
         self.side(side).iter()
@@ -199,7 +201,7 @@ impl<A: Allocator> OrderBook<A> {
     }
 
     /// Returns a resting order, in O(1). `None` if `id` names no order.
-    pub fn get(&self, id: OrderId) -> Option<Order>
+    pub fn get(&self, id: OrderId) -> Option<Order<T>>
         ensures { result ≡ named self.now id }
     {
         self.side(id.side()).get(id.pointer())
@@ -254,7 +256,7 @@ impl<A: Allocator> OrderBook<A> {
     /// assert_eq!(rt; cancelled.map(|order| order.quantity), Some(10));
     /// assert_eq!(rt; book.best_ask(), None);
     /// ```
-    pub fn cancel(&mut self, id: OrderId) -> Option<Order>
+    pub fn cancel(&mut self, id: OrderId) -> Option<Order<T>>
         ensures value { result ≡ named self.old id }
         ensures changes { ChangesOrder self.old id None result self.new }
         ensures count { OnSome result (length (queue self.old id.side).orders
@@ -295,7 +297,7 @@ impl<A: Allocator> OrderBook<A> {
     }
 
     // Why an order's kind doesn't let it in, if so.
-    fn refusal(&self, order: NewOrder) -> Option<PlacingError>
+    fn refusal(&self, order: NewOrder<T>) -> Option<PlacingError>
         ensures nothing { (result ≡ Some PlacingError.NoQuantity) ↔ (order.quantity ≡ 0) }
         ensures trade { (result ≡ Some PlacingError.WouldTrade) ↔ ((order.quantity ≢ 0)
             × (only_rests order.kind ≡ true) × (0 < trades_for self.now order)) }
@@ -357,8 +359,8 @@ impl<A: Allocator> OrderBook<A> {
     /// O(k), and O(log m) for each price level that is emptied and for the rest; plus O(n) when its side grows (amortized O(1)).
     pub fn place<B: Allocator>(
         &mut self,
-        order: NewOrder,
-        trades: &mut Vec<Trade, B>,
+        order: NewOrder<T>,
+        trades: &mut Vec<Trade<T>, B>,
     ) -> Result<Option<OrderId>, PlacingError>
         ensures placed { IfOk result (λ id. Places self.old order id self.new) }
         ensures trades { OnOk result
@@ -448,33 +450,35 @@ impl<A: Allocator> OrderBook<A> {
         id: OrderId,
         kind: OrderKind,
         quantity: u64,
-        trades: &mut Vec<Trade, B>,
+        trades: &mut Vec<Trade<T>, B>,
     ) -> Result<Option<OrderId>, ReplacingError>
-        ensures placed { IfOk result (λ new. Places (without self.old id)
-            (replacement self.old id kind quantity) new self.new) }
-        ensures trades { OnOk result (trades.new.items ≡ trades.old.items
-            ++ trades_of (without self.old id) (replacement self.old id kind quantity)) }
-        ensures named { IfOk result (λ new. IfSome new (λ i. named self.new i
-            ≡ Some (resting id.side i.pointer (limit_of id.side kind)
-            (rest_of (without self.old id) (replacement self.old id kind quantity))
-            (replacement self.old id kind quantity).tag))) }
-        ensures bought { OnOk result (volume (trades_of (without self.old id)
-            (replacement self.old id kind quantity)) + untraded (without self.old id)
-            (replacement self.old id kind quantity) ≡ quantity) }
-        ensures sold { OnOk result (total (queue self.new (opposite id.side)).orders
-            + volume (trades_of (without self.old id) (replacement self.old id kind quantity))
-            ≡ total (queue self.old (opposite id.side)).orders) }
-        ensures limited { OnOk result (AreWithin (opposite id.side) (limit_of id.side kind)
-            (trades_of (without self.old id) (replacement self.old id kind quantity))) }
-        ensures others { IfOk result (λ new. (other : _) → Some other ≢ new → other ≢ id
-            → IsUntraded other (trades_of (without self.old id)
-            (replacement self.old id kind quantity))
-            → named self.new other ≡ named self.old other) }
+        ensures placed { IfSome (named self.old id) (λ x. IfOk result
+            (λ new. Places (without self.old id) (replacement id x.tag kind quantity) new self.new)) }
+        ensures trades { IfSome (named self.old id) (λ x. OnOk result (trades.new.items
+            ≡ trades.old.items
+            ++ trades_of (without self.old id) (replacement id x.tag kind quantity))) }
+        ensures named { IfSome (named self.old id) (λ x. IfOk result (λ new. IfSome new
+            (λ i. named self.new i ≡ Some (resting id.side i.pointer (limit_of id.side kind)
+            (rest_of (without self.old id) (replacement id x.tag kind quantity)) x.tag)))) }
+        ensures bought { IfSome (named self.old id) (λ x. OnOk result (volume (trades_of
+            (without self.old id) (replacement id x.tag kind quantity)) + untraded
+            (without self.old id) (replacement id x.tag kind quantity) ≡ quantity)) }
+        ensures sold { IfSome (named self.old id) (λ x. OnOk result
+            (total (queue self.new (opposite id.side)).orders + volume (trades_of
+            (without self.old id) (replacement id x.tag kind quantity))
+            ≡ total (queue self.old (opposite id.side)).orders)) }
+        ensures limited { IfSome (named self.old id) (λ x. OnOk result
+            (AreWithin (opposite id.side) (limit_of id.side kind)
+            (trades_of (without self.old id) (replacement id x.tag kind quantity)))) }
+        ensures others { IfSome (named self.old id) (λ x. IfOk result (λ new. (other : _)
+            → Some other ≢ new → other ≢ id → IsUntraded other (trades_of (without self.old id)
+            (replacement id x.tag kind quantity)) → named self.new other ≡ named self.old other)) }
         ensures at_once { can_rest kind ≡ false → IfOk result (λ new. new ≡ None) }
         ensures posted { only_rests kind ≡ true → OnOk result
             (trades.new.items ≡ trades.old.items) }
-        ensures whole { is_whole kind ≡ true → OnOk result (volume (trades_of
-            (without self.old id) (replacement self.old id kind quantity)) ≡ quantity) }
+        ensures whole { IfSome (named self.old id) (λ x. is_whole kind ≡ true → OnOk result
+            (volume (trades_of (without self.old id) (replacement id x.tag kind quantity))
+            ≡ quantity)) }
         ensures room { OnOk result ((n : ℕ) → HasRoomFor n (queue self.old id.side)
             → HasRoomFor n (queue self.new id.side)) }
         ensures other_room { OnOk result ((n : ℕ)
@@ -485,14 +489,14 @@ impl<A: Allocator> OrderBook<A> {
         ensures unknown { (result ≡ Err ReplacingError.NoOrder)
             ↔ ((quantity ≢ 0) × (named self.old id ≡ None)) }
         ensures would_trade { (result ≡ Err ReplacingError.WouldTrade)
-            ↔ ((quantity ≢ 0) × (named self.old id ≢ None) × (only_rests kind ≡ true)
-            × (0 < trades_for self.old (replacement self.old id kind quantity))) }
+            ↔ ((quantity ≢ 0) × (only_rests kind ≡ true) × IsSomeAnd (named self.old id)
+            (λ x. 0 < trades_for self.old (replacement id x.tag kind quantity))) }
         ensures would_not_fill { (result ≡ Err ReplacingError.WouldNotFill)
-            ↔ ((quantity ≢ 0) × (named self.old id ≢ None) × (is_whole kind ≡ true)
-            × (0 < untraded self.old (replacement self.old id kind quantity))) }
-        ensures memory { result ≡ Err ReplacingError.AllocError
+            ↔ ((quantity ≢ 0) × (is_whole kind ≡ true) × IsSomeAnd (named self.old id)
+            (λ x. 0 < untraded self.old (replacement id x.tag kind quantity))) }
+        ensures memory { IfSome (named self.old id) (λ x. result ≡ Err ReplacingError.AllocError
             → LacksRoom (vec_capacity trades.old) (length trades.old.items)
-            (trades_of (without self.old id) (replacement self.old id kind quantity)) }
+            (trades_of (without self.old id) (replacement id x.tag kind quantity))) }
         ensures steps { StepsOrRefuses self.old trades.old.items result
             self.new trades.new.items }
         ensures uncrossed { IsUncrossed self.old → IsUncrossed self.new }

@@ -21,11 +21,11 @@ use std::alloc::{Allocator, Global};
 /// What the list keeps of an order.
 #[doc(hidden)]
 #[derive(Clone, Copy, PartialEq, Eq, Debug)]
-pub struct Resting {
+pub struct Resting<T> {
     /// The rank of its price.
     pub rank: u64,
     /// What is left of it, and its tag.
-    pub lot: Lot,
+    pub lot: Lot<T>,
     /// The pointer of its level.
     pub level: P0,
 }
@@ -48,16 +48,16 @@ pub struct Totals {
 /// leaves takes its part off its level, without a search. There is room for as many levels as for orders.
 #[doc(hidden)]
 #[derive(Drop)]
-pub struct Ladder<A: Allocator = Global> {
+pub struct Ladder<T: Copy, A: Allocator = Global> {
     /// The orders.
-    pub orders: ChainArena<P0, Resting, A>,
+    pub orders: ChainArena<P0, Resting<T>, A>,
     /// The levels by rank.
     pub levels: SortedArena<u64, Totals, P0, A>,
     /// The level that an order joined last, which is tried first for the next order.
     pub recent: Option<P0>,
 }
 
-impl<A: Allocator> Ladder<A> {
+impl<T: Copy, A: Allocator> Ladder<T, A> {
     /// Creates a ladder without orders. It takes no memory.
     pub(crate) fn new(alloc: A) -> Self
     where
@@ -108,7 +108,7 @@ impl<A: Allocator> Ladder<A> {
     }
 
     /// Returns the rank and the lot of the order that the pointer names, if it names one.
-    pub(crate) fn get(&self, pointer: P0) -> Option<(u64, Lot)>
+    pub(crate) fn get(&self, pointer: P0) -> Option<(u64, Lot<T>)>
         ensures { result ≡ get (rows_of self.now.orders) pointer }
     {
         let order = self.orders.get(pointer)?;

@@ -45,7 +45,7 @@ impl<'a, A: Allocator> Model for Depth<'a, A> {
     ghost view = { λ d. take d.levels (map (level_in d.side) d.rest) };
 }
 
-impl<A: Allocator> OrderQueue<A> {
+impl<T: Copy, A: Allocator> OrderQueue<T, A> {
     /// Returns an iterator over the first `levels` price levels, the best price first: fewer if there are fewer. O(1).
     pub fn depth(&self, levels: usize) -> Depth<'_, A>
         ensures { result ≡ first_levels levels self.now.orders }

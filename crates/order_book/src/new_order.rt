@@ -61,19 +61,19 @@ impl OrderKind {
 
 /// An incoming order.
 #[derive(Clone, Copy, PartialEq, Eq, Debug)]
-pub struct NewOrder {
+pub struct NewOrder<T = u64> {
     /// Its side.
     pub side: Side,
     /// What it does with its quantity.
     pub kind: OrderKind,
     /// How much it wants to trade.
     pub quantity: u64,
-    /// A number of its owner's, which its resting rest and its trades show.
-    pub tag: u64,
+    /// What its owner keeps with it: its resting rest and the trades with that show it.
+    pub tag: T,
 }
 
 impl NewOrder {
-    /// Makes a limit order with tag 0.
+    /// Makes a limit order with tag 0. [`with_tag`](Self::with_tag) gives it another.
     pub fn limit(side: Side, price: u64, quantity: u64) -> Self
         ensures { result ≡ record {
           side = side;
@@ -104,6 +104,30 @@ impl NewOrder {
             kind: OrderKind::Market,
             quantity,
             tag: 0,
+        }
+    }
+
+    /// Returns the order with this tag, of whatever type, in place of its own.
+    ///
+    /// ```
+    /// let mut trades = Vec::new(rt.alloc());
+    /// book.place(NewOrder::limit(Side::Sell, 101, 10).with_tag(7), &mut trades)?;
+    /// book.place(NewOrder::limit(Side::Buy, 101, 4).with_tag(8), &mut trades)?;
+    /// assert_eq!(rt; trades.last().map(|trade| (trade.quantity, trade.tag)), Some((4, 7)));
+    /// ```
+    pub fn with_tag<T>(self, tag: T) -> NewOrder<T>
+        ensures { result ≡ record {
+          side = self.side;
+          kind = self.kind;
+          quantity = self.quantity;
+          tag = tag;
+        } }
+    {
+        NewOrder {
+            side: self.side,
+            kind: self.kind,
+            quantity: self.quantity,
+            tag,
         }
     }
 }

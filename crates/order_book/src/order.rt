@@ -75,28 +75,29 @@ impl OrderId {
     }
 }
 
-/// A resting order.
+/// A resting order. `T` is what its owner keeps with it.
 #[derive(Clone, Copy, PartialEq, Eq, Debug)]
-pub struct Order {
+pub struct Order<T = u64> {
     /// The name of the order.
     pub id: OrderId,
     /// The price of one unit, in whatever unit the program counts it.
     pub price: u64,
     /// How much is left of it, at least 1.
     pub quantity: u64,
-    /// The number that its owner gave it.
-    pub tag: u64,
+    /// What its owner keeps with it, as a number or an account.
+    pub tag: T,
 }
 
-impl Order {
+impl<T: Copy> Order<T> {
     /// Returns the trade of so many units of the order with one of the other side.
-    pub(crate) fn trade(self, quantity: u64) -> Trade
+    pub(crate) fn trade(self, quantity: u64) -> Trade<T>
         ensures { result ≡ trade_with self quantity }
     {
         Trade {
             order: self.id,
             price: self.price,
             quantity,
+            left: self.quantity.saturating_sub(quantity),
             tag: self.tag,
         }
     }
@@ -104,29 +105,31 @@ impl Order {
 
 /// A trade of an incoming order with a resting one, at the price of the resting one.
 #[derive(Clone, Copy, PartialEq, Eq, Debug)]
-pub struct Trade {
+pub struct Trade<T = u64> {
     /// The name of the resting order.
     pub order: OrderId,
     /// The price of one unit.
     pub price: u64,
     /// How much changes hands, at least 1.
     pub quantity: u64,
+    /// How much is left of the resting order, which has left the book if that is 0.
+    pub left: u64,
     /// The tag of the resting order.
-    pub tag: u64,
+    pub tag: T,
 }
 
 /// What the arena keeps of an order beside its price.
 #[doc(hidden)]
 #[derive(Clone, Copy, PartialEq, Eq, Debug)]
-pub struct Lot {
+pub struct Lot<T> {
     /// How much is left of it.
     pub quantity: u64,
-    /// The number that its owner gave it.
-    pub tag: u64,
+    /// What its owner keeps with it.
+    pub tag: T,
 }
 
 /// Returns the order of an entry of the arena.
-pub(crate) fn order_at(side: Side, pointer: P0, rank: u64, lot: Lot) -> Order
+pub(crate) fn order_at<T: Copy>(side: Side, pointer: P0, rank: u64, lot: Lot<T>) -> Order<T>
     ensures { result ≡ order_in side
         (record { index = pointer.0; generation = pointer.1; item = (rank, lot) }) }
 {

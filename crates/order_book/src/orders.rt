@@ -15,30 +15,30 @@ use std::marker::Model;
 
 /// An iterator over the orders of a side, first the one that trades first. Each step is O(1). In contracts it is the list of what is left.
 #[derive(Drop)]
-pub struct Orders<'a, A: Allocator = Global> {
+pub struct Orders<'a, T: Copy = u64, A: Allocator = Global> {
     side: Side,
-    orders: &'a ChainArena<P0, Resting, A>,
+    orders: &'a ChainArena<P0, Resting<T>, A>,
     // the index of the next one
     at: Option<u32>,
 }
 
-impl<'a, A: Allocator> Model for Orders<'a, A> {
+impl<'a, T: Copy, A: Allocator> Model for Orders<'a, T, A> {
     ghost use Rattle.std.specs.Prelude.{List, map};
     ghost use Rattle.order_book.specs.declared.order.Order.{Order};
     ghost use Rattle.order_book.specs.QueueLayout.{order_in};
     ghost use Rattle.order_book.specs.Ladder.{row_of, rows_left};
     ghost use Rattle.sorted_arena.specs.Chain.{IsDistinct};
 
-    ghost Value = { List Order };
+    ghost Value = { List (Order T) };
 
     ghost view = { λ o. map (order_in o.side) (rows_left o.orders.now.entries o.at) };
 
     ghost invariant = { λ o. IsDistinct o.orders.now.entries };
 }
 
-impl<A: Allocator> OrderQueue<A> {
+impl<T: Copy, A: Allocator> OrderQueue<T, A> {
     /// Returns an iterator over all orders, first the one that trades first.
-    pub fn iter(&self) -> Orders<'_, A>
+    pub fn iter(&self) -> Orders<'_, T, A>
         ensures orders { result ≡ self.now.orders }
         ensures sound { IsSound self.now }
     {
@@ -53,7 +53,7 @@ impl<A: Allocator> OrderQueue<A> {
     }
 
     /// Returns an iterator over the orders at `price` and at worse prices, first the one that trades first. O(log m).
-    pub fn iter_from(&self, price: u64) -> Orders<'_, A>
+    pub fn iter_from(&self, price: u64) -> Orders<'_, T, A>
         ensures orders { result ≡ orders_from self.now.side price self.now.orders }
         ensures sound { IsSound self.now }
     {
@@ -68,14 +68,14 @@ impl<A: Allocator> OrderQueue<A> {
     }
 }
 
-impl<'a, A: Allocator> Iterator for Orders<'a, A> {
-    type Item = Order;
+impl<'a, T: Copy, A: Allocator> Iterator for Orders<'a, T, A> {
+    type Item = Order<T>;
 
     ghost next_gives = { YieldsFirst (λ left. left) };
 
     ghost remaining = { item_count (λ left. left) };
 
-    fn next(&mut self) -> Option<Order> {
+    fn next(&mut self) -> Option<Order<T>> {
         let index = self.at?;
         let (generation, link) = self.orders.get_inx_link_no_gen(index)?;
         self.at = link.next();

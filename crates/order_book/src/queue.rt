@@ -31,16 +31,16 @@ use std::marker::Model;
 ///
 /// In the docs n is the number of orders, and m that of price levels.
 #[derive(Drop)]
-pub struct OrderQueue<A: Allocator = Global> {
+pub struct OrderQueue<T: Copy = u64, A: Allocator = Global> {
     side: Side,
     // what is left of each order and its tag, by the rank of its price, and the levels
-    ladder: Ladder<A>,
+    ladder: Ladder<T, A>,
 }
 
-impl<A: Allocator> Model for OrderQueue<A> {
+impl<T: Copy, A: Allocator> Model for OrderQueue<T, A> {
     ghost use Rattle.order_book.specs.Queue.{Queue};
 
-    ghost Value = { Queue };
+    ghost Value = { Queue T };
 
     ghost use Rattle.order_book.specs.QueueLayout.{queue_of};
     ghost use Rattle.order_book.specs.Ladder.{rows_of, IsLadder};
@@ -50,7 +50,7 @@ impl<A: Allocator> Model for OrderQueue<A> {
     ghost invariant = { λ q. IsLadder q.ladder.orders q.ladder.levels };
 }
 
-impl<A: Allocator> OrderQueue<A> {
+impl<T: Copy, A: Allocator> OrderQueue<T, A> {
     /// Creates a side without orders. It takes no memory until an order is put into it.
     pub fn new(side: Side, alloc: A) -> Self
     where
@@ -67,7 +67,7 @@ impl<A: Allocator> OrderQueue<A> {
     }
 
     // Its orders and its levels.
-    pub(crate) fn ladder(&self) -> &Ladder<A>
+    pub(crate) fn ladder(&self) -> &Ladder<T, A>
         ensures view { self.now ≡ queue_of self.now.side (rows_of result.now.orders) }
         ensures ladder { IsLadder result.now.orders result.now.levels }
     {
@@ -127,7 +127,7 @@ impl<A: Allocator> OrderQueue<A> {
     }
 
     /// Returns the order that trades first, in O(1).
-    pub fn first(&self) -> Option<Order>
+    pub fn first(&self) -> Option<Order<T>>
         ensures value { result ≡ first_of self.now.orders }
         ensures left { IfSome result (λ order. 0 < order.quantity) }
     {
@@ -137,7 +137,7 @@ impl<A: Allocator> OrderQueue<A> {
     }
 
     /// Returns the order that the pointer names, in O(1). `None` if it names no order.
-    pub fn get(&self, pointer: P0) -> Option<Order>
+    pub fn get(&self, pointer: P0) -> Option<Order<T>>
         ensures { result ≡ order_of self.now.orders pointer }
     {
         let (rank, lot) = self.ladder.get(pointer)?;
@@ -155,7 +155,7 @@ impl<A: Allocator> OrderQueue<A> {
     /// # Complexity
     ///
     /// O(log m), plus O(n) if the side grows (amortized O(1)).
-    pub fn put(&mut self, price: u64, quantity: u64, tag: u64) -> Result<P0, ReallocationError>
+    pub fn put(&mut self, price: u64, quantity: u64, tag: T) -> Result<P0, ReallocationError>
         requires { 0 < quantity }
         ensures ok { IfOk result (λ p. Rests self.old price quantity tag p self.new) }
         ensures updates { IfOk result (λ p. Updates self.old self.new p
@@ -179,7 +179,7 @@ impl<A: Allocator> OrderQueue<A> {
     /// Removes the order that the pointer names and returns it. O(1), plus O(log m) if no other order is at its price.
     ///
     /// If the pointer names no order, returns `None` and nothing changes.
-    pub fn remove(&mut self, pointer: P0) -> Option<Order>
+    pub fn remove(&mut self, pointer: P0) -> Option<Order<T>>
         ensures value { result ≡ order_of self.old.orders pointer }
         ensures changes { ChangesOrder self.old pointer None result self.new }
         ensures count { OnSome result (length self.old.orders ≡ length self.new.orders + 1) }
@@ -219,7 +219,7 @@ impl<A: Allocator> OrderQueue<A> {
     /// The order keeps its pointer and its place. If nothing of it is left, it leaves. If the pointer names no order, or `quantity` is 0,
     /// nothing is traded: returns `None`, and nothing changes. O(1), plus O(log m) if the order leaves and no
     /// other is at its price.
-    pub fn execute(&mut self, pointer: P0, quantity: u64) -> Option<Trade>
+    pub fn execute(&mut self, pointer: P0, quantity: u64) -> Option<Trade<T>>
         ensures value { result ≡ executed (order_of self.old.orders pointer) quantity }
         ensures changes { ChangesOrder self.old pointer
             (reduced_order (order_of self.old.orders pointer) quantity) result self.new }
@@ -239,7 +239,7 @@ impl<A: Allocator> OrderQueue<A> {
     }
 
     // Writes how much is left of the order that the pointer names, which has this tag.
-    fn write(&mut self, pointer: P0, tag: u64, left: u64)
+    fn write(&mut self, pointer: P0, tag: T, left: u64)
         requires named { option_map (λ x. x.tag) (order_of self.old.orders pointer) ≡ Some tag }
         requires some { 0 < left }
         ensures after { self.new ≡ reduced self.old pointer left }
@@ -296,7 +296,7 @@ impl<A: Allocator> OrderQueue<A> {
         &self,
         limit: u64,
         quantity: u64,
-        trades: &mut Vec<Trade, B>,
+        trades: &mut Vec<Trade<T>, B>,
     ) -> Result<u64, AllocError>
         ensures left { IfOk result (λ left. left + traded self.now limit quantity ≡ quantity) }
         ensures trades { OnOk result (trades.new.items ≡ trades.old.items

@@ -13,11 +13,11 @@ use sorted_arena::{P0, ReallocationError};
 use std::alloc::{AllocError, Allocator};
 
 // Puts what is left of an order on its side.
-fn rest<A: Allocator>(
-    own: &mut OrderQueue<A>,
+fn rest<T: Copy, A: Allocator>(
+    own: &mut OrderQueue<T, A>,
     price: u64,
     left: u64,
-    tag: u64,
+    tag: T,
 ) -> Result<Option<OrderId>, ReallocationError>
     ensures rests { IfOk result (λ id. RestsOrNot own.old price left tag id own.new) }
     ensures names { IfOk result (λ id. IfSome id (λ i. order_of own.new.orders i.pointer
@@ -38,18 +38,18 @@ fn rest<A: Allocator>(
 }
 
 // How much of an order rests, of which so much is left.
-fn rest_of(order: NewOrder, left: u64) -> u64
+fn rest_of<T: Copy>(order: NewOrder<T>, left: u64) -> u64
     ensures { result ≡ (if can_rest order.kind then left else 0) }
 {
     if order.kind.can_rest() { left } else { 0 }
 }
 
 /// Trades with the other side, and puts what is left on its own if the order's kind rests.
-pub(crate) fn settle<A: Allocator, B: Allocator>(
-    own: &mut OrderQueue<A>,
-    other: &mut OrderQueue<A>,
-    order: NewOrder,
-    trades: &mut Vec<Trade, B>,
+pub(crate) fn settle<T: Copy, A: Allocator, B: Allocator>(
+    own: &mut OrderQueue<T, A>,
+    other: &mut OrderQueue<T, A>,
+    order: NewOrder<T>,
+    trades: &mut Vec<Trade<T>, B>,
 ) -> Result<Option<OrderId>, ReallocationError>
     ensures rests { IfOk result (λ id. RestsOrNot own.old (limit_of order.side order.kind)
         (remainder other.old order) order.tag id own.new) }
@@ -76,7 +76,7 @@ pub(crate) fn settle<A: Allocator, B: Allocator>(
 {
     let price = order.kind.limit(order.side);
     // If the side is full, that is the refusal, also if the trades would be refused memory.
-    if own.len() == OrderQueue::<A>::limit() {
+    if own.len() == OrderQueue::<T, A>::limit() {
         let offered = other.offered(price, order.quantity);
         if rest_of(order, order.quantity - offered) > 0 {
             return Err(ReallocationError::BeyondMaxCapacity);
@@ -99,12 +99,12 @@ pub(crate) fn settle<A: Allocator, B: Allocator>(
 }
 
 /// Removes an order, and settles another one in its place. It needs no room on its own side.
-pub(crate) fn settle_anew<A: Allocator, B: Allocator>(
-    own: &mut OrderQueue<A>,
-    other: &mut OrderQueue<A>,
+pub(crate) fn settle_anew<T: Copy, A: Allocator, B: Allocator>(
+    own: &mut OrderQueue<T, A>,
+    other: &mut OrderQueue<T, A>,
     pointer: P0,
-    order: NewOrder,
-    trades: &mut Vec<Trade, B>,
+    order: NewOrder<T>,
+    trades: &mut Vec<Trade<T>, B>,
 ) -> Result<Option<OrderId>, AllocError>
     requires { order_of own.old.orders pointer ≢ None }
     ensures rests { IfOk result

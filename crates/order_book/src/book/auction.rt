@@ -11,7 +11,7 @@ use crate::order::Trade;
 use crate::side::Side;
 use std::alloc::{AllocError, Allocator};
 
-impl<A: Allocator> OrderBook<A> {
+impl<T: Copy, A: Allocator> OrderBook<T, A> {
     /// Returns what [`uncross`](Self::uncross) would come to: the price at which most would trade, how much, and the surplus. `None` if the
     /// book is uncrossed, so that nothing would trade. O(m), or O(1) if the book is uncrossed.
     ///
@@ -60,7 +60,7 @@ impl<A: Allocator> OrderBook<A> {
     /// O(m + k), and O(log m) for each price level that is emptied.
     pub fn uncross<B: Allocator>(
         &mut self,
-        trades: &mut Vec<Trade, B>,
+        trades: &mut Vec<Trade<T>, B>,
     ) -> Result<Option<Auction>, AllocError>
         ensures none { (result ≡ Ok None) ↔ IsUncrossed self.old }
         ensures auction { IfOk result (λ found. IfSome found

@@ -11,7 +11,7 @@ use crate::order::Order;
 use crate::side::Side;
 use std::alloc::Allocator;
 
-impl<A: Allocator> OrderBook<A> {
+impl<T: Copy, A: Allocator> OrderBook<T, A> {
     /// Asks `f` once for each order of a side, in the order in which they trade, removes those for which it answers `true`, and returns
     /// how many.
     ///
@@ -25,7 +25,7 @@ impl<A: Allocator> OrderBook<A> {
     /// assert_eq!(rt; book.cancel_where(Side::Sell, |order| order.price < 102), 1);
     /// assert_eq!(rt; book.best_ask().map(|ask| ask.price), Some(103));
     /// ```
-    pub fn cancel_where<F: FnMut(Order) -> bool>(&mut self, side: Side, f: F) -> usize
+    pub fn cancel_where<F: FnMut(Order<T>) -> bool>(&mut self, side: Side, f: F) -> usize
         requires { F.IsAlwaysCallable f }
         ensures cancels { Cancels F.FnMut f (queue self.old side) (queue self.new side) }
         ensures other_side { queue self.new (opposite side) ≡ queue self.old (opposite side) }

@@ -13,7 +13,7 @@ use crate::side::Side;
 use sorted_arena::ReallocationError;
 use std::alloc::Allocator;
 
-impl<A: Allocator> OrderBook<A> {
+impl<T: Copy, A: Allocator> OrderBook<T, A> {
     /// Returns whether a bid is at or above an ask, in O(1). That can be only after [`add`](Self::add).
     pub fn is_crossed(&self) -> bool
         ensures { (result ≡ false) ↔ IsUncrossed self.now }
@@ -56,7 +56,7 @@ impl<A: Allocator> OrderBook<A> {
         side: Side,
         price: u64,
         quantity: u64,
-        tag: u64,
+        tag: T,
     ) -> Result<OrderId, AddingError>
         ensures rests { IfOk result (λ id. RestsOrNot (queue self.old side) price quantity tag
             (Some id) (queue self.new side)) }
@@ -102,7 +102,7 @@ impl<A: Allocator> OrderBook<A> {
     /// assert_eq!(rt; trade.map(|trade| (trade.price, trade.quantity)), Some((101, 4)));
     /// assert_eq!(rt; book.get(ask).map(|order| order.quantity), Some(6));
     /// ```
-    pub fn execute(&mut self, id: OrderId, quantity: u64) -> Option<Trade>
+    pub fn execute(&mut self, id: OrderId, quantity: u64) -> Option<Trade<T>>
         ensures value { result ≡ executed (named self.old id) quantity }
         ensures changes { ChangesOrder self.old id
             (reduced_order (named self.old id) quantity) result self.new }

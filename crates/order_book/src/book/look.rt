@@ -10,7 +10,7 @@ use crate::orders::Orders;
 use crate::side::Side;
 use std::alloc::Allocator;
 
-impl<A: Allocator> OrderBook<A> {
+impl<T: Copy, A: Allocator> OrderBook<T, A> {
     /// Returns the best price of a side with its whole quantity and its number of orders. `None` if the side has no orders.
     ///
     /// O(1).
@@ -73,7 +73,7 @@ impl<A: Allocator> OrderBook<A> {
     /// assert_eq!(rt; ask.map(|ask| ask.price), Some(103));
     /// assert!(rt; book.iter_from(Side::Buy, 102).next().is_none());
     /// ```
-    pub fn iter_from(&self, side: Side, price: u64) -> Orders<'_, A>
+    pub fn iter_from(&self, side: Side, price: u64) -> Orders<'_, T, A>
         ensures { result ≡ orders_from side price (queue self.now side).orders }
     {
         match side {

@@ -12,7 +12,7 @@ use crate::order::Order;
 use crate::side::Side;
 use std::alloc::{AllocError, Allocator};
 
-impl<A: Allocator> OrderBook<A> {
+impl<T: Copy, A: Allocator> OrderBook<T, A> {
     /// Appends all orders to a list: the bids, first the one that trades first, and then the asks.
     ///
     /// [`restored`](Self::restored) makes a book of them.
@@ -33,7 +33,7 @@ impl<A: Allocator> OrderBook<A> {
     /// # Complexity
     ///
     /// O(n) for the orders of both sides.
-    pub fn snapshot<B: Allocator>(&self, orders: &mut Vec<Order, B>) -> Result<(), AllocError>
+    pub fn snapshot<B: Allocator>(&self, orders: &mut Vec<Order<T>, B>) -> Result<(), AllocError>
         ensures orders { OnOk result (orders.new.items ≡ orders.old.items ++ orders_of self.now) }
         ensures memory { OnErr result (vec_capacity orders.old < length orders.old.items
             + length (orders_of self.now)) }
@@ -61,7 +61,7 @@ impl<A: Allocator> OrderBook<A> {
     /// # Complexity
     ///
     /// O(n log m), at most.
-    pub fn restored(orders: &[Order], alloc: A) -> Result<Self, AddingError>
+    pub fn restored(orders: &[Order<T>], alloc: A) -> Result<Self, AddingError>
     where
         A: Copy,
         ensures orders { AreSidesInOrder orders.now → IfOk result

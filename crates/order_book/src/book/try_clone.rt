@@ -6,7 +6,7 @@ ghost use Rattle.order_book.specs.Queue.{clone_of};
 use super::OrderBook;
 use std::alloc::{AllocError, Allocator};
 
-impl<A: Allocator + Copy> OrderBook<A> {
+impl<T: Copy, A: Allocator + Copy> OrderBook<T, A> {
     /// Returns a clone on the same allocator: the same orders under the same ids. O(capacity of both sides).
     ///
     /// A side of the clone has the capacity of the greatest index of an id, which is at least the number of its orders and at most this

@@ -9,7 +9,7 @@ use chain_base::ChainArena;
 use sorted_arena::P0;
 use std::alloc::{AllocError, Allocator};
 
-impl<A: Allocator + Copy> Ladder<A> {
+impl<T: Copy, A: Allocator + Copy> Ladder<T, A> {
     /// Returns a clone on the same allocator: the same orders under the same pointers. Its capacity is the greatest index of a pointer.
     pub(crate) fn try_clone(&self) -> Result<Self, AllocError>
         requires { IsLadder self.now.orders self.now.levels }
@@ -35,9 +35,9 @@ impl<A: Allocator + Copy> Ladder<A> {
 }
 
 // A clone of a list on the same allocator.
-fn clone_of<A: Allocator + Copy>(
-    orders: &ChainArena<P0, Resting, A>,
-) -> Result<ChainArena<P0, Resting, A>, AllocError>
+fn clone_of<T: Copy, A: Allocator + Copy>(
+    orders: &ChainArena<P0, Resting<T>, A>,
+) -> Result<ChainArena<P0, Resting<T>, A>, AllocError>
     ensures ok { IfOk result (λ c. IsCloneOf orders.now c) }
     ensures none { orders.now.entries ≡ [] → IsOk result }
 {

@@ -10,7 +10,7 @@ use arena_base::doubled_capacity;
 use sorted_arena::{BasePtrInx, ReallocationError};
 use std::alloc::Allocator;
 
-impl<A: Allocator> Ladder<A> {
+impl<T: Copy, A: Allocator> Ladder<T, A> {
     /// Makes room for `additional` more orders. If the ladder grows, it grows at least as far as for one more.
     pub(crate) fn reserve(&mut self, additional: usize) -> Result<(), ReallocationError>
         requires { IsLadder self.old.orders self.old.levels }

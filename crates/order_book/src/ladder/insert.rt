@@ -14,9 +14,9 @@ use crate::order::Lot;
 use sorted_arena::{BasePtr, P0, ReallocationError};
 use std::alloc::Allocator;
 
-impl<A: Allocator> Ladder<A> {
+impl<T: Copy, A: Allocator> Ladder<T, A> {
     /// Puts an order behind every order whose rank is at most its own, and returns its pointer.
-    pub(crate) fn insert(&mut self, rank: u64, lot: Lot) -> Result<P0, ReallocationError>
+    pub(crate) fn insert(&mut self, rank: u64, lot: Lot<T>) -> Result<P0, ReallocationError>
         requires ladder { IsLadder self.old.orders self.old.levels }
         requires lawful { IsLawful (rank, lot) }
         ensures ladder { IsLadder self.new.orders self.new.levels }
@@ -41,7 +41,7 @@ impl<A: Allocator> Ladder<A> {
     }
 
     // The same where there is room.
-    fn put(&mut self, rank: u64, lot: Lot) -> P0
+    fn put(&mut self, rank: u64, lot: Lot<T>) -> P0
         requires ladder { IsLadder self.old.orders self.old.levels }
         requires lawful { IsLawful (rank, lot) }
         requires room { length self.old.orders.entries < self.old.orders.capacity }
@@ -77,7 +77,7 @@ impl<A: Allocator> Ladder<A> {
     }
 
     // Puts an order behind the last one of its level.
-    fn join_level(&mut self, level: P0, rank: u64, lot: Lot) -> P0
+    fn join_level(&mut self, level: P0, rank: u64, lot: Lot<T>) -> P0
         requires ladder { IsLadder self.old.orders self.old.levels }
         requires lawful { IsLawful (rank, lot) }
         requires room { length self.old.orders.entries < self.old.orders.capacity }
@@ -104,7 +104,7 @@ impl<A: Allocator> Ladder<A> {
     }
 
     // Puts an order directly behind the one at an index, as the only one of a new level.
-    fn begin_level(&mut self, index: Option<u32>, rank: u64, lot: Lot) -> P0
+    fn begin_level(&mut self, index: Option<u32>, rank: u64, lot: Lot<T>) -> P0
         requires ladder { IsLadder self.old.orders self.old.levels }
         requires lawful { IsLawful (rank, lot) }
         requires room { length self.old.orders.entries < self.old.orders.capacity }

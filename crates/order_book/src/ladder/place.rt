@@ -11,7 +11,7 @@ use chain_base::{ChainArena, LinkInsertKind};
 use sorted_arena::{BasePtr, P0};
 use std::alloc::Allocator;
 
-impl<A: Allocator> Ladder<A> {
+impl<T: Copy, A: Allocator> Ladder<T, A> {
     // The pointer of the level before the one that the pointer names; of the last one, if there is no pointer.
     fn level_before(&self, level: Option<P0>) -> Option<P0>
         ensures { (low high : List (Entry (ℕ × Totals))) → self.now.levels.entries ≡ low ++ high
@@ -57,14 +57,14 @@ impl<A: Allocator> Ladder<A> {
 }
 
 // Where a new order goes that stands directly behind the one at this index; in front of all, if there is no index.
-pub(super) fn place_behind<A: Allocator>(
-    orders: &ChainArena<P0, Resting, A>,
+pub(super) fn place_behind<T: Copy, A: Allocator>(
+    orders: &ChainArena<P0, Resting<T>, A>,
     index: Option<u32>,
 ) -> LinkInsertKind<P0>
     requires { IsCutBehind orders.now.entries index }
     ensures can { CanPlace (λ i. i) result orders.now }
     ensures placed { (at : IsCutBehind orders.now.entries index) → IsDistinct orders.now.entries
-        → (e : Entry Resting) → placed (λ i. i) result orders.now.entries e ≡ at.front ++ e ∷ at.back }
+        → (e : Entry (Resting T)) → placed (λ i. i) result orders.now.entries e ≡ at.front ++ e ∷ at.back }
 {
     if let Some(last) = index {
         return LinkInsertKind::NextToInx(last);

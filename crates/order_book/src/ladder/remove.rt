@@ -14,9 +14,9 @@ use arena_base::ItemsMut;
 use sorted_arena::{BasePtr, P0};
 use std::alloc::Allocator;
 
-impl<A: Allocator> Ladder<A> {
+impl<T: Copy, A: Allocator> Ladder<T, A> {
     /// Removes the order that the pointer names, and returns its rank and its lot.
-    pub(crate) fn remove(&mut self, pointer: P0) -> Option<(u64, Lot)>
+    pub(crate) fn remove(&mut self, pointer: P0) -> Option<(u64, Lot<T>)>
         requires { IsLadder self.old.orders self.old.levels }
         ensures ladder { IsLadder self.new.orders self.new.levels }
         ensures value { result ≡ get (rows_of self.old.orders) pointer }
@@ -43,7 +43,7 @@ impl<A: Allocator> Ladder<A> {
     }
 
     /// Gives the order that the pointer names another lot.
-    pub(crate) fn set_lot(&mut self, pointer: P0, lot: Lot)
+    pub(crate) fn set_lot(&mut self, pointer: P0, lot: Lot<T>)
         requires ladder { IsLadder self.old.orders self.old.levels }
         requires few { lot.quantity ≤ most_price }
         requires some { 0 < lot.quantity }

@@ -6,9 +6,9 @@ use super::OrderQueue;
 use crate::order::Order;
 use std::alloc::Allocator;
 
-impl<A: Allocator> OrderQueue<A> {
+impl<T: Copy, A: Allocator> OrderQueue<T, A> {
     /// Appends the orders, first the one that trades first, to a list that has room for them. O(n).
-    pub(crate) fn append_to<B: Allocator>(&self, orders: &mut Vec<Order, B>)
+    pub(crate) fn append_to<B: Allocator>(&self, orders: &mut Vec<Order<T>, B>)
         requires { length orders.old.items + length self.now.orders ≤ vec_capacity orders.old }
         ensures orders { orders.new.items ≡ orders.old.items ++ self.now.orders }
         ensures capacity { vec_capacity orders.old ≤ vec_capacity orders.new }

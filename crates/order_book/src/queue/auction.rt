@@ -8,7 +8,7 @@ use super::OrderQueue;
 use crate::order::Trade;
 use std::alloc::{AllocError, Allocator};
 
-impl<A: Allocator> OrderQueue<A> {
+impl<T: Copy, A: Allocator> OrderQueue<T, A> {
     /// Appends the trades of so many units at one price, the first order's first. The orders stay as they are, and the list's capacity
     /// never shrinks. O(1) for each trade.
     ///
@@ -19,7 +19,7 @@ impl<A: Allocator> OrderQueue<A> {
         &self,
         price: u64,
         quantity: u128,
-        trades: &mut Vec<Trade, B>,
+        trades: &mut Vec<Trade<T>, B>,
     ) -> Result<(), AllocError>
         ensures trades { OnOk result (trades.new.items ≡ trades.old.items
             ++ map (at_price price) (trades_of_first quantity self.now.orders)) }

@@ -1,20 +1,20 @@
 //! Whether two sides have the same orders.
 
-ghost use Rattle.std.specs.Cmp.{on_equiv, on_per, partial_equiv_from_equiv};
+ghost use Rattle.std.specs.Cmp.{on_equiv, on_per};
 ghost use Rattle.std.specs.Cmp.Lexicographic.{lists_equiv, lists_per};
-ghost use Rattle.order_book.specs.Queue.{has_same_orders, same_order_equiv};
+ghost use Rattle.order_book.specs.Queue.{has_same_orders, same_order_equiv, same_order_per};
 
 use super::OrderQueue;
 use std::alloc::Allocator;
 
 /// The same orders in the same places, with their names.
-impl<A: Allocator> PartialEq for OrderQueue<A> {
-    ghost eq = { has_same_orders };
+impl<T: Copy + PartialEq, A: Allocator> PartialEq for OrderQueue<T, A> {
+    ghost eq = { has_same_orders T.eq };
 
     ghost laws = { on_per (λ q. q.orders)
-        (lists_per (partial_equiv_from_equiv same_order_equiv)) };
+        (lists_per (same_order_per T.PartialEq.laws)) };
 
-    fn eq(&self, other: &OrderQueue<A>) -> bool {
+    fn eq(&self, other: &OrderQueue<T, A>) -> bool {
         if self.len() != other.len() {
             return false;
         }
@@ -31,6 +31,6 @@ impl<A: Allocator> PartialEq for OrderQueue<A> {
     }
 }
 
-impl<A: Allocator> Eq for OrderQueue<A> {
-    ghost laws = { on_equiv (λ q. q.orders) (lists_equiv same_order_equiv) };
+impl<T: Copy + Eq, A: Allocator> Eq for OrderQueue<T, A> {
+    ghost laws = { on_equiv (λ q. q.orders) (lists_equiv (same_order_equiv T.Eq.laws)) };
 }

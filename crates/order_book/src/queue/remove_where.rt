@@ -9,12 +9,12 @@ use crate::order::Order;
 use sorted_arena::P0;
 use std::alloc::Allocator;
 
-impl<A: Allocator> OrderQueue<A> {
+impl<T: Copy, A: Allocator> OrderQueue<T, A> {
     /// Asks `f` once for each order, in the order in which they trade, removes those for which it answers `true`, and returns how many.
     ///
     /// The other orders keep their pointers and their places. O(n) calls, O(1) for each order that leaves, and O(log m) for each
     /// price level.
-    pub fn remove_where<F: FnMut(Order) -> bool>(&mut self, mut f: F) -> usize
+    pub fn remove_where<F: FnMut(Order<T>) -> bool>(&mut self, mut f: F) -> usize
         requires { F.IsAlwaysCallable f }
         ensures cancels { Cancels F.FnMut f self.old self.new }
         ensures count { result + length self.new.orders ≡ length self.old.orders }
@@ -33,7 +33,7 @@ impl<A: Allocator> OrderQueue<A> {
     }
 
     // Asks for the order that the pointer names, removes it if the answer is `true`, and returns the pointer of the next one.
-    fn ask<F: FnMut(Order) -> bool>(&mut self, pointer: P0, f: &mut F) -> Option<P0>
+    fn ask<F: FnMut(Order<T>) -> bool>(&mut self, pointer: P0, f: &mut F) -> Option<P0>
         requires named { IsSome (order_of self.old.orders pointer) }
         requires callable { F.IsAlwaysCallable f.old }
         ensures asks { (at : IsCutAt self.old.orders pointer)

@@ -6,7 +6,7 @@ ghost use Rattle.order_book.specs.Queue.{clone_of};
 use super::OrderQueue;
 use std::alloc::{AllocError, Allocator};
 
-impl<A: Allocator + Copy> OrderQueue<A> {
+impl<T: Copy, A: Allocator + Copy> OrderQueue<T, A> {
     /// Returns a clone on the same allocator: the same orders under the same pointers. Its capacity is the greatest index of a pointer.
     /// O(capacity).
     ///

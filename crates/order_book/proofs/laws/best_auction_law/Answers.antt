@@ -2,4 +2,4 @@ use Rattle.order_book.proofs.Uncrossing.{best-same}
 use Rattle.order_book.proofs.laws.best_auction_law.Goals as goal
 
 pub returns : goal.returns
-returns c = best-same
+returns g c = best-same

@@ -14,7 +14,7 @@ returns-in-Ok-clause-uncrossed g c = λ quiet uncrossed.
     let quantity = c.args.quantity in
     let tag = c.args.tag in
     let p = c.in-Ok.pointer in
-    let lawful : IsBook (record { bids = bids; asks = asks }) = subst (λ (b : Book). IsBook b) (sym c.self.view_is) c.count.ensures.lawful in
+    let lawful : IsBook (record { bids = bids; asks = asks }) = subst (λ (b : Book g.row.T.Denot). IsBook b) (sym c.self.view_is) c.count.ensures.lawful in
     let some : 0 < quantity = omega (arith, c.if-quantity-eq0.false) in
     elim c.match-side.branch [
       | in-Buy w ↦ uncrossed-added_bid bids asks w.put-put.new.self c.args.self.now c.match-side.self c.args.side price quantity tag p c.self.view_is some w.in-Buy.is w.self-is lawful.sells lawful.asks

@@ -11,7 +11,7 @@ pub returns-in-Ok-clause-uncrossed : goal.returns-in-Ok-clause-uncrossed
 returns-in-Ok-clause-uncrossed g c = λ uncrossed.
     let bids = c.self.inside.bids in
     let asks = c.self.inside.asks in
-    let lawful : IsBook (record { bids = bids; asks = asks }) = subst (λ (b : Book). IsBook b) (sym c.self.view_is) c.count.ensures.lawful in
+    let lawful : IsBook (record { bids = bids; asks = asks }) = subst (λ (b : Book g.row.T.Denot). IsBook b) (sym c.self.view_is) c.count.ensures.lawful in
     let apart = apart-of bids asks c.args.self.now c.self.invariant c.self.view_is uncrossed in
     elim c.match-order.branch [
       | in-Buy w ↦
@@ -28,7 +28,7 @@ pub returns-in-Ok-clause-steps : goal.returns-in-Ok-clause-steps
 returns-in-Ok-clause-steps g c =
     let bids = c.self.inside.bids in
     let asks = c.self.inside.asks in
-    let lawful : IsBook (record { bids = bids; asks = asks }) = subst (λ (b : Book). IsBook b) (sym c.self.view_is) c.count.ensures.lawful in
+    let lawful : IsBook (record { bids = bids; asks = asks }) = subst (λ (b : Book g.row.T.Denot). IsBook b) (sym c.self.view_is) c.count.ensures.lawful in
     record {
       step = elim c.match-order.branch [
         | in-Buy w ↦
@@ -51,11 +51,11 @@ returns-in-Ok-clause-other_room g c = elim c.match-order.branch [
   | in-Buy w ↦
       let settled = w.settle-settled in
       room-on (opposite c.args.order.side) Sell c.args.self.now c.match-order.self c.self.inside.asks settled.new.other (ap opposite w.in-Buy.is)
-      (ap (λ (b : Book). b.asks) (sym c.self.view_is)) (ap (λ (b : Book). b.asks) w.self-is)
+      (ap (λ (b : Book g.row.T.Denot). b.asks) (sym c.self.view_is)) (ap (λ (b : Book g.row.T.Denot). b.asks) w.self-is)
       (granted settled.result _ (sym w.settled-is ∙ c.in-Ok.is) settled.ensures.other_room)
   | in-Sell w ↦
       let settled = w.settle-settled-in-Sell in
       room-on (opposite c.args.order.side) Buy c.args.self.now c.match-order.self c.self.inside.bids settled.new.other (ap opposite w.in-Sell.is)
-      (ap (λ (b : Book). b.bids) (sym c.self.view_is)) (ap (λ (b : Book). b.bids) w.self-is)
+      (ap (λ (b : Book g.row.T.Denot). b.bids) (sym c.self.view_is)) (ap (λ (b : Book g.row.T.Denot). b.bids) w.self-is)
       (granted settled.result _ (sym w.settled-is ∙ c.in-Ok.is) settled.ensures.other_room)
 ]

@@ -13,8 +13,8 @@ returns-in-Ok-clause-uncrossed g c = λ uncrossed.
     let bids = c.self.inside.bids in
     let asks = c.self.inside.asks in
     let p = c.pointer-pointer.result in
-    let order : NewOrder = record { side = c.side.result; kind = c.args.kind; quantity = c.args.quantity; tag = c.in-Some.old.tag } in
-    let lawful : IsBook (record { bids = bids; asks = asks }) = subst (λ (b : Book). IsBook b) (sym c.self.view_is) c.count.ensures.lawful in
+    let order : NewOrder g.row.T.Denot = record { side = c.side.result; kind = c.args.kind; quantity = c.args.quantity; tag = c.in-Some.old.tag } in
+    let lawful : IsBook (record { bids = bids; asks = asks }) = subst (λ (b : Book g.row.T.Denot). IsBook b) (sym c.self.view_is) c.count.ensures.lawful in
     let apart = apart-of bids asks c.args.self.now c.self.invariant c.self.view_is uncrossed in
     elim c.match-side.branch [
       | in-Buy w ↦
@@ -31,7 +31,7 @@ pub returns-in-Ok-clause-steps : goal.returns-in-Ok-clause-steps
 returns-in-Ok-clause-steps g c =
     let bids = c.self.inside.bids in
     let asks = c.self.inside.asks in
-    let lawful : IsBook (record { bids = bids; asks = asks }) = subst (λ (b : Book). IsBook b) (sym c.self.view_is) c.count.ensures.lawful in
+    let lawful : IsBook (record { bids = bids; asks = asks }) = subst (λ (b : Book g.row.T.Denot). IsBook b) (sym c.self.view_is) c.count.ensures.lawful in
     record {
       step = elim c.match-side.branch [
         | in-Buy w ↦
@@ -54,12 +54,12 @@ returns-in-Ok-clause-room g c = elim c.match-side.branch [
   | in-Buy w ↦
       let settled = w.settle_anew-settled in
       room-on c.args.id.side Buy c.args.self.now c.match-side.self c.self.inside.bids settled.new.own (sym c.side-3.ensures ∙ w.in-Buy.is)
-      (ap (λ (b : Book). b.bids) (sym c.self.view_is)) (ap (λ (b : Book). b.bids) w.self-is)
+      (ap (λ (b : Book g.row.T.Denot). b.bids) (sym c.self.view_is)) (ap (λ (b : Book g.row.T.Denot). b.bids) w.self-is)
       (granted settled.result _ (sym w.settled-is ∙ c.in-Ok.is) settled.ensures.room)
   | in-Sell w ↦
       let settled = w.settle_anew-settled-in-Sell in
       room-on c.args.id.side Sell c.args.self.now c.match-side.self c.self.inside.asks settled.new.own (sym c.side-3.ensures ∙ w.in-Sell.is)
-      (ap (λ (b : Book). b.asks) (sym c.self.view_is)) (ap (λ (b : Book). b.asks) w.self-is)
+      (ap (λ (b : Book g.row.T.Denot). b.asks) (sym c.self.view_is)) (ap (λ (b : Book g.row.T.Denot). b.asks) w.self-is)
       (granted settled.result _ (sym w.settled-is ∙ c.in-Ok.is) settled.ensures.room)
 ]
 
@@ -68,11 +68,11 @@ returns-in-Ok-clause-other_room g c = elim c.match-side.branch [
   | in-Buy w ↦
       let settled = w.settle_anew-settled in
       room-on (opposite c.args.id.side) Sell c.args.self.now c.match-side.self c.self.inside.asks settled.new.other
-      (ap opposite (sym c.side-3.ensures ∙ w.in-Buy.is)) (ap (λ (b : Book). b.asks) (sym c.self.view_is)) (ap (λ (b : Book). b.asks) w.self-is)
+      (ap opposite (sym c.side-3.ensures ∙ w.in-Buy.is)) (ap (λ (b : Book g.row.T.Denot). b.asks) (sym c.self.view_is)) (ap (λ (b : Book g.row.T.Denot). b.asks) w.self-is)
       (granted settled.result _ (sym w.settled-is ∙ c.in-Ok.is) settled.ensures.other_room)
   | in-Sell w ↦
       let settled = w.settle_anew-settled-in-Sell in
       room-on (opposite c.args.id.side) Buy c.args.self.now c.match-side.self c.self.inside.bids settled.new.other
-      (ap opposite (sym c.side-3.ensures ∙ w.in-Sell.is)) (ap (λ (b : Book). b.bids) (sym c.self.view_is)) (ap (λ (b : Book). b.bids) w.self-is)
+      (ap opposite (sym c.side-3.ensures ∙ w.in-Sell.is)) (ap (λ (b : Book g.row.T.Denot). b.bids) (sym c.self.view_is)) (ap (λ (b : Book g.row.T.Denot). b.bids) w.self-is)
       (granted settled.result _ (sym w.settled-is ∙ c.in-Ok.is) settled.ensures.other_room)
 ]

@@ -26,4 +26,4 @@ returns g c =
     let next = next-row c.args.self.now.orders.entries (rows-distinct c.args.self.now.orders.entries c.requires.ladder.distinct) c.args.pointer c.requires.named c.link.result.now (rw c.inx.ensures at c.link.ensures) in
     let goes = next.goes c.in_ok-index.index (sym c.next.ensures.value ∙ ap (option_map _) c.in_ok-index.was) in
     let same = some-same (sym goes.1 ∙ c.entry-generation.ensures) in
-    rw c._from_raw.ensures (ap (λ (h : ℕ). Some (c.in_ok-index.index, h)) (sym (ap (λ (e : ℕ × Resting). e.0) same)) ∙ sym goes.2)
+    rw c._from_raw.ensures (ap (λ (h : ℕ). Some (c.in_ok-index.index, h)) (sym (ap (λ (e : ℕ × Resting g.row.T.Denot). e.0) same)) ∙ sym goes.2)

@@ -41,7 +41,7 @@ returns-clause-ladder g c =
           (ap (λ (x : ℕ × Totals). x.1.count) totals ∙ w.if-totals-eq1.true) w.remove.new.self w.remove.ensures.after)
       | else-totals-eq1 w ↦ rw w.self-is (level-shrunk c.args.self.now.orders c.args.self.now.levels c.requires c.len-2.ensures.sound.distinct c.args.pointer c.in_ok-order.field-0.now (sym c.in_ok-order.ensures) c.remove_entry.new.self is
           (λ one. w.if-totals-eq1.false (sym (ap (λ (x : ℕ × Totals). x.1.count) totals) ∙ one)) w.prev.result
-          (sym (same-index w.prev.result) ∙ w.prev.ensures.value ∙ ap (λ (e : ℕ × Link Resting). e.1.prev) c.allow-link.ensures
+          (sym (same-index w.prev.result) ∙ w.prev.ensures.value ∙ ap (λ (e : ℕ × Link (Resting g.row.T.Denot)). e.1.prev) c.allow-link.ensures
           ∙ linked-left c.args.self.now.orders c.args.self.now.levels c.requires c.len-2.ensures.sound.distinct c.args.pointer c.in_ok-order.field-0.now (sym c.in_ok-order.ensures) _ _ (rw c.inx.ensures at c.remove_entry.ensures.value)) w.set_value.new.self (w.set_value.ensures.after
           ∙ ap (λ (t : Totals). with_value c.args.self.now.levels c.in_ok-order.field-0.now.level (get c.args.self.now.levels c.in_ok-order.field-0.now.level) t)
           (w.without_order-after.ensures ∙ ap (λ (i : ℕ). without_order c.unwrap.result.1.now c.in_ok-order.field-0.now.lot.quantity i w.prev.result) w.inx-else-totals-eq1.ensures

@@ -11,7 +11,7 @@ use Rattle.order_book.proofs.ladder.Ladder.set_lot.Goals as goal
 
 pub returns-in_default-clause-after : goal.returns-in_default-clause-after
 returns-in_default-clause-after g c =
-    sym (ap (λ (o : Option (ℕ × Lot)). with_value (rows_of c.args.self.now.orders) c.args.pointer o c.args.lot)
+    sym (ap (λ (o : Option (ℕ × Lot g.row.T.Denot)). with_value (rows_of c.args.self.now.orders) c.args.pointer o c.args.lot)
     (item-rows c.args.self.now.orders.entries c.args.pointer ∙ ap (option_map row_item) (sym c.in_default.ensures)))
 
 pub unwrap-requires : goal.unwrap-requires
@@ -36,7 +36,7 @@ returns-clause-ladder g c =
     some-same (sym (level-found c.args.self.now.orders c.args.self.now.levels c.requires.ladder c.len-2.ensures.sound.distinct c.args.pointer c.in-Some.order.now (sym c.in-Some.ensures)) ∙ sym (ap (option_map _) (sym c.unwrap.ensures) ∙ c.get-2.ensures)) in
     let same : c.pair_mut-pair.result.1.now ≡ c.in-Some.order.now = entry-found c.args.self.now.orders c.args.self.now.levels c.requires.ladder c.len-2.ensures.sound.distinct c.args.pointer c.in-Some.order.now (sym c.in-Some.ensures) _ _ (rw c.inx.ensures at c.pair_mut-pair.ensures.value) in
     let is = ap (λ (i : ℕ). with_item c.args.self.now.orders i (record { rank = c.pair_mut-pair.result.1.now.rank; lot = c.args.lot; level = c.pair_mut-pair.result.1.now.level })) c.inx.ensures
-    ∙ ap (λ (s : Resting). with_item c.args.self.now.orders c.args.pointer.0 (record s { lot = c.args.lot })) same in
+    ∙ ap (λ (s : Resting g.row.T.Denot). with_item c.args.self.now.orders c.args.pointer.0 (record s { lot = c.args.lot })) same in
     written-ladder c.args.self.now.orders c.args.self.now.levels c.requires.ladder c.len-2.ensures.sound.distinct c.args.pointer c.in-Some.order.now (sym c.in-Some.ensures) c.args.lot c.requires.few c.requires.some _ is c.set_value.new.self
     (c.set_value.ensures.after ∙ ap (λ (t : Totals). with_value c.args.self.now.levels c.in-Some.order.now.level (get c.args.self.now.levels c.in-Some.order.now.level) t)
     (c.with_other_lot-after.ensures ∙ ap (λ (x : ℕ × Totals). with_other x.1 c.in-Some.order.now.lot.quantity c.args.lot.quantity) (sym totals)))
@@ -45,5 +45,5 @@ pub returns-clause-after : goal.returns-clause-after
 returns-clause-after g c =
     let same : c.pair_mut-pair.result.1.now ≡ c.in-Some.order.now = entry-found c.args.self.now.orders c.args.self.now.levels c.requires.ladder c.len-2.ensures.sound.distinct c.args.pointer c.in-Some.order.now (sym c.in-Some.ensures) _ _ (rw c.inx.ensures at c.pair_mut-pair.ensures.value) in
     let is = ap (λ (i : ℕ). with_item c.args.self.now.orders i (record { rank = c.pair_mut-pair.result.1.now.rank; lot = c.args.lot; level = c.pair_mut-pair.result.1.now.level })) c.inx.ensures
-    ∙ ap (λ (s : Resting). with_item c.args.self.now.orders c.args.pointer.0 (record s { lot = c.args.lot })) same in
+    ∙ ap (λ (s : Resting g.row.T.Denot). with_item c.args.self.now.orders c.args.pointer.0 (record s { lot = c.args.lot })) same in
     written-rows c.args.self.now.orders c.args.self.now.levels c.requires.ladder c.len-2.ensures.sound.distinct c.args.pointer c.in-Some.order.now (sym c.in-Some.ensures) c.args.lot c.requires.few c.requires.some _ is

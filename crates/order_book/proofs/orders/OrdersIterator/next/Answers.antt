@@ -21,13 +21,13 @@ returns-clause-steps g c =
     let i = c.in_ok-index.index in
     let generation = c.in_ok-generation.generation in
     let l = c.in_ok-generation.link in
-    let item : c.link.inside.t.now ≡ l.item.now = ap (λ (k : Link (Bor Resting)). k.item.now) c.link.view_is in
+    let item : c.link.inside.t.now ≡ l.item.now = ap (λ (k : Link (Bor (Resting g.row.T.Denot))). k.item.now) c.link.view_is in
     let step = left-step es c.self.invariant i generation (record { item = l.item.now; prev = l.prev; next = l.next }) c.in_ok-generation.ensures in
     sym c.self.view_is ∙ ap (λ (o : Option ℕ). map (order_in side) (rows_left es o)) c.in_ok-index.was ∙ ap (map (order_in side)) step
-    ∙ ap (λ (r : Resting). order_in side (record { index = i; generation = generation; item = (r.rank, r.lot) }) ∷ map (order_in side) (rows_left es l.next)) (sym item)
+    ∙ ap (λ (r : Resting g.row.T.Denot). order_in side (record { index = i; generation = generation; item = (r.rank, r.lot) }) ∷ map (order_in side) (rows_left es l.next)) (sym item)
     ∙ ap (λ (o : Option ℕ). order_in side (record { index = i; generation = generation; item = (c.link.inside.t.now.rank, c.link.inside.t.now.lot) }) ∷ map (order_in side) (rows_left es o))
     (sym c.next-self-inside.ensures.value ∙ same-index c.next-self-inside.result)
-    ∙ ap (λ (x : Order). x ∷ map (order_in side) (rows_left es c.next-self-inside.result))
+    ∙ ap (λ (x : Order g.row.T.Denot). x ∷ map (order_in side) (rows_left es c.next-self-inside.result))
     (ap (λ (p : ℕ × ℕ). order_in side (record { index = p.0; generation = p.1; item = (c.link.inside.t.now.rank, c.link.inside.t.now.lot) })) (sym c._from_raw-pointer.ensures) ∙ sym c.order_at.ensures)
 
 pub returns-clause-goes : goal.returns-clause-goes

@@ -9,4 +9,4 @@ returns g c =
     let l = c.ladder.result.now in
     rw (c.side.ensures, c.iter.ensures.entries)
     (ap (take c.args.levels) (sym (ladder-levels q.side l.levels.entries l.orders.entries c.ladder.ensures.ladder.laid c.ladder.ensures.ladder.rising c.ladder.ensures.ladder.lawful))
-    ∙ ap (λ (r : Queue). first_levels c.args.levels r.orders) (sym c.ladder.ensures.view))
+    ∙ ap (λ (r : Queue g.row.T.Denot). first_levels c.args.levels r.orders) (sym c.ladder.ensures.view))

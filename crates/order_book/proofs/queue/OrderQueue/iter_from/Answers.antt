@@ -12,4 +12,4 @@ returns-clause-orders g c =
     let bounded : c.args.price ≤ most_price = omega (arith, c.ranges.price) in
     let given = rw (c.ranked.ensures, c.side-2.ensures) at c.index_from.ensures in
     rw c.side.ensures (ap (map (order_in side)) given ∙ from-ranked side c.args.price bounded (rows_of c.ladder-ladder.result.now.orders).entries c.ladder-ladder.ensures.ladder.lawful
-    ∙ ap (λ (q : Queue). orders_from q.side c.args.price q.orders) (sym c.ladder-ladder.ensures.view))
+    ∙ ap (λ (q : Queue g.row.T.Denot). orders_from q.side c.args.price q.orders) (sym c.ladder-ladder.ensures.view))

@@ -9,4 +9,4 @@ returns-clause-levels g c =
     let l = c.ladder.result.now in
     rw (c.side.ensures, c.iter.ensures.entries)
     (ap reverse (sym (ladder-levels q.side l.levels.entries l.orders.entries c.ladder.ensures.ladder.laid c.ladder.ensures.ladder.rising c.ladder.ensures.ladder.lawful))
-    ∙ ap (λ (r : Queue). reverse (levels_of r.orders)) (sym c.ladder.ensures.view))
+    ∙ ap (λ (r : Queue g.row.T.Denot). reverse (levels_of r.orders)) (sym c.ladder.ensures.view))

@@ -35,7 +35,7 @@ returns-then-left-eq0 g c =
 
 pub returns-then-not-meets : goal.returns-then-not-meets
 returns-then-not-meets g c =
-    let q : Queue = queue_of c.self.inside.side (rows_of c.self.inside.ladder.orders) in
+    let q : Queue g.row.T.Denot = queue_of c.self.inside.side (rows_of c.self.inside.ladder.orders) in
     let x = c.in-Some.order in
     let now : IsOffering q c.args.limit c.args.quantity c.args.trades.now.items c.loop-order.left c.loop-order.trades.items (x ∷ c.next.new.self) =
     rw (c.self.view_is, ← c.in-Some.ensures.steps) c.loop-order.invariant.offering in
@@ -45,7 +45,7 @@ returns-then-not-meets g c =
 
 pub loop-order-preserved : goal.loop-order-preserved
 loop-order-preserved g c =
-    let q : Queue = queue_of c.self.inside.side (rows_of c.self.inside.ladder.orders) in
+    let q : Queue g.row.T.Denot = queue_of c.self.inside.side (rows_of c.self.inside.ladder.orders) in
     let x = c.in-Some.order in
     let now : IsOffering q c.args.limit c.args.quantity c.args.trades.now.items c.loop-order.left c.loop-order.trades.items (x ∷ c.next.new.self) =
     rw (c.self.view_is, ← c.in-Some.ensures.steps) c.loop-order.invariant.offering in
@@ -61,7 +61,7 @@ loop-order-preserved g c =
 
 pub returns-then-is_err-clause-memory : goal.returns-then-is_err-clause-memory
 returns-then-is_err-clause-memory g c =
-    let q : Queue = queue_of c.self.inside.side (rows_of c.self.inside.ladder.orders) in
+    let q : Queue g.row.T.Denot = queue_of c.self.inside.side (rows_of c.self.inside.ladder.orders) in
     let x = c.in-Some.order in
     let now : IsOffering q c.args.limit c.args.quantity c.args.trades.now.items c.loop-order.left c.loop-order.trades.items (x ∷ c.next.new.self) =
     rw (c.self.view_is, ← c.in-Some.ensures.steps) c.loop-order.invariant.offering in

@@ -24,7 +24,7 @@ returns g c =
       | in-Some+then-left-eq0 w ↦ omega (arith, w.if-left-eq0.true)
       | in-Some+else-left-eq0+then-not-meets w ↦
           let x = w.in-Some.level in
-          let misses : meets side x.price limit ≡ false = subst (λ (q : Queue). meets q.side x.price limit ≡ false) c.self.view_is (sym w.if-not-meets.ensures) in
+          let misses : meets side x.price limit ≡ false = subst (λ (q : Queue g.row.T.Denot). meets q.side x.price limit ≡ false) c.self.view_is (sym w.if-not-meets.ensures) in
           let missed = ap (offers side limit) w.in-Some.ensures.steps ∙ offers-missed side limit x c.next.new.self misses (subst (AreInOrder side) w.in-Some.ensures.steps c.loop-level.invariant.sorted) in
           omega (arith, missed)
     ] in

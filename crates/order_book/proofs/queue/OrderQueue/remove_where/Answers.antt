@@ -12,7 +12,7 @@ loop-init g c = record {
   callable = c.requires;
   distinct = c.len-before.ensures.sound.distinct;
   retains = retains-none g.F.FnMut c.args.self.now c.args.f c.first-next.result (c.first-next.ensures ∙ first-order c.self.inside.side (rows_of c.self.inside.ladder.orders).entries
-      ∙ ap (λ (q : Queue). option_map (λ (x : Order). x.id.pointer) (first_of q.orders)) c.self.view_is);
+      ∙ ap (λ (q : Queue g.row.T.Denot). option_map (λ (x : Order g.row.T.Denot). x.id.pointer) (first_of q.orders)) c.self.view_is);
 }
 
 pub ask-next-requires-clause-named : goal.ask-next-requires-clause-named
@@ -37,4 +37,4 @@ returns-clause-cancels g c = retains-done g.F.FnMut c.args.self.now c.args.f c.l
 pub returns-clause-kept : goal.returns-clause-kept
 returns-clause-kept g c = λ p.
     let filtered = (returns-clause-cancels g c).filtered in
-    subst (λ (xs : List Order). IsSome (order_of xs p) → order_of xs p ≡ order_of c.args.self.now.orders p) (sym filtered.4) (named-kept filtered.0 c.args.self.now.orders p c.len-before.ensures.sound.distinct)
+    subst (λ (xs : List (Order g.row.T.Denot)). IsSome (order_of xs p) → order_of xs p ≡ order_of c.args.self.now.orders p) (sym filtered.4) (named-kept filtered.0 c.args.self.now.orders p c.len-before.ensures.sound.distinct)

@@ -10,4 +10,4 @@ returns-clause-ok g c =
 
 pub returns-in_err-try_clone-clause-none : goal.returns-in_err-try_clone-clause-none
 returns-in_err-try_clone-clause-none g c = λ empty.
-    absurd (let granted = c.in_err-try_clone.ensures.none (no-orders c.self.inside.side row_of c.self.inside.ladder.orders.entries (ap (λ (q : Queue). q.orders) c.self.view_is ∙ empty)) in cc)
+    absurd (let granted = c.in_err-try_clone.ensures.none (no-orders c.self.inside.side row_of c.self.inside.ladder.orders.entries (ap (λ (q : Queue g.row.T.Denot). q.orders) c.self.view_is ∙ empty)) in cc)

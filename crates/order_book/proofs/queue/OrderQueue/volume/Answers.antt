@@ -11,7 +11,7 @@ loop-level-init g c =
 
 pub overflow_add-volume : goal.overflow_add-volume
 overflow_add-volume g c =
-    let q : Queue = c.args.self.now in
+    let q : Queue g.row.T.Denot = c.args.self.now in
     let x = c.in-Some.level in
     let coming = ap quantity_of c.in-Some.ensures.steps in
     let fits : total q.orders ≤ most_total = total-fits q.orders c.levels-level-items.ensures.sound.summable in

@@ -14,9 +14,9 @@ loop-level-init g c =
 
 pub overflow_add-volume : goal.overflow_add-volume
 overflow_add-volume g c =
-    let q : Queue = c.args.self.now in
+    let q : Queue g.row.T.Denot = c.args.self.now in
     let x = c.in-Some.level in
-    let hits : meets q.side x.price c.args.limit ≡ true = subst (λ (p : Queue). meets p.side x.price c.args.limit ≡ true) c.self.view_is (sym c.if-not-meets.ensures) in
+    let hits : meets q.side x.price c.args.limit ≡ true = subst (λ (p : Queue g.row.T.Denot). meets p.side x.price c.args.limit ≡ true) c.self.view_is (sym c.if-not-meets.ensures) in
     let here : offers q.side c.args.limit (x ∷ c.next.new.self) ≡ x.quantity + offers q.side c.args.limit c.next.new.self = rw hits refl in
     let coming = ap (offers q.side c.args.limit) c.in-Some.ensures.steps in
     let fits : within q.side c.args.limit q.orders ≤ most_total = within-fits q.side c.args.limit q.orders c.levels-level-items.ensures.sound.summable in
@@ -24,9 +24,9 @@ overflow_add-volume g c =
 
 pub returns-then-not-meets : goal.returns-then-not-meets
 returns-then-not-meets g c =
-    let q : Queue = c.args.self.now in
+    let q : Queue g.row.T.Denot = c.args.self.now in
     let x = c.in-Some.level in
-    let misses : meets q.side x.price c.args.limit ≡ false = subst (λ (p : Queue). meets p.side x.price c.args.limit ≡ false) c.self.view_is (sym c.if-not-meets.ensures) in
+    let misses : meets q.side x.price c.args.limit ≡ false = subst (λ (p : Queue g.row.T.Denot). meets p.side x.price c.args.limit ≡ false) c.self.view_is (sym c.if-not-meets.ensures) in
     let missed = ap (offers q.side c.args.limit) c.in-Some.ensures.steps
     ∙ offers-missed q.side c.args.limit x c.next.new.self misses (subst (AreInOrder q.side) c.in-Some.ensures.steps c.loop-level.invariant.sorted) in
     omega (arith, c.loop-level.invariant.sum, missed)

@@ -17,6 +17,6 @@ returns g c =
     rw (← c.self.view_is) (record {
       after = ap (queue_of side) c.set_lot.ensures.after
           ∙ queue-reduced side p (record { quantity = c.args.left; tag = c.args.tag }) a found.0 found.1 c.self.invariant.distinct found.2 c.requires.some;
-      updates = subst (λ (b : Sorted ℕ Lot). Updates (queue_of side a) (queue_of side b) p (option_map (λ x. with_rest x c.args.left) (order_of (queue_of side a).orders p))) (sym c.set_lot.ensures.after)
+      updates = subst (λ (b : Sorted ℕ (Lot g.row.T.Denot)). Updates (queue_of side a) (queue_of side b) p (option_map (λ x. with_rest x c.args.left) (order_of (queue_of side a).orders p))) (sym c.set_lot.ensures.after)
           (updates-reduced side p (record { quantity = c.args.left; tag = c.args.tag }) a found.0 found.1 c.self.invariant.distinct found.2);
     })

@@ -7,7 +7,7 @@ use Rattle.order_book.proofs.queue.compare.OrderQueuePartialEq.eq.Given as goal
 abbrev pub invariant-loop-order : goal.invariant-loop-order
 invariant-loop-order g l = record {
   long : length l.left ≡ length l.right;
-  same : pointwise is_same_order l.left l.right ≡ pointwise is_same_order l.initial.left l.initial.right;
+  same : pointwise (is_same_order g.T.PartialEq.eq) l.left l.right ≡ pointwise (is_same_order g.T.PartialEq.eq) l.initial.left l.initial.right;
 }
 
 abbrev pub decreases-loop-order : goal.decreases-loop-order
