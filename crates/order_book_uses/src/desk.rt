@@ -22,9 +22,10 @@ pub struct Desk {
 }
 
 impl Model for Desk {
+    ghost use Rattle.std.specs.Prelude.{ℕ};
     ghost use Rattle.order_book.specs.Book.{Book};
 
-    ghost Value = { Book };
+    ghost Value = { Book ℕ };
 
     ghost view = { λ d. d.book };
 
@@ -99,7 +100,7 @@ impl Desk {
             → OnSome result (HasEnded self.new id) }
         ensures none { IfNone result (self.new ≡ self.old) }
     {
-        ended_name_law();
+        ended_name_law::<u64>();
         let order = self.book.cancel(id)?;
         Some(order.quantity)
     }
@@ -173,7 +174,7 @@ impl Desk {
         ensures ended { Counts self.old self.new → (other : _) → HasEnded self.old other
             → HasEnded self.new other }
     {
-        ended_name_law();
+        ended_name_law::<u64>();
         self.book.cancel_where(side, |order| order.tag == tag)
     }
 
@@ -256,7 +257,7 @@ impl Desk {
             → HasNoLaterName self.new }
         ensures refused { OnErr result (self.new ≡ self.old) }
     {
-        ended_name_law();
+        ended_name_law::<u64>();
         let order = NewOrder {
             side,
             kind: OrderKind::FillOrKill(price),

@@ -4,5 +4,7 @@
 pub mod desk;
 pub mod feed;
 pub mod opening;
+pub mod owners;
 pub mod quote;
 pub mod saving;
+pub mod spreads;

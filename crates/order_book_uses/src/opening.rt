@@ -40,6 +40,6 @@ pub fn hold_auction(
     ensures same { IfOk result (λ held. IfSome held (λ auction. auction ≡ seen)) }
 {
     // For the prover: there is one auction.
-    best_auction_law();
+    best_auction_law::<u64>();
     book.uncross(trades)
 }

@@ -1,6 +1,6 @@
 //! The examples in the text of `OrderBook`'s calls.
 
-use order_book::{NewOrder, OrderBook, OrderKind, Side};
+use order_book::{NewOrder, OrderBook, OrderKind, Side, price_from_signed, price_to_signed};
 use std::process::Abort;
 use std::test::Fail;
 
@@ -333,5 +333,40 @@ fn cancel_where_in(rt: &(impl Abort + AllocGlobal), book: &mut OrderBook) -> Res
     book.place(NewOrder::limit(Side::Sell, 103, 20), &mut trades)?;
     assert_eq!(rt; book.cancel_where(Side::Sell, |order| order.price < 102), 1);
     assert_eq!(rt; book.best_ask().map(|ask| ask.price), Some(103));
+    Ok(())
+}
+
+#[test]
+fn with_tag(rt: HostRuntime) -> Result<(), Fail> {
+    with_tag_in(&rt, &mut OrderBook::new(rt.alloc()))
+}
+
+fn with_tag_in(rt: &(impl Abort + AllocGlobal), book: &mut OrderBook) -> Result<(), Fail> {
+    let mut trades = Vec::new(rt.alloc());
+    book.place(
+        NewOrder::limit(Side::Sell, 101, 10).with_tag(7),
+        &mut trades,
+    )?;
+    book.place(NewOrder::limit(Side::Buy, 101, 4).with_tag(8), &mut trades)?;
+    assert_eq!(rt;
+        trades.last().map(|trade| (trade.quantity, trade.tag)),
+        Some((4, 7))
+    );
+    Ok(())
+}
+
+#[test]
+fn price_from_signed_stands(rt: HostRuntime) -> Result<(), Fail> {
+    price_from_signed_in(&rt, &mut OrderBook::new(rt.alloc()))
+}
+
+fn price_from_signed_in(rt: &impl Abort, book: &mut OrderBook) -> Result<(), Fail> {
+    book.add(Side::Buy, price_from_signed(-3), 10, 7)?;
+    book.add(Side::Sell, price_from_signed(2), 10, 8)?;
+    assert_eq!(rt;
+        book.best_bid().map(|bid| price_to_signed(bid.price)),
+        Some(-3)
+    );
+    assert!(rt; !book.is_crossed());
     Ok(())
 }

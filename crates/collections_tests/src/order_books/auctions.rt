@@ -119,6 +119,7 @@ fn take(orders: &mut Vec<Order>, auction: Auction, trades: &mut Vec<Trade>) -> b
             order: order.id,
             price: auction.price,
             quantity,
+            left: order.quantity.wrapping_sub(quantity),
             tag: order.tag,
         };
         if trades.push(trade).is_err() {

@@ -34,6 +34,7 @@ fn take(orders: &mut [Order], quantity: u64) -> Option<Trade> {
         order: first.id,
         price: first.price,
         quantity: traded,
+        left: first.quantity,
         tag: first.tag,
     })
 }

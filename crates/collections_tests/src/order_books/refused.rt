@@ -6,7 +6,7 @@ use order_book::{
 use std::alloc::{AllocError, Global};
 
 /// A book on a heap.
-type Book<'h> = OrderBook<&'h LocalHeap>;
+type Book<'h> = OrderBook<u64, &'h LocalHeap>;
 
 /// Trades on a heap.
 type Trades<'h> = Vec<Trade, &'h LocalHeap>;

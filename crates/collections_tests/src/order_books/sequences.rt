@@ -93,6 +93,7 @@ fn trade_once(list: &mut [Resting], side: Side, limit: u64, quantity: u64) -> Op
         order: order.id,
         price: order.price,
         quantity,
+        left: order.quantity,
         tag: order.tag,
     })
 }
