@@ -25,7 +25,7 @@ returns-in_err-add-clause-nothing g c = λ some refused.
     let came = same-error c.from_residual.result NoQuantity c.in_err-add.field-0.0 c.from_residual.ensures.1 refused in
     let none : x.quantity ≡ 0 = c.in_err-add.ensures.nothing.0 (ap Err came) in
     let more : 0 < x.quantity = all-left (λ (y : Order g.row.T.Denot). 0 < y.quantity) xs i x (drop (i + 1) xs) some
-        (left-next xs i x c.loop-order-test.true c.order-item.is) in
+    (left-next xs i x c.loop-order-test.true c.order-item.is) in
     absurd (omega (arith, none, more))
 
 pub returns-in_err-add-clause-full : goal.returns-in_err-add-clause-full
