@@ -37,3 +37,5 @@ pub mod Deals
 pub mod Uncrossing
 pub mod Restoring
 pub mod Names
+-- For crates above.
+pub mod CallerLemmas

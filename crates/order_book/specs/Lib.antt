@@ -12,3 +12,5 @@ pub mod QueueLayout
 pub mod Ladder
 pub mod Layout
 pub mod AuctionSteps
+-- What contracts above cite of the layer below.
+pub use Rattle.sorted_arena.specs.PlainArena

@@ -16,7 +16,7 @@ pub struct Owner {
     pub reference: u64,
 }
 
-/// Places a limit order for an owner, who is told of its rest as of each trade with it later.
+/// Places a limit order for an owner. What rests of it shows the owner, and so does each later trade with that.
 pub fn place_for(
     book: &mut OrderBook<Owner>,
     owner: Owner,
