@@ -13,9 +13,7 @@ use crate::cancelling::cancel_each;
 use crate::policy::SelfTrade;
 use crate::settling::settle;
 use crate::survey::{Survey, survey_of};
-use order_book::{
-    NewOrder, Order, OrderBook, OrderId, OrderKind, OrderQueue, PlacingError, Trade,
-};
+use order_book::{NewOrder, Order, OrderBook, OrderId, OrderKind, OrderQueue, PlacingError, Trade};
 use std::alloc::Allocator;
 
 /// Places an order that may not trade with some of the resting orders, as with those of its own owner.
