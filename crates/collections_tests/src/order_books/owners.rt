@@ -63,7 +63,7 @@ fn orders_are_cancelled_by_their_owner_and_keep_it_when_they_are_replaced(rt: Ho
     assert!(rt; owners_left(rt.alloc()) == Some((1, ANN, ANN)));
 }
 
-/// Returns whether books that differ in an owner alone are told apart, and a copy is the same.
+/// Compares a book with one in which an order has another owner, and with its own copy. Returns both answers.
 fn tells_owners(alloc: Global) -> Option<(bool, bool)> {
     let mut trades = Vec::new(alloc);
     let book = book_of_asks(alloc, &mut trades)?;
